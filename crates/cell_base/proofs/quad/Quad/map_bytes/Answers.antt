@@ -1,0 +1,16 @@
+use Rattle.std.proofs.Common.{rules, ◌≡◌, ℕ, ◌<◌, ◌^◌, length, get_or, ◌∙◌, arith}
+use Rattle.std.proofs.Common.{map, ap}
+use Rattle.std.specs.Int.{w8}
+use Rattle.cell_base.specs.Lanes.{of_lanes}
+use Rattle.cell_base.proofs.LaneLemmas.{mapped}
+use Rattle.cell_base.proofs.quad.Quad.map_bytes.Goals as goal
+
+pub returns : goal.returns
+returns g c = λ f agree.
+    let xs = c.byte_lanes.result in
+    let long-x : length xs ≡ 16 = search rules in
+    let fits-x : (k : ℕ) → get_or xs k 0 < 2 ^ 8 = search rules in
+    let made = c.loop-k.invariant in
+    c.of_byte_lanes.ensures ∙ ap (of_lanes w8)
+    (mapped f xs c.loop-k.lanes 16 long-x made.0 (λ k h. agree _ _ (fits-x k) (made.1 k (omega arith)))
+    ∙ ap (map f) c.byte_lanes.ensures)

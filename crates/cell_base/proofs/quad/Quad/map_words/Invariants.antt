@@ -1,0 +1,7 @@
+use Rattle.std.proofs.Common.{◌≡◌, ℕ, ◌<◌, length, get_or}
+use Rattle.cell_base.proofs.quad.Quad.map_words.Given as goal
+
+-- the lanes below k are what f gave
+abbrev pub invariant-loop-k : goal.invariant-loop-k
+invariant-loop-k g l =
+    (length l.lanes ≡ 4) × ((k : ℕ) → k < l.k → g.F.Fn.post l.f (get_or l.x k 0, tt) (get_or l.lanes k 0))

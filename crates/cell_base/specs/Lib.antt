@@ -1,0 +1,6 @@
+pub mod Bytes
+pub mod Lanes
+pub mod Numbers
+pub mod Hex
+pub mod Words
+pub mod Walk

@@ -1,0 +1,12 @@
+//! What all the crates speak of: quadwords and their lanes, the machine's steps, and the frame of the line formats.
+#![tactic(auto)]
+
+mod lanes;
+pub mod line_text;
+mod quad;
+mod scalars;
+mod steps;
+
+pub use quad::Quad;
+pub use scalars::{extended_half, extended_word};
+pub use steps::{Actor, ChannelOp, Step};

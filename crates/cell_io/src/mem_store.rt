@@ -1,0 +1,90 @@
+// Files in memory.
+ghost use Rattle.std.specs.Prelude.{◌≡◌, [], Some, None, Err};
+ghost use Rattle.std.specs.Io.{StartsWith};
+ghost use Rattle.cell_io.specs.Files.{file_named};
+ghost use Rattle.cell_io.specs.Store.{AddsOf, Bounded, HasCause};
+ghost use Rattle.cell_io.specs.Memory.{ledger_of};
+
+use crate::mem_file::find_file;
+use crate::{FetchFault, Fetched, MemFile, Store};
+use std::alloc::Global;
+use std::marker::Model;
+
+/// A list of files with different names, and the numbers of the calls that fail.
+#[derive(Drop)]
+pub struct MemStore {
+    files: Vec<MemFile>,
+    failing: Vec<u32>,
+    calls: u64,
+    faults: u64,
+    failed: Option<String>,
+}
+
+impl Model for MemStore {
+    ghost use Rattle.cell_io.specs.Memory.{Shelf};
+    ghost use Rattle.std.specs.Prelude.{string_bytes};
+    ghost use Rattle.std.specs.Option.{option_map};
+
+    ghost Value = { Shelf };
+
+    ghost view = { λ s. record { files = s.files.items; failing = s.failing.items; calls = s.calls; faults = s.faults; failed = option_map string_bytes s.failed } };
+}
+
+impl MemStore {
+    ghost use Rattle.cell_io.specs.Memory.{Shelf, has_different_names};
+
+    pub fn new(files: Vec<MemFile>, failing: Vec<u32>) -> MemStore
+        requires { has_different_names files.items }
+        ensures { result ≡ record { files = files.items; failing = failing.items; calls = 0; faults = 0; failed = None } }
+    {
+        MemStore {
+            files,
+            failing,
+            calls: 0,
+            faults: 0,
+            failed: None,
+        }
+    }
+}
+
+impl Store for MemStore {
+    ghost files = { λ s. Some s.files };
+
+    ghost ledger = { ledger_of };
+
+    #[tactic(auto, using(crate::proofs::Nothing::adds_nothing))]
+    fn fetch(
+        &mut self,
+        alloc: Global,
+        name: &str,
+        limit: usize,
+        into: &mut Vec<u8>,
+    ) -> Result<Fetched, FetchFault>
+        ensures same { self.new.files ≡ self.old.files }
+        ensures adds { AddsOf (Some self.old.files) name.now limit into.old.items into.new.items result }
+        ensures front { StartsWith into.new.items into.old.items }
+        ensures bound { Bounded limit into.old.items into.new.items result }
+        ensures cause { HasCause name.now (ledger_of self.old) (ledger_of self.new) result }
+        ensures failing { self.new.failing ≡ self.old.failing }
+        ensures missing { self.old.failing ≡ [] → result ≡ Err FetchFault.Failed → file_named self.old.files name.now ≡ None }
+    {
+        let call = self.calls;
+        self.calls = call.saturating_add(1);
+        let kept = String::from_str(alloc, name)?;
+        let fails = self.failing.iter().any(|n| u64::from(*n) == call);
+        match find_file(self.files.as_slice(), name) {
+            Some(bytes) if !fails => {
+                if bytes.len() > limit {
+                    return Ok(Fetched::TooLong);
+                }
+                into.extend_from_slice(bytes)?;
+                Ok(Fetched::Whole)
+            }
+            _ => {
+                self.faults = self.faults.saturating_add(1);
+                self.failed = Some(kept);
+                Err(FetchFault::Failed)
+            }
+        }
+    }
+}
