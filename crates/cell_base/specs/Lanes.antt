@@ -1,6 +1,6 @@
 -- The lanes of a quadword, which is a list of 16 bytes: each is the number that its bytes spell.
-use Rattle.std.specs.Prelude.{ℕ, zero, suc, ◌+◌, ◌-◌, ◌/◌, ◌%◌, ◌^◌, List, [], ◌∷◌, ◌++◌, take, drop, map, replicate, slice_index, Bool, nat_lt, if◌then◌else◌}
-use Rattle.std.specs.Int.{Width, byte_len, w32}
+use Rattle.std.specs.Prelude.{ℕ, zero, suc, ◌+◌, ◌-◌, ◌/◌, ◌%◌, ◌^◌, List, [], ◌∷◌, ◌++◌, take, drop, map, replicate, slice_index, Bool, nat_lt, ◌==◌, if◌then◌else◌}
+use Rattle.std.specs.Int.{Width, byte_len, bit_at, w8, w32}
 use Rattle.std.specs.List.{range_with_len}
 use Rattle.std.specs.Simd.Lanes.{zip2}
 use Rattle.cell_base.specs.Bytes.{number, spelled}
@@ -71,3 +71,19 @@ lo x = x % 2 ^ 16
 -- a number of n bits at the width of a lane, filled with its sign
 abbrev pub extended : ℕ → Width → ℕ → ℕ
 extended n w x = if nat_lt x (2 ^ (n - 1)) then x else x + (size w - 2 ^ n)
+
+-- an immediate of ten bits with its sign, in each lane
+abbrev pub ten_bits : Width → ℕ → List ℕ
+ten_bits w imm = splat w (extended 10 w imm)
+
+-- the low eight bits of an immediate, in each byte
+abbrev pub low_byte : ℕ → List ℕ
+low_byte imm = splat w8 (imm % 256)
+
+-- bit k, counted from the left, of the rightmost n bits
+abbrev pub bit_from_left : ℕ → ℕ → ℕ → ℕ
+bit_from_left n x k = bit_at x (n - 1 - k)
+
+-- lane k is all ones where bit k of the rightmost n bits is 1, else all zeros
+abbrev pub mask_from : Width → ℕ → ℕ → List ℕ
+mask_from w n x = lanes_from w (λ k. truth w (bit_from_left n x k == 1))

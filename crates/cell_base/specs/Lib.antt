@@ -4,3 +4,4 @@ pub mod Numbers
 pub mod Hex
 pub mod Words
 pub mod Walk
+pub mod Records

@@ -21,15 +21,15 @@ pub fn extended_word(n: u32, bits: u32) -> u32
 
 /// A number of `bits` bits, with its sign at the width of a halfword.
 #[inline(always)]
-pub fn extended_half(n: u16, bits: u32) -> u16
+pub fn extended_half(x: u16, bits: u32) -> u16
     requires some { 0 < bits }
     requires few { bits < 16 }
-    requires fits { n < 2 ^ bits }
-    ensures { result ≡ extended bits w16 n }
+    requires fits { x < 2 ^ bits }
+    ensures { result ≡ extended bits w16 x }
 {
-    if n < 1 << (bits - 1) {
-        n
+    if x < 1 << (bits - 1) {
+        x
     } else {
-        n.wrapping_sub(1 << bits)
+        x.wrapping_sub(1 << bits)
     }
 }

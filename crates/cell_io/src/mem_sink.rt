@@ -1,21 +1,24 @@
 // An output in memory.
-ghost use Rattle.std.specs.Prelude.{◌≡◌, ◌+◌, ◌≤◌, [], length, Some, None, IfOk, IsOk};
+ghost use Rattle.std.specs.Prelude.{◌≡◌, ◌+◌, ◌≤◌, ◌↔◌, ◌++◌, [], length, take, Some, IfOk, IsOk};
+ghost use Rattle.std.specs.Option.{option_map};
 ghost use Rattle.cell_io.specs.Sink.{FailsWithCause, Takes};
-ghost use Rattle.cell_io.specs.Memory.{Tray, KeepsRoom};
+ghost use Rattle.cell_io.specs.Memory.{Tray, GoesOut, IsOnePut, count_out, cut_of};
 
 use crate::{Sink, SinkFault};
 use std::alloc::{AllocError, Global};
 use std::marker::Model;
 
-/// Of the call of this number, at most so many bytes go out, and then it fails.
+/// Of the call of this number, from 0, at most so many bytes go out, and then it fails.
 #[derive(Clone, Copy, Debug, PartialEq, Eq)]
 pub struct Cut {
     pub call: u32,
     pub bytes: u32,
 }
 
+/// Why no `MemSink` was made.
 #[derive(Clone, Copy, Debug, PartialEq, Eq)]
 pub enum SinkError {
+    /// The room could not be taken.
     Memory,
 }
 
@@ -25,7 +28,7 @@ impl From<AllocError> for SinkError {
     }
 }
 
-/// It has room for so many bytes, and fails at the cuts.
+/// An output with room for so many bytes, which fails at its cuts and where its room ends.
 #[derive(Drop)]
 pub struct MemSink {
     bytes: Vec<u8>,
@@ -47,6 +50,8 @@ impl Model for MemSink {
 }
 
 impl MemSink {
+    /// Takes the room of `room` bytes. The cuts are those of single calls; of two cuts of one call
+    /// the first counts. It is refused only where memory is short.
     pub fn new(alloc: Global, room: usize, failing: Vec<Cut>) -> Result<MemSink, SinkError>
         ensures { IfOk result (λ s. s ≡ record { taken = []; room = room; failing = failing.items; calls = 0; faults = 0 }) }
     {
@@ -60,6 +65,7 @@ impl MemSink {
         })
     }
 
+    /// The bytes taken so far.
     pub fn bytes(&self) -> &[u8]
         ensures { result.now ≡ self.now.taken }
     {
@@ -67,16 +73,15 @@ impl MemSink {
     }
 }
 
-/// How many bytes of the call of this number go out, where it fails.
+/// How many bytes of the call of this number go out, where it is cut.
 fn cut_at(failing: &[Cut], call: u64) -> Option<usize>
-    ensures { failing.now ≡ [] → result ≡ None }
+    ensures { result ≡ cut_of failing.now call }
 {
-    for cut in failing {
-        if u64::from(cut.call) == call {
-            return Some(cut.bytes as usize);
-        }
+    let found = failing.iter().find(|cut| u64::from(cut.call) == call);
+    match found {
+        Some(cut) => Some(cut.bytes as usize),
+        None => None,
     }
-    None
 }
 
 impl Sink for MemSink {
@@ -87,9 +92,10 @@ impl Sink for MemSink {
     fn put(&mut self, bytes: &[u8]) -> Result<(), SinkFault>
         ensures takes { Takes (Some self.old.taken) (Some self.new.taken) bytes.now result }
         ensures cause { FailsWithCause self.old.faults self.new.faults result }
-        ensures fits { self.old.failing ≡ [] → length self.old.taken + length bytes.now ≤ self.old.room → IsOk result }
+        ensures ok { IsOk result ↔ GoesOut self.old bytes.now }
+        ensures out { self.new.taken ≡ self.old.taken ++ take (count_out self.old bytes.now) bytes.now }
         ensures quiet { IsOk result → self.new.faults ≡ self.old.faults }
-        ensures room { KeepsRoom self.old self.new }
+        ensures call { IsOnePut self.old self.new }
     {
         let call = self.calls;
         self.calls = call.saturating_add(1);

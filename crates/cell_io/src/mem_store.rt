@@ -1,16 +1,18 @@
 // Files in memory.
-ghost use Rattle.std.specs.Prelude.{◌≡◌, [], Some, None, Err};
+ghost use Rattle.std.specs.Prelude.{◌≡◌, ◌≢◌, ◌==◌, ◌≤◌, Some, None, Err};
+ghost use Rattle.std.specs.List.{list_any};
 ghost use Rattle.std.specs.Io.{StartsWith};
-ghost use Rattle.cell_io.specs.Files.{file_named};
+ghost use Rattle.std.specs.Option.{ForSome};
+ghost use Rattle.cell_io.specs.Files.{HasDifferentNames};
 ghost use Rattle.cell_io.specs.Store.{AddsOf, Bounded, HasCause};
-ghost use Rattle.cell_io.specs.Memory.{ledger_of};
+ghost use Rattle.cell_io.specs.Memory.{answer_of, ledger_of, IsOneCall};
 
 use crate::mem_file::find_file;
 use crate::{FetchFault, Fetched, MemFile, Store};
 use std::alloc::Global;
 use std::marker::Model;
 
-/// A list of files with different names, and the numbers of the calls that fail.
+/// A list of files with different names, and the numbers of the calls that fail, from 0.
 #[derive(Drop)]
 pub struct MemStore {
     files: Vec<MemFile>,
@@ -22,19 +24,24 @@ pub struct MemStore {
 
 impl Model for MemStore {
     ghost use Rattle.cell_io.specs.Memory.{Shelf};
+    ghost use Rattle.cell_io.specs.Files.{HasDifferentNames};
     ghost use Rattle.std.specs.Prelude.{string_bytes};
     ghost use Rattle.std.specs.Option.{option_map};
 
     ghost Value = { Shelf };
 
     ghost view = { λ s. record { files = s.files.items; failing = s.failing.items; calls = s.calls; faults = s.faults; failed = option_map string_bytes s.failed } };
+
+    ghost invariant = { λ s. HasDifferentNames s.files.items };
 }
 
 impl MemStore {
-    ghost use Rattle.cell_io.specs.Memory.{Shelf, has_different_names};
+    ghost use Rattle.cell_io.specs.Memory.{Shelf};
+    ghost use Rattle.cell_io.specs.Files.{HasDifferentNames};
 
+    /// A store of these files, of which the calls of these numbers fail. It takes no memory.
     pub fn new(files: Vec<MemFile>, failing: Vec<u32>) -> MemStore
-        requires { has_different_names files.items }
+        requires { HasDifferentNames files.items }
         ensures { result ≡ record { files = files.items; failing = failing.items; calls = 0; faults = 0; failed = None } }
     {
         MemStore {
@@ -47,12 +54,19 @@ impl MemStore {
     }
 }
 
+/// Whether the call of this number is told to fail.
+fn is_failing(failing: &[u32], call: u64) -> bool
+    ensures { result ≡ list_any (λ n. n == call) failing.now }
+{
+    failing.iter().any(|n| u64::from(*n) == call)
+}
+
 impl Store for MemStore {
     ghost files = { λ s. Some s.files };
 
     ghost ledger = { ledger_of };
 
-    #[tactic(auto, using(crate::proofs::Nothing::adds_nothing))]
+    #[tactic(auto, using(crate::proofs::FetchLemmas::adds_nothing, crate::proofs::FetchLemmas::answers_whole, crate::proofs::FetchLemmas::answers_too_long))]
     fn fetch(
         &mut self,
         alloc: Global,
@@ -60,18 +74,22 @@ impl Store for MemStore {
         limit: usize,
         into: &mut Vec<u8>,
     ) -> Result<Fetched, FetchFault>
-        ensures same { self.new.files ≡ self.old.files }
+        ensures different { ForSome (Some self.old.files) HasDifferentNames }
+        ensures same { Some self.new.files ≡ Some self.old.files }
         ensures adds { AddsOf (Some self.old.files) name.now limit into.old.items into.new.items result }
         ensures front { StartsWith into.new.items into.old.items }
         ensures bound { Bounded limit into.old.items into.new.items result }
         ensures cause { HasCause name.now (ledger_of self.old) (ledger_of self.new) result }
-        ensures failing { self.new.failing ≡ self.old.failing }
-        ensures missing { self.old.failing ≡ [] → result ≡ Err FetchFault.Failed → file_named self.old.files name.now ≡ None }
+        ensures count { (ledger_of self.old).faults ≤ (ledger_of self.new).faults }
+
+        // Want of memory is the one free answer.
+        ensures answer { result ≢ Err FetchFault.Memory → result ≡ answer_of self.old name.now limit }
+        ensures call { IsOneCall self.old self.new }
     {
         let call = self.calls;
         self.calls = call.saturating_add(1);
         let kept = String::from_str(alloc, name)?;
-        let fails = self.failing.iter().any(|n| u64::from(*n) == call);
+        let fails = is_failing(self.failing.as_slice(), call);
         match find_file(self.files.as_slice(), name) {
             Some(bytes) if !fails => {
                 if bytes.len() > limit {

@@ -1,0 +1,21 @@
+-- What the adapters do to a reader and a writer that tell their bytes.
+use Rattle.std.specs.Prelude.{ℕ, List, take, Option, Some, None, Result, Ok, Err}
+use Rattle.std.specs.Io.KnownBytes.{Appends}
+use Rattle.cell_io.specs.Store.{Adds}
+use Rattle.cell_io.specs.declared.store.Fetched.{Fetched}
+use Rattle.cell_io.specs.declared.store.FetchFault.{FetchFault}
+
+-- of a reader with these bytes left, a fetch adds them as a file's
+abbrev pub IfTold : Option (List ℕ) → ℕ → List ℕ → List ℕ → Result Fetched FetchFault → Type 0
+IfTold None limit old new result = Unit {0}
+IfTold (Some bytes) limit old new result = Adds (Some bytes) limit old new result
+
+-- what a writer holds, where it tells that, and how often it has failed
+pub record Written : Type 0 where
+  pub held : Option (List ℕ)
+  pub faults : ℕ
+
+-- what a writer holds grew by the piece, or after a fault by a part of it from its start
+abbrev pub Writes : {T E : Type 0} → Option (List ℕ) → Option (List ℕ) → List ℕ → Result T E → Type 0
+Writes old new piece (Ok done) = Appends old new piece
+Writes old new piece (Err fault) = (n : ℕ) × Appends old new (take n piece)

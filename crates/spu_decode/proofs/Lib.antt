@@ -1,0 +1,5 @@
+pub mod TableLemmas
+pub mod EncodeLemmas
+pub mod MnemonicLemmas
+pub mod FitLemmas
+pub mod DecodeLemmas
