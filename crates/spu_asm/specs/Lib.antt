@@ -1,0 +1,14 @@
+pub mod Assembling
+pub mod Encoding
+pub mod Expressions
+pub mod Images
+pub mod Layout
+pub mod Names
+pub mod Operands
+pub mod Outcomes
+pub mod Reading
+pub mod ReadLines
+pub mod Source
+pub mod Statements
+pub mod Strings
+pub mod Values

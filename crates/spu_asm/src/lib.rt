@@ -1,0 +1,123 @@
+//! The assembler: a text in the language of SPU assemblers to an image of a local store.
+#![tactic(auto)]
+
+ghost use Rattle.std.specs.Prelude.{◌≡◌, ◌≤◌, ◌<◌, ◌%◌, length, IfOk};
+ghost use Rattle.spu_lex.specs.Tokens.{tokens_of};
+ghost use Rattle.spu_asm.specs.Assembling.{assembled, lexed, laid_out, line_at, entry_of, FitsLines, IsAsLongAsItsLines};
+ghost use Rattle.spu_asm.specs.Outcomes.{Gives};
+ghost use Rattle.spu_asm.specs.ReadLines.{AllRead};
+ghost use Rattle.spu_asm.specs.Reading.{Within};
+ghost use Rattle.spu_asm.specs.Source.{source_view, line_views};
+
+mod error;
+mod expressions;
+mod filling;
+mod image;
+mod instructions;
+mod labels;
+mod layout;
+mod lines;
+mod lists;
+mod names;
+mod numbers;
+mod operands;
+mod reading;
+mod sections;
+mod source;
+mod statements;
+mod strings;
+mod syntax;
+#[cfg(test)]
+mod tests;
+mod values;
+
+pub use error::{AsmError, AsmKind};
+pub use image::Image;
+use layout::{addresses, next_multiple, places};
+use sections::make_sections;
+use source::source_of;
+use spu_lex::{LexError, Tokens, lex};
+use std::alloc::Global;
+use syntax::{Section, Source};
+use values::value_of_label;
+
+/// The image of a text, or the first faulty line of the first phase that has one.
+/// A text has at most 4,194,304 bytes. Each line of it has as many bytes as its address and the next say.
+#[tactic(auto, unfolding(crate::specs::Assembling::assembled))]
+pub fn assemble(alloc: Global, text: &[u8]) -> Result<Image, AsmError>
+    requires { length text.now ≤ 4194304 }
+    ensures image { Gives result (assembled text.now) }
+    ensures lengths { IfOk result (IsAsLongAsItsLines text.now) }
+{
+    let tokens = tokens_in(alloc, text)?;
+    let source = source_of(alloc, text, tokens.items())?;
+    lay_out(alloc, text, &source)
+}
+
+/// The tokens of a text, or its first fault by its line.
+fn tokens_in(alloc: Global, text: &[u8]) -> Result<Tokens, AsmError>
+    requires { length text.now ≤ 4194304 }
+    ensures tokens { Gives result (lexed text.now (tokens_of text.now)) }
+    ensures within { IfOk result (Within text.now) }
+    ensures count { IfOk result (λ tokens. length tokens ≤ length text.now) }
+{
+    match lex(alloc, text) {
+        Ok(tokens) => Ok(tokens),
+        Err(LexError::BadChar { at }) => Err(AsmError::At {
+            line: line_at(text, at),
+            kind: AsmKind::BadChar,
+        }),
+        Err(LexError::BadNumber { at }) => Err(AsmError::At {
+            line: line_at(text, at),
+            kind: AsmKind::BadNumber,
+        }),
+        Err(LexError::Memory) => Err(AsmError::Memory),
+    }
+}
+
+/// The number of the line of a byte.
+fn line_at(text: &[u8], at: u32) -> u32
+    requires { length text.now ≤ 4194304 }
+    ensures { result ≡ line_at text.now at }
+{
+    let before = if (at as usize) < text.len() {
+        &text[..at as usize]
+    } else {
+        text
+    };
+    before.iter().filter(|b| **b == b'\n').count() as u32 + 1
+}
+
+/// The image of lines and labels, or the first fault of their places or bytes.
+#[tactic(auto, unfolding(crate::specs::Assembling::laid_out))]
+fn lay_out(alloc: Global, text: &[u8], source: &Source) -> Result<Image, AsmError>
+    requires { AllRead text.now source.now.lines.items }
+    ensures image { Gives result (laid_out text.now (source_view source.now)) }
+    ensures lengths { IfOk result (FitsLines text.now (line_views source.now.lines.items)) }
+{
+    let lines = source.lines.as_slice();
+    let text_at = addresses(alloc, Section::Text, 0, lines)?;
+    let start = next_multiple(128, text_at[lines.len()]);
+    let data_at = addresses(alloc, Section::Data, start, lines)?;
+    let at = places(alloc, lines, &text_at, &data_at)?;
+    let made = make_sections(alloc, text, &source.labels, lines, &at)?;
+    let entry = entry(value_of_label(&source.labels, &at, b"_start"));
+    Ok(Image {
+        text: made.text,
+        data_bytes: made.data_bytes,
+        bytes_at: start,
+        entry,
+    })
+}
+
+/// Where a program starts, by the value of `_start`.
+fn entry(start: Option<u32>) -> u32
+    ensures entry { result ≡ entry_of start }
+    ensures aligned { result % 4 ≡ 0 }
+    ensures within { result < 262144 }
+{
+    match start {
+        None => 0,
+        Some(at) => at & 0x3FFFC,
+    }
+}

@@ -1,0 +1,131 @@
+//! What lines say.
+
+use indexmap::IndexMap;
+use spu_decode::Row;
+use spu_lex::Token;
+
+/// Which part of a label's value is meant.
+#[derive(Clone, Copy)]
+pub(crate) enum Part {
+    Whole,
+    High,
+    Low,
+}
+
+/// A number, or a label with a number added.
+#[derive(Clone, Copy)]
+pub(crate) struct Expression {
+    pub label: Option<Token>,
+    pub offset: i128,
+    pub part: Part,
+}
+
+/// What a pattern of operands asks for in turn.
+#[derive(Clone, Copy)]
+pub(crate) enum Slot {
+    Rt,
+    Ra,
+    Rb,
+    Rc,
+    Channel,
+    Value,
+    /// The second expression of a hint.
+    Second,
+    Mark(u8),
+}
+
+/// What stands in the operands of an instruction. A channel is in `ra`.
+#[derive(Clone, Copy)]
+pub(crate) struct Given {
+    pub rt: u8,
+    pub ra: u8,
+    pub rb: u8,
+    pub rc: u8,
+    pub value: Option<Expression>,
+    pub second: Option<Expression>,
+}
+
+/// How many bytes a value has: one, two, four or eight.
+#[derive(Clone, Copy)]
+pub(crate) enum Size {
+    Byte,
+    Half,
+    Word,
+    Double,
+}
+
+#[derive(Clone, Copy)]
+pub(crate) enum Section {
+    Text,
+    Data,
+}
+
+/// What a directive's name stands for.
+#[derive(Clone, Copy)]
+pub(crate) enum Directive {
+    /// The rest of the line is skipped.
+    Skipped,
+    Choose(Section),
+    /// The section is named in the arguments.
+    ChooseNamed,
+    Align,
+    Org,
+    Skip,
+    Values(Size),
+    /// A string, and whether a zero byte follows it.
+    Text(bool),
+}
+
+/// What a mnemonic stands for.
+#[derive(Clone, Copy)]
+pub(crate) enum Mnemonic {
+    Row(Row),
+    /// The short form `lr`.
+    LoadRegister,
+}
+
+#[derive(Clone, Copy)]
+pub(crate) enum Statement {
+    /// No statement, or one whose rest is skipped.
+    Nothing,
+    Choose(Section),
+    Align(u32),
+    Org(u64),
+    Skip(u64),
+    /// So many expressions, which the arguments are.
+    Values(Size, usize),
+    /// So many bytes of a string, which the argument is, and whether a zero byte follows them.
+    Bytes(usize, bool),
+    Instruction(Row, Given),
+}
+
+/// A line: its number from 1, its section, and its statement with the tokens after the statement's name.
+#[derive(Clone, Copy)]
+pub(crate) struct Line<'a> {
+    pub number: u32,
+    pub section: Section,
+    pub statement: Statement,
+    pub arguments: &'a [Token],
+}
+
+/// The lines of a text, and the labels that they define with the numbers of their lines.
+#[derive(Drop)]
+pub(crate) struct Source<'a> {
+    pub lines: Vec<Line<'a>>,
+    pub labels: IndexMap<&'a [u8], u32>,
+}
+
+/// What a value has to be: from `low` to `high`, and a multiple of `step`.
+#[derive(Clone, Copy)]
+pub(crate) struct Range {
+    pub low: i128,
+    pub high: i128,
+    pub step: u32,
+}
+
+/// The bytes of text and of data.
+#[derive(Drop)]
+pub(crate) struct Sections {
+    pub text: Vec<u8>,
+    pub data_bytes: Vec<u8>,
+}

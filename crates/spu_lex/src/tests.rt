@@ -1,0 +1,71 @@
+ghost use Rattle.std.specs.Prelude.{◌≤◌, length};
+
+use crate::{LexError, Token, TokenKind, lex};
+use std::test::Fail;
+
+const TEXT: &[u8] = b"a.1:\til $3,0x1F # c\r\n/* x */.ascii \"q\\\"#\\\\\"-12$";
+
+/// Whether the text has these tokens and no others.
+fn has_tokens(rt: &HostRuntime, text: &[u8], wanted: &[Token]) -> Result<bool, Fail>
+    requires { length text.now ≤ 4194304 }
+{
+    match lex(rt.alloc(), text) {
+        Ok(tokens) => Ok(tokens.items() == wanted),
+        Err(_) => Ok(false),
+    }
+}
+
+fn token(kind: TokenKind, start: u32, end: u32, line: u32) -> Token {
+    Token {
+        kind,
+        start,
+        end,
+        line,
+    }
+}
+
+#[test]
+fn tokens_have_kind_place_and_line(rt: HostRuntime) -> Result<(), Fail> {
+    let wanted = [
+        token(TokenKind::Name, 0, 3, 1),
+        token(TokenKind::Mark, 3, 4, 1),
+        token(TokenKind::Name, 5, 7, 1),
+        token(TokenKind::Register, 8, 10, 1),
+        token(TokenKind::Mark, 10, 11, 1),
+        token(TokenKind::Number, 11, 15, 1),
+        token(TokenKind::LineEnd, 20, 21, 1),
+        token(TokenKind::Name, 28, 34, 2),
+        token(TokenKind::Text, 35, 43, 2),
+        token(TokenKind::Mark, 43, 44, 2),
+        token(TokenKind::Number, 44, 46, 2),
+        token(TokenKind::Mark, 46, 47, 2),
+    ];
+    assert!(rt; has_tokens(&rt, TEXT, wanted.as_slice())?);
+    assert!(rt; has_tokens(&rt, b"", &[])?);
+    Ok(())
+}
+
+fn is_refused(rt: &HostRuntime, text: &[u8], wanted: LexError) -> bool
+    requires { length text.now ≤ 4194304 }
+{
+    match lex(rt.alloc(), text) {
+        Ok(_) => false,
+        Err(fault) => fault == wanted,
+    }
+}
+
+#[test]
+fn the_earliest_faulty_byte_is_answered(rt: HostRuntime) -> Result<(), Fail> {
+    assert!(rt; is_refused(&rt, b"a \x80", LexError::BadChar { at: 2 }));
+    assert!(rt; is_refused(&rt, b"\"ab\nc", LexError::BadChar { at: 3 }));
+    assert!(rt; is_refused(&rt, b"\"ab", LexError::BadChar { at: 3 }));
+    assert!(rt; is_refused(&rt, b"\"a\\e\"", LexError::BadChar { at: 2 }));
+    assert!(rt; is_refused(&rt, b"\"a\\", LexError::BadChar { at: 2 }));
+    assert!(rt; is_refused(&rt, b"/* *\n/", LexError::BadChar { at: 4 }));
+    assert!(rt; is_refused(&rt, b"/*/", LexError::BadChar { at: 3 }));
+    assert!(rt; is_refused(&rt, b"a 012", LexError::BadNumber { at: 2 }));
+    assert!(rt; is_refused(&rt, b"1x \x80", LexError::BadNumber { at: 0 }));
+    assert!(rt; is_refused(&rt, b"0x", LexError::BadNumber { at: 0 }));
+    assert!(rt; is_refused(&rt, b"18446744073709551616", LexError::BadNumber { at: 0 }));
+    Ok(())
+}
