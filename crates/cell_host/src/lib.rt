@@ -1,0 +1,180 @@
+//! The host script: the actions of the outside, done one after the other.
+#![tactic(auto)]
+
+ghost use Rattle.std.specs.Prelude.{◌≡◌, ◌<◌, ◌≤◌, List, ℕ, [], length, IfOk, slice_get, is_some, count_by};
+ghost use Rattle.cell_host.specs.Script.{opening, advanced, next_takes, takes};
+
+use std::alloc::{AllocError, Global};
+use std::marker::Model;
+
+/// The most actions that a script can have.
+pub const MAX_ACTIONS: usize = 4096;
+
+/// There was no memory for the script.
+#[derive(Clone, Copy, Debug, PartialEq, Eq)]
+pub enum HostError {
+    Memory,
+}
+
+impl From<AllocError> for HostError {
+    fn from(_: AllocError) -> HostError {
+        HostError::Memory
+    }
+}
+
+/// One action of the outside. Processors are named by their numbers from 0.
+#[derive(Clone, Copy, Debug, PartialEq, Eq)]
+pub enum HostAction {
+    /// Puts a value into the inbound mailbox.
+    Send { spe: u8, value: u32 },
+    /// Takes a value from the outbound mailbox.
+    Take { spe: u8 },
+    /// Takes a value from the outbound interrupt mailbox.
+    TakeIntr { spe: u8 },
+    /// Stores the first `len` of the bytes to main memory, from address `ea` on.
+    Store { ea: u32, len: u8, bytes: [u8; 16] },
+    /// Waits until the processor has ceased to run.
+    Await { spe: u8 },
+}
+
+/// A value that the action of this number took, counted from 0.
+#[derive(Clone, Copy, Debug, PartialEq, Eq)]
+pub struct Took {
+    pub action: u32,
+    pub value: u32,
+}
+
+/// A script, how many of its actions were done, and the values that these took.
+#[derive(Drop)]
+pub struct Host {
+    script: Vec<HostAction>,
+    done: u32,
+    took: Vec<Took>,
+}
+
+impl Model for Host {
+    ghost use Rattle.std.specs.Prelude.{vec_len, vec_capacity};
+    ghost use Rattle.cell_host.specs.Script.{Progress, IsSound};
+
+    ghost Value = { Progress };
+
+    ghost view = { λ h. record { script = h.script.items; done = h.done; took = h.took.items } };
+
+    ghost invariant = { λ h. IsSound h.script.items h.done (vec_len h.took) (vec_capacity h.took) };
+}
+
+impl Host {
+    /// The script with none of its actions done, which has at most 4,096 of them.
+    ///
+    /// It has room for all values that the actions may take, so that `advance` needs none.
+    pub fn new(alloc: Global, script: &[HostAction]) -> Result<Host, HostError>
+        requires { length script.now ≤ 4096 }
+        ensures { IfOk result (λ h. h ≡ opening script.now) }
+    {
+        let took = Vec::with_capacity(alloc, takes_in(script))?;
+        Ok(Host {
+            script: script.to_vec(alloc)?,
+            done: 0,
+            took,
+        })
+    }
+
+    /// The action that comes next, or None exactly where every action was done.
+    pub fn next(&self) -> Option<HostAction>
+        ensures { result ≡ slice_get self.now.script self.now.done }
+    {
+        self.script.get(self.done as usize).copied()
+    }
+
+    /// Counts the next action as done. Where it takes a value, `took` is that value, and else None.
+    pub fn advance(&mut self, took: Option<u32>)
+        requires left { self.old.done < length self.old.script }
+        requires taken { is_some took ≡ next_takes self.old }
+        ensures { self.new ≡ advanced self.old took }
+    {
+        let action = self.done;
+        self.done = action + 1;
+        if let Some(value) = took {
+            let _ = self.took.push(Took { action, value });
+        }
+    }
+
+    /// How many actions were done.
+    pub fn place(&self) -> u32
+        ensures count { result ≡ self.now.done }
+        ensures within { result ≤ length self.now.script }
+        ensures few { length self.now.script ≤ 4096 }
+    {
+        self.done
+    }
+
+    /// The values that were taken, the earliest first.
+    pub fn took(&self) -> &[Took]
+        ensures { result.now ≡ self.now.took }
+    {
+        self.took.as_slice()
+    }
+}
+
+/// How many actions of the script take a value.
+fn takes_in(script: &[HostAction]) -> usize
+    ensures { result ≡ count_by takes script.now }
+{
+    script.iter().filter(|action| takes(action)).count()
+}
+
+/// Whether the action takes a value.
+fn takes(action: &HostAction) -> bool
+    ensures { result ≡ takes action.now }
+{
+    matches!(
+        action,
+        HostAction::Take { .. } | HostAction::TakeIntr { .. }
+    )
+}
+
+#[cfg(test)]
+mod tests {
+    use super::*;
+
+    const SCRIPT: [HostAction; 5] = [
+        HostAction::Send { spe: 0, value: 7 },
+        HostAction::Take { spe: 1 },
+        HostAction::Store {
+            ea: 0x80,
+            len: 2,
+            bytes: [9; 16],
+        },
+        HostAction::TakeIntr { spe: 2 },
+        HostAction::Await { spe: 0 },
+    ];
+
+    /// Two of the five actions take a value, and these are kept with the actions' numbers.
+    #[test]
+    fn keeps_what_was_taken(rt: HostRuntime) -> Result<(), HostError> {
+        let mut host = Host::new(rt.alloc(), &SCRIPT)?;
+        for (place, took) in [
+            (0, None),
+            (1, Some(70)),
+            (2, None),
+            (3, Some(80)),
+            (4, None),
+        ] {
+            assert_eq!(rt; host.place(), place as u32);
+            assert_eq!(rt; host.next(), Some(SCRIPT[place]));
+            host.advance(took);
+        }
+        assert_eq!(rt; host.next(), None);
+        assert_eq!(rt; host.place(), 5);
+        let first = Took {
+            action: 1,
+            value: 70,
+        };
+        let second = Took {
+            action: 3,
+            value: 80,
+        };
+        assert_eq!(rt; host.took(), [first, second].as_slice());
+        Ok(())
+    }
+}

@@ -1,0 +1,124 @@
+//! The mailboxes between a processor and the outside: short queues of words, first in first out.
+#![tactic(auto)]
+
+ghost use Rattle.std.specs.Prelude.{◌≡◌, ◌<◌, ◌≤◌, ◌↔◌, List, ℕ, [], ◌∷◌, ◌++◌, length, OnOk, OnErr, IfErr, IsOk, IfSome, IsSome, IfNone, IsTrue};
+
+use arrayvec::ArrayVec;
+use std::marker::Model;
+
+/// The mailbox had no free place; the value is handed back.
+#[derive(Clone, Copy, Debug, PartialEq, Eq)]
+pub struct Full {
+    pub value: u32,
+}
+
+/// A mailbox of at most `N` values, the oldest first.
+#[derive(Drop)]
+pub struct Mailbox<const N: usize> {
+    values: ArrayVec<u32, N>,
+}
+
+impl<const N: usize> Model for Mailbox<N> {
+    ghost use Rattle.std.specs.Prelude.{◌≤◌, List, ℕ, length};
+
+    ghost Value = { List ℕ };
+
+    ghost view = { λ m. m.values.items };
+
+    ghost invariant = { λ m. (length m.values.items ≤ N) × (N ≤ 16) };
+}
+
+impl<const N: usize> Mailbox<N> {
+    /// An empty mailbox. It has at most 16 places.
+    pub fn new() -> Mailbox<N>
+        requires { N ≤ 16 }
+        ensures { result ≡ [] }
+    {
+        Mailbox {
+            values: ArrayVec::new(),
+        }
+    }
+
+    /// How many values are there.
+    pub fn len(&self) -> u32
+        ensures count { result ≡ length self.now }
+        ensures fits { result ≤ N }
+    {
+        self.values.len() as u32
+    }
+
+    /// Whether no value is there.
+    pub fn is_empty(&self) -> bool
+        ensures { IsTrue result ↔ (self.now ≡ []) }
+    {
+        self.values.is_empty()
+    }
+
+    /// Puts a value behind the others, or hands it back exactly where `N` values are there.
+    pub fn put(&mut self, value: u32) -> Result<(), Full>
+        ensures variant { IsOk result ↔ (length self.old < N) }
+        ensures ok { OnOk result (self.new ≡ self.old ++ value ∷ []) }
+        ensures err { OnErr result (self.new ≡ self.old) }
+        ensures full { OnErr result (length self.old ≡ N) }
+        ensures handed_back { IfErr result (λ f. f.value ≡ value) }
+    {
+        if self.values.is_full() {
+            return Err(Full { value });
+        }
+        self.values.push(value);
+        Ok(())
+    }
+
+    /// Takes the oldest value; None exactly where no value is there.
+    pub fn take(&mut self) -> Option<u32>
+        ensures some { IfSome result (λ value. self.old ≡ value ∷ self.new) }
+        ensures none { IfNone result ((self.old ≡ []) × (self.new ≡ [])) }
+    {
+        if self.values.is_empty() {
+            return None;
+        }
+        Some(self.values.remove(0))
+    }
+}
+
+#[cfg(test)]
+mod tests {
+    use super::*;
+
+    /// A mailbox of four places, filled, and then emptied.
+    #[test]
+    fn gives_the_oldest_first(rt: HostRuntime) {
+        let mut mailbox = Mailbox::<4>::new();
+        for value in [7, 8, 9, 10] {
+            let put = mailbox.put(value);
+            assert_eq!(rt; put, Ok(()));
+        }
+        let fifth = mailbox.put(11);
+        assert_eq!(rt; fifth, Err(Full { value: 11 }));
+        let oldest = mailbox.take();
+        assert_eq!(rt; oldest, Some(7));
+        let fifth = mailbox.put(11);
+        assert_eq!(rt; fifth, Ok(()));
+        for want in [Some(8), Some(9), Some(10), Some(11), None] {
+            let oldest = mailbox.take();
+            assert_eq!(rt; oldest, want);
+        }
+    }
+
+    /// The mailboxes of one place, none and sixteen.
+    #[test]
+    fn is_full_at_its_size(rt: HostRuntime) {
+        let mut one = Mailbox::<1>::new();
+        assert_eq!(rt; one.is_empty(), true);
+        assert_eq!(rt; one.put(1), Ok(()));
+        assert_eq!(rt; one.put(2), Err(Full { value: 2 }));
+        assert_eq!(rt; one.len(), 1);
+        let mut none = Mailbox::<0>::new();
+        assert_eq!(rt; none.put(3), Err(Full { value: 3 }));
+        let mut widest = Mailbox::<16>::new();
+        for value in 0..16 {
+            assert_eq!(rt; widest.put(value), Ok(()));
+        }
+        assert_eq!(rt; widest.put(16), Err(Full { value: 16 }));
+    }
+}

@@ -1,0 +1,4 @@
+mod CallLaws
+mod Walks
+mod Holding
+mod PlaceLemmas

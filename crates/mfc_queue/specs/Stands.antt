@@ -1,0 +1,61 @@
+-- What a queue stands for.
+use Rattle.std.specs.Prelude.{◌≡◌, ◌≢◌, ℕ, ◌<◌, ◌≤◌, true, false, List, Option, Some, find, ◌==◌, All, map, length, slice_get, slice_index_or}
+use Rattle.std.specs.Option.{option_map}
+use Rattle.mfc_queue.specs.declared.Queue.{Queue}
+use Rattle.mfc_queue.specs.declared.Held.{Held}
+use Rattle.mfc_queue.specs.Calls.{Call, issued, is_retired, is_outstanding, outstanding, parts, is_marked}
+
+-- the command of this number, its parts, and those done
+pub record Holds (calls : List Call) (h : Held) : Type 0 where
+  pub command : slice_get (issued calls) h.cmd ≡ Some h.command
+  pub parts : parts calls h.cmd ≡ h.parts
+  pub done : (k : ℕ) → k < 129 → is_marked calls h.cmd k ≡ slice_index_or h.done k false
+
+-- no call spoke of a command of this number
+pub record IsUnknown (calls : List Call) (cmd : ℕ) : Type 0 where
+  pub retired : is_retired calls cmd ≡ false
+  pub parts : parts calls cmd ≡ 0
+  pub marked : (k : ℕ) → is_marked calls cmd k ≡ false
+
+-- the queue holds the outstanding commands in the order of their numbers
+pub record StandsFor (q : Queue) (calls : List Call) : Type 0 where
+  pub number : length (issued calls) ≡ q.issued
+  pub numbers : outstanding calls ≡ map (λ h. h.cmd) q.held.items
+  pub each : All (Holds calls) q.held.items
+  pub fresh : (cmd : ℕ) → length (issued calls) ≤ cmd → IsUnknown calls cmd
+  pub many : length q.held.items ≤ 16
+
+-- the place of the command of this number, where the queue holds it
+abbrev pub place_in : Queue → ℕ → Option ℕ
+place_in q cmd = option_map (λ h. h.place) (find (λ h. h.cmd == cmd) q.held.items)
+
+-- every command has the place that it had, or all but one
+abbrev pub KeepsPlaces : Queue → Queue → Type 0
+KeepsPlaces old new = (other : ℕ) → place_in new other ≡ place_in old other
+
+abbrev pub KeepsOtherPlaces : Queue → Queue → ℕ → Type 0
+KeepsOtherPlaces old new cmd = (other : ℕ) → other ≢ cmd → place_in new other ≡ place_in old other
+
+-- it stands for some calls
+pub record IsKnown (q : Queue) : Type 0 where
+  pub calls : List Call
+  pub stands : StandsFor q calls
+
+-- it stands for some calls by which the command is outstanding
+pub record IsOneOf (q : Queue) (cmd : ℕ) : Type 0 where
+  pub calls : List Call
+  pub stands : StandsFor q calls
+  pub outstanding : is_outstanding calls cmd ≡ true
+
+-- and by which it has the part
+pub record HasPart (q : Queue) (cmd part : ℕ) : Type 0 where
+  pub calls : List Call
+  pub stands : StandsFor q calls
+  pub outstanding : is_outstanding calls cmd ≡ true
+  pub within : part < parts calls cmd
+
+-- fewer than a million commands were issued, and a place is free or not
+pub record HasNumber (q : Queue) : Type 0 where
+  pub calls : List Call
+  pub stands : StandsFor q calls
+  pub few : length (issued calls) < 1000000

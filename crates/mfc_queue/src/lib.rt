@@ -1,0 +1,354 @@
+//! The queue of one processor's commands: sixteen places, the parts done of each command, and which may start.
+#![tactic(auto)]
+
+ghost use Rattle.std.specs.Prelude.{◌≡◌, ◌≢◌, ℕ, ◌+◌, ◌-◌, ◌<◌, ◌≤◌, ◌↔◌, List, [], ◌∷◌, ◌++◌, length, IfOk, OnOk, OnErr, IsOk, IfSome, IfNone, Some, slice_get, slice_index_or, slice_set, find, nat_le, nat_lt, ◌==◌, ◌&&◌, false, map, is_some};
+ghost use Rattle.std.specs.List.{list_any, list_all, range_with_len};
+ghost use Rattle.std.specs.Option.{option_and_then};
+ghost use Rattle.mfc_command.specs.Order.{goes_before, precedes};
+ghost use Rattle.mfc_queue.specs.Places.{ArePlaces};
+ghost use Rattle.mfc_queue.specs.Calls.{Call, Issue, SetParts, Mark, Retire, issued, is_retired, is_outstanding, outstanding, parts, is_marked, all_marked, may_begin, busy, has_outstanding};
+
+use arrayvec::ArrayVec;
+use mfc_command::{Command, Kind, Mark as OrderMark, precedes};
+
+/// How many places a queue has.
+pub const PLACES: usize = 16;
+
+/// The most parts that a transfer can have.
+const MAX_PARTS: usize = 129;
+
+/// Sixteen commands are outstanding.
+#[derive(Clone, Copy, Debug, PartialEq, Eq)]
+pub struct QueueFull;
+
+/// An outstanding command: its number and its place, how many parts it has, and which of them are done.
+#[derive(Clone, Copy)]
+struct Held {
+    cmd: u32,
+    place: u8,
+    command: Command,
+    parts: u32,
+    done: [bool; 129],
+    ghost tag: { command.tag < 32 },
+    ghost few: { parts ≤ 129 },
+    ghost whole: { length done ≡ 129 },
+}
+
+impl Default for Held {
+    fn default() -> Held {
+        Held {
+            cmd: 0,
+            place: 0,
+            command: Command {
+                kind: Kind::Barrier,
+                mark: OrderMark::Plain,
+                tag: 0,
+                ls: 0,
+                ea: 0,
+                size: 0,
+            },
+            parts: 0,
+            done: [false; MAX_PARTS],
+        }
+    }
+}
+
+/// The outstanding commands in the order of their numbers, the places that none of them has, and how many commands were issued.
+#[derive(Drop)]
+pub struct Queue {
+    issued: u32,
+    held: ArrayVec<Held, 16>,
+    vacant: ArrayVec<u8, 16>,
+    ghost places: { ArePlaces (map (λ h. h.place) held.items) vacant.items },
+}
+
+impl Queue {
+    ghost use Rattle.mfc_queue.specs.Stands.{StandsFor, IsOneOf, HasPart, HasNumber, place_in, KeepsPlaces, KeepsOtherPlaces};
+
+    /// A queue on which no call was made. It takes no memory, and no call does.
+    pub fn new() -> Queue
+        ensures { StandsFor result [] }
+    {
+        let vacant = [0, 1, 2, 3, 4, 5, 6, 7, 8, 9, 10, 11, 12, 13, 14, 15];
+        Queue {
+            issued: 0,
+            held: ArrayVec::new(),
+            vacant: ArrayVec::from_array_in((), vacant),
+        }
+    }
+
+    /// How many commands were issued.
+    pub fn issued(&self) -> u32
+        ensures { (calls : List Call) → StandsFor self.now calls → result ≡ length (issued calls) }
+    {
+        self.issued
+    }
+
+    /// How many of sixteen places are free.
+    pub fn free(&self) -> u32
+        ensures { (calls : List Call) → StandsFor self.now calls → result ≡ 16 - length (outstanding calls) }
+    {
+        (PLACES - self.held.len()) as u32
+    }
+
+    /// Issues a command, and answers its number, which is how many were issued before.
+    ///
+    /// QueueFull comes exactly where sixteen are outstanding, and then nothing changes. Fewer than 1,000,000 were issued.
+    pub fn issue(&mut self, c: Command) -> Result<u32, QueueFull>
+        requires few { HasNumber self.old }
+        requires tag { c.tag < 32 }
+        ensures number { (calls : List Call) → StandsFor self.old calls → IfOk result (λ n. n ≡ length (issued calls)) }
+        ensures issued { (calls : List Call) → StandsFor self.old calls → OnOk result (StandsFor self.new (calls ++ Issue c ∷ [])) }
+        ensures full { (calls : List Call) → StandsFor self.old calls → IsOk result ↔ (length (outstanding calls) < 16) }
+        ensures err { OnErr result (self.new ≡ self.old) }
+        ensures places { IfOk result (KeepsOtherPlaces self.old self.new) }
+    {
+        let Some(place) = self.vacant.pop() else {
+            return Err(QueueFull);
+        };
+        let cmd = self.issued;
+        self.issued = cmd + 1;
+        self.held.push(Held {
+            cmd,
+            place,
+            command: c,
+            parts: 0,
+            done: [false; MAX_PARTS],
+        });
+        Ok(cmd)
+    }
+
+    /// The command at this index.
+    fn held_at(&self, i: usize) -> &Held
+        requires { i < length self.now.held.items }
+        ensures { result.now ≡ slice_index_or self.now.held.items i result.now }
+    {
+        &self.held[i]
+    }
+
+    /// Where the command is held.
+    fn index_of(&self, cmd: u32) -> Option<usize>
+        ensures found { IfSome result (λ i. (i < length self.now.held.items) × ((d : _) → (slice_index_or self.now.held.items i d).cmd ≡ cmd)) }
+        ensures none { IfNone result (list_any (λ n. n == cmd) (map (λ h. h.cmd) self.now.held.items) ≡ false) }
+        ensures first { option_and_then (λ i. slice_get self.now.held.items i) result ≡ find (λ h. h.cmd == cmd) self.now.held.items }
+    {
+        for i in 0..self.held.len() {
+            let h = self.held_at(i);
+            if h.cmd == cmd {
+                return Some(i);
+            }
+        }
+        None
+    }
+
+    /// The place of a command, below 16, or None exactly where the command isn't outstanding.
+    ///
+    /// A command keeps its place until it is retired, and no other outstanding command has it.
+    pub fn place(&self, cmd: u32) -> Option<u32>
+        ensures outstanding { (calls : List Call) → StandsFor self.now calls → is_some result ≡ is_outstanding calls cmd }
+        ensures place { result ≡ place_in self.now cmd }
+        ensures small { IfSome result (λ p. p < 16) }
+        ensures own { IfSome result (λ p. (other : ℕ) → place_in self.now other ≡ Some p → other ≡ cmd) }
+    {
+        match self.index_of(cmd) {
+            Some(i) => Some(u32::from(self.held_at(i).place)),
+            None => None,
+        }
+    }
+
+    /// An outstanding command.
+    pub fn command(&self, cmd: u32) -> Command
+        requires { IsOneOf self.now cmd }
+        ensures { (calls : List Call) → StandsFor self.now calls → slice_get (issued calls) cmd ≡ Some result }
+    {
+        match self.index_of(cmd) {
+            Some(i) => self.held_at(i).command,
+            None => unreachable!(),
+        }
+    }
+
+    /// The least number of an outstanding command that is this one or higher, or None exactly where there is none.
+    pub fn outstanding_from(&self, cmd: u32) -> Option<u32>
+        ensures { (calls : List Call) → StandsFor self.now calls → result ≡ find (nat_le cmd) (outstanding calls) }
+    {
+        for i in 0..self.held.len() {
+            let h = self.held_at(i);
+            if h.cmd >= cmd {
+                return Some(h.cmd);
+            }
+        }
+        None
+    }
+
+    /// Whether every earlier command that goes before this one is complete.
+    pub fn may_start(&self, cmd: u32) -> bool
+        requires { IsOneOf self.now cmd }
+        ensures { (calls : List Call) → StandsFor self.now calls → result ≡ may_begin calls cmd }
+    {
+        let d = self.command(cmd);
+        for i in 0..self.held.len() {
+            if holds_up(self.held_at(i), cmd, &d) {
+                return false;
+            }
+        }
+        true
+    }
+
+    /// Begins the pieces of a command or element, at most 129, with none done.
+    pub fn set_parts(&mut self, cmd: u32, n: u32)
+        requires there { IsOneOf self.old cmd }
+        requires few { n ≤ 129 }
+        ensures stands { (calls : List Call) → StandsFor self.old calls → StandsFor self.new (calls ++ SetParts cmd n ∷ []) }
+        ensures places { KeepsPlaces self.old self.new }
+    {
+        match self.index_of(cmd) {
+            Some(i) => {
+                let h = *self.held_at(i);
+                let begun = Held {
+                    cmd,
+                    place: h.place,
+                    command: h.command,
+                    parts: n,
+                    done: [false; MAX_PARTS],
+                };
+                put(&mut self.held, i, begun);
+            }
+            None => unreachable!(),
+        }
+    }
+
+    /// Whether the part, which is below the command's number of parts, was marked since its latest `set_parts`.
+    pub fn done(&self, cmd: u32, part: u32) -> bool
+        requires { HasPart self.now cmd part }
+        ensures { (calls : List Call) → StandsFor self.now calls → result ≡ is_marked calls cmd part }
+    {
+        match self.index_of(cmd) {
+            Some(i) => self.held_at(i).done[part as usize],
+            None => unreachable!(),
+        }
+    }
+
+    /// Marks the part as done.
+    fn set_done(&mut self, cmd: u32, part: u32)
+        requires { HasPart self.old cmd part }
+        ensures stands { (calls : List Call) → StandsFor self.old calls → StandsFor self.new (calls ++ Mark cmd part ∷ []) }
+        ensures places { KeepsPlaces self.old self.new }
+    {
+        match self.index_of(cmd) {
+            Some(i) => {
+                let mut h = *self.held_at(i);
+                h.done[part as usize] = true;
+                put(&mut self.held, i, h);
+            }
+            None => unreachable!(),
+        }
+    }
+
+    /// How many parts an outstanding command has.
+    pub fn parts(&self, cmd: u32) -> u32
+        requires { IsOneOf self.now cmd }
+        ensures { (calls : List Call) → StandsFor self.now calls → result ≡ parts calls cmd }
+    {
+        match self.index_of(cmd) {
+            Some(i) => self.held_at(i).parts,
+            None => unreachable!(),
+        }
+    }
+
+    /// Whether all parts of a command are done.
+    fn all_done(&self, cmd: u32) -> bool
+        requires { IsOneOf self.now cmd }
+        ensures { (calls : List Call) → StandsFor self.now calls → result ≡ all_marked calls cmd }
+    {
+        match self.index_of(cmd) {
+            Some(i) => {
+                let h = self.held_at(i);
+                are_all(&h.done, h.parts as usize)
+            }
+            None => unreachable!(),
+        }
+    }
+
+    /// Marks the part, which is below the command's number of parts, as done, and answers whether all are done now.
+    pub fn mark(&mut self, cmd: u32, part: u32) -> bool
+        requires { HasPart self.old cmd part }
+        ensures stands { (calls : List Call) → StandsFor self.old calls → StandsFor self.new (calls ++ Mark cmd part ∷ []) }
+        ensures places { KeepsPlaces self.old self.new }
+        ensures all { (calls : List Call) → StandsFor self.old calls → result ≡ all_marked (calls ++ Mark cmd part ∷ []) cmd }
+    {
+        self.set_done(cmd, part);
+        self.all_done(cmd)
+    }
+
+    /// Ends the command, which is complete from now on. Its place becomes free.
+    pub fn retire(&mut self, cmd: u32)
+        requires { IsOneOf self.old cmd }
+        ensures stands { (calls : List Call) → StandsFor self.old calls → StandsFor self.new (calls ++ Retire cmd ∷ []) }
+        ensures places { KeepsOtherPlaces self.old self.new cmd }
+    {
+        match self.index_of(cmd) {
+            Some(i) => {
+                let h = self.held.remove(i);
+                self.vacant.push(h.place);
+            }
+            None => unreachable!(),
+        }
+    }
+
+    /// Whether a command of the tag, which is below 32, is outstanding.
+    pub fn outstanding(&self, tag: u8) -> bool
+        requires { tag < 32 }
+        ensures { (calls : List Call) → StandsFor self.now calls → result ≡ has_outstanding calls tag }
+    {
+        for i in 0..self.held.len() {
+            let h = self.held_at(i);
+            if h.command.tag == tag {
+                return true;
+            }
+        }
+        false
+    }
+
+    /// The tag groups with a command outstanding, as bits: group t is bit value 2^t.
+    pub fn busy(&self) -> u32
+        ensures { (calls : List Call) → StandsFor self.now calls → result ≡ busy calls }
+    {
+        let mut bits = 0;
+        for i in 0..self.held.len() {
+            let tag = self.held_at(i).command.tag;
+            bits |= 1 << tag;
+        }
+        bits
+    }
+}
+
+/// Puts what is held at an index.
+fn put(held: &mut ArrayVec<Held, 16>, i: usize, h: Held)
+    requires { i < length held.old.items }
+    ensures { held.new.items ≡ slice_set held.old.items i h }
+{
+    held[i] = h;
+}
+
+/// Whether the command goes before the one with this number.
+fn holds_up(c: &Held, cmd: u32, d: &Command) -> bool
+    ensures { result ≡ (nat_lt c.now.cmd cmd && precedes c.now.command d.now) }
+{
+    c.cmd < cmd && precedes(&c.command, d)
+}
+
+/// Whether the first n are all true.
+fn are_all(done: &[bool], n: usize) -> bool
+    requires { n ≤ length done.now }
+    ensures { result ≡ list_all (λ k. slice_index_or done.now k false) (range_with_len 0 n) }
+{
+    for k in 0..n {
+        if !done[k] {
+            return false;
+        }
+    }
+    true
+}
+
+#[cfg(test)]
+mod tests;

@@ -1,0 +1,198 @@
+//! The tag groups of a processor: the mask, an update request, and the status that it comes to.
+#![tactic(auto)]
+
+ghost use Rattle.std.specs.Prelude.{◌≡◌, ◌≤◌, ◌<◌, ◌^◌, ◌↔◌, ℕ, Some, None, OnErr, IfOk, IfErr, IsTrue, IsSome, is_some, is_ok};
+ghost use Rattle.tag_groups.specs.Settle.{opening_tags, requested, settled_tags, is_met, idle_groups};
+
+/// A tag status: the groups of the request's mask that had nothing outstanding, as bits, and how many commands the processor had issued when it was fixed.
+#[derive(Clone, Copy, Debug, PartialEq, Eq)]
+pub struct TagStatus {
+    pub groups: u32,
+    pub issued: u32,
+}
+
+/// An update request, with the mask as it stood when it was made.
+#[derive(Clone, Copy, Debug, PartialEq, Eq)]
+pub struct Request {
+    /// 0 asks at once, 1 for any group, every other number for all.
+    pub how: u32,
+    pub mask: u32,
+}
+
+/// No status was fixed.
+#[derive(Clone, Copy, Debug, PartialEq, Eq)]
+pub struct NotReady;
+
+/// The mask, a pending request and an unread status; group t is bit value 2^t.
+#[derive(Clone, Copy, Debug, PartialEq, Eq)]
+pub struct Tags {
+    pub mask: u32,
+    pub request: Option<Request>,
+    pub status: Option<TagStatus>,
+}
+
+impl Tags {
+    /// An empty mask, no request and no status.
+    pub fn new() -> Tags
+        ensures { result ≡ opening_tags }
+    {
+        Tags {
+            mask: 0,
+            request: None,
+            status: None,
+        }
+    }
+
+    /// Sets the mask. A pending request keeps the mask that it was made with.
+    pub fn set_mask(&mut self, m: u32)
+        ensures { self.new ≡ record self.old { mask = m } }
+    {
+        self.mask = m;
+    }
+
+    /// The mask.
+    pub fn mask(&self) -> u32
+        ensures { result ≡ self.now.mask }
+    {
+        self.mask
+    }
+
+    /// Makes a request with the mask as it stands, in place of a pending one and of an unread status.
+    pub fn request(&mut self, how: u32)
+        ensures { self.new ≡ requested self.old how }
+    {
+        self.request = Some(Request {
+            how,
+            mask: self.mask,
+        });
+        self.status = None;
+    }
+
+    /// Fixes the status where a request is pending and its condition holds.
+    ///
+    /// `busy` has the groups with a command outstanding, and `issued` is how many commands were issued by now.
+    pub fn settle(&mut self, busy: u32, issued: u32)
+        ensures { self.new ≡ settled_tags busy issued self.old }
+    {
+        let Some(request) = self.request else {
+            return;
+        };
+        if is_met(&request, busy) {
+            self.request = None;
+            self.status = Some(TagStatus {
+                groups: idle_groups(request.mask, busy),
+                issued,
+            });
+        }
+    }
+
+    /// Whether a status is fixed and wasn't read yet.
+    pub fn ready(&self) -> bool
+        ensures { result ≡ is_some self.now.status }
+    {
+        self.status.is_some()
+    }
+
+    /// Takes the status. NotReady comes exactly where none is fixed, and then nothing changes.
+    pub fn read(&mut self) -> Result<TagStatus, NotReady>
+        ensures ready { is_ok result ≡ is_some self.old.status }
+        ensures ok { IfOk result (λ status. self.old.status ≡ Some status) }
+        ensures taken { self.new ≡ record self.old { status = None } }
+    {
+        self.status.take().ok_or(NotReady)
+    }
+}
+
+/// Whether the request's condition holds: at once, for any group, or for all.
+fn is_met(request: &Request, busy: u32) -> bool
+    ensures { result ≡ is_met busy request.now }
+{
+    match request.how {
+        0 => true,
+        1 => request.mask == 0 || idle_groups(request.mask, busy) != 0,
+        _ => request.mask & busy == 0,
+    }
+}
+
+/// The groups of the mask with nothing outstanding.
+fn idle_groups(mask: u32, busy: u32) -> u32
+    ensures { result ≡ idle_groups busy mask }
+{
+    mask - (mask & busy)
+}
+
+#[cfg(test)]
+mod tests {
+    use super::*;
+
+    /// Requests of each kind with the mask 6, while these groups are busy: the groups of the status, or None where it waits.
+    #[test]
+    fn fixes_a_status_where_the_condition_holds(rt: HostRuntime) {
+        for (how, busy, want) in [
+            (0, 6, Some(0)),
+            (0, 4, Some(2)),
+            (1, 6, None),
+            (1, 7, None),
+            (1, 4, Some(2)),
+            (1, 9, Some(6)),
+            (2, 6, None),
+            (2, 2, None),
+            (2, 9, Some(6)),
+            (3, 4, None),
+            (3, 1, Some(6)),
+            (u32::MAX, 2, None),
+        ] {
+            let mut tags = Tags::new();
+            tags.set_mask(6);
+            tags.request(how);
+            tags.set_mask(0xffff_ffff);
+            tags.settle(busy, 9);
+            let groups = tags.read().ok().map(|status| status.groups);
+            assert_eq!(rt; groups, want, "at {how} {busy}");
+        }
+    }
+
+    /// A mask of 0 is met at once, whatever was asked.
+    #[test]
+    fn an_empty_mask_is_met_at_once(rt: HostRuntime) {
+        for how in [0, 1, 2, 3] {
+            let mut tags = Tags::new();
+            tags.request(how);
+            tags.settle(0xffff_ffff, 5);
+            assert_eq!(rt;
+                tags.read(),
+                Ok(TagStatus {
+                    groups: 0,
+                    issued: 5
+                }),
+                "at {how}"
+            );
+        }
+    }
+
+    /// A status stays as it was fixed until it is read or a new request takes its place.
+    #[test]
+    fn keeps_a_status_until_it_is_read(rt: HostRuntime) {
+        let mut tags = Tags::new();
+        tags.set_mask(3);
+        assert_eq!(rt; tags.mask(), 3);
+        assert_eq!(rt; tags.read(), Err(NotReady));
+        tags.settle(0, 1);
+        assert_eq!(rt; tags.ready(), false);
+        tags.request(2);
+        tags.settle(0, 1);
+        tags.settle(1, 2);
+        assert_eq!(rt; tags.ready(), true);
+        let status = TagStatus {
+            groups: 3,
+            issued: 1,
+        };
+        assert_eq!(rt; tags.read(), Ok(status));
+        assert_eq!(rt; tags.read(), Err(NotReady));
+        tags.request(0);
+        tags.settle(0, 3);
+        tags.request(2);
+        tags.settle(1, 4);
+        assert_eq!(rt; tags.read(), Err(NotReady));
+    }
+}
