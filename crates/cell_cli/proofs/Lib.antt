@@ -1,0 +1,4 @@
+pub mod Steps
+pub mod Puts
+pub mod Runs
+pub mod Complete

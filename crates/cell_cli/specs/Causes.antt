@@ -1,0 +1,29 @@
+-- What a refusal of a layer is called by the program.
+use Rattle.cell_load.specs.declared.plan.PlanError.{PlanError}
+use Rattle.cell_load.specs.declared.plan.PlanError.TheVariants.{BadLine, Limit, Memory as PlanMemory}
+use Rattle.spu_asm.specs.declared.error.AsmError.{AsmError}
+use Rattle.spu_asm.specs.declared.error.AsmError.TheVariants.{At, Memory as AsmMemory}
+use Rattle.cell_load.specs.declared.loading.LoadError.{LoadError}
+use Rattle.cell_load.specs.declared.loading.LoadError.TheVariants.{NotInTable as NoRow, Memory as LoadMemory}
+use Rattle.cell_cli.specs.declared.fault.FileId.{FileId}
+use Rattle.cell_cli.specs.declared.fault.Fault.{Fault}
+use Rattle.cell_cli.specs.declared.fault.Fault.TheVariants.{Machine, Source, NotInTable, Memory, Usage, WriteFault}
+
+abbrev pub plan_fault_of : PlanError → Fault
+plan_fault_of (BadLine line) = Machine line
+plan_fault_of (Limit line) = Machine line
+plan_fault_of PlanMemory = Memory
+
+abbrev pub source_fault_of : FileId → AsmError → Fault
+source_fault_of file (At line kind) = Source file line kind
+source_fault_of file AsmMemory = Memory
+
+abbrev pub load_fault_of : LoadError → Fault
+load_fault_of (NoRow spe address word) = NotInTable spe address word
+load_fault_of LoadMemory = Memory
+
+-- it says something of the input, and nothing of the words or the output
+abbrev pub IsOfInput : Fault → Type 0
+IsOfInput Usage = ⊥
+IsOfInput WriteFault = ⊥
+IsOfInput fault = Unit {0}

@@ -1,0 +1,16 @@
+-- The exit codes.
+use Rattle.std.specs.Prelude.{ℕ}
+use Rattle.cell_cli.specs.declared.fault.Fault.TheVariants.{Usage, ReadFault, WriteFault, NotARun, StatesDiffer, Memory}
+use Rattle.cell_cli.specs.declared.fault.Status.{Status}
+use Rattle.cell_cli.specs.declared.fault.Status.TheVariants.{Done, Race, Refused}
+
+abbrev pub code_of : Status → ℕ
+code_of Done = 0
+code_of (Race first second) = 1
+code_of (Refused Usage) = 2
+code_of (Refused (ReadFault file)) = 3
+code_of (Refused WriteFault) = 4
+code_of (Refused (NotARun at)) = 6
+code_of (Refused (StatesDiffer at)) = 6
+code_of (Refused Memory) = 7
+code_of (Refused fault) = 5

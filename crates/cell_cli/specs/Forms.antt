@@ -1,0 +1,61 @@
+-- The task of each form, in the order of its refusals.
+use Rattle.std.specs.Prelude.{ℕ, ◌+◌, List, [], ◌∷◌, ◌++◌, Result, Ok, Err}
+use Rattle.spu_asm.specs.Images.{Image}
+use Rattle.spu_asm.specs.Assembling.{assembled}
+use Rattle.spu_asm.specs.declared.error.AsmError.{AsmError}
+use Rattle.spu_asm.specs.declared.error.AsmError.TheVariants.{At, Memory as AsmMemory}
+use Rattle.cell_load.specs.Entries.{Entry}
+use Rattle.cell_load.specs.Order.{machine_at}
+use Rattle.cell_load.specs.Sources.{Named, sources_of}
+use Rattle.cell_load.specs.Loaded.{loaded, NoRow}
+use Rattle.cell_machine.specs.Opening.{Opening}
+use Rattle.cell_report.specs.Images.{image_lines}
+use Rattle.cell_cli.specs.declared.fault.Fault.TheVariants.{Machine as BadMachine, Source as BadSource, NotInTable, Memory}
+use Rattle.cell_cli.specs.declared.fault.FileId.{FileId}
+use Rattle.cell_cli.specs.declared.fault.FileId.TheVariants.{Machine, Source}
+use Rattle.cell_cli.specs.Task.{Task, refuse, ready, read, run_of, text_of}
+
+-- how long a machine file or a source may be
+abbrev pub text_limit : ℕ
+text_limit = 4194304
+
+-- ---- sources
+
+abbrev pub with_image : FileId → Result Image AsmError → (Image → Task) → Task
+with_image file (Err (At line kind)) next = refuse (BadSource file line kind)
+with_image file (Err AsmMemory) next = refuse Memory
+with_image file (Ok image) next = next image
+
+-- source i is read and assembled
+abbrev pub source_task : ℕ → List ℕ → (Image → Task) → Task
+source_task i name next = read (Source i) name text_limit (λ text. with_image (Source i) (assembled text) next)
+
+-- each source in turn, the i-th first, after the images so far
+abbrev pub sources_task : ℕ → List Named → List Image → (List Image → Task) → Task
+sources_task i [] so_far next = next so_far
+sources_task i (source ∷ sources) so_far next =
+    source_task i source.name (λ image. sources_task (i + 1) sources (so_far ++ image ∷ []) next)
+
+-- ---- machine files
+
+abbrev pub with_setup : Result Opening NoRow → (Opening → Task) → Task
+with_setup (Err found) next = refuse (NotInTable found.spe found.address found.word)
+with_setup (Ok setup) next = next setup
+
+abbrev pub with_plan : {F : Type 0} → Result (List Entry) (ℕ × F) → (Opening → Task) → Task
+with_plan (Err fault) next = refuse (BadMachine fault.0)
+with_plan (Ok entries) next = sources_task 0 (sources_of entries) [] (λ images. with_setup (loaded entries images) next)
+
+-- the machine file, its sources, and the setup that they stand for
+abbrev pub machine_task : List ℕ → (Opening → Task) → Task
+machine_task name next = read Machine name text_limit (λ text. with_plan (machine_at text) next)
+
+-- ---- forms
+
+-- `run MACHINE`
+abbrev pub run_task : List ℕ → Task
+run_task machine = machine_task machine (λ setup. ready (run_of setup))
+
+-- `asm SOURCE`
+abbrev pub asm_task : List ℕ → Task
+asm_task source = source_task 0 source (λ image. ready (text_of (image_lines image)))

@@ -1,0 +1,10 @@
+pub mod Task
+pub mod Forms
+pub mod Words
+pub mod Course
+pub mod Output
+pub mod Answer
+pub mod Causes
+pub mod Jobs
+pub mod Code
+pub mod Runs

@@ -1,0 +1,19 @@
+-- What a run prints.
+use Rattle.std.specs.Prelude.{◌≡◌, ℕ, ◌≤◌, List, ◌++◌, length, Some}
+use Rattle.cell_base.specs.declared.steps.Step.{Step}
+use Rattle.cell_base.specs.Records.{spelling}
+use Rattle.cell_machine.specs.declared.status.End.{End}
+use Rattle.cell_machine.specs.State.{State}
+use Rattle.cell_machine.specs.Opening.{Opening, opening}
+use Rattle.cell_machine.specs.Run.{replay, IsEnd}
+use Rattle.cell_report.specs.States.{states_of}
+
+-- The record of one run of the written machine from the setup, and then its last states; the run has ended.
+pub record PrintsRun (setup : Opening) (text : List ℕ) : Type 0 where
+  pub steps : List Step
+  pub last : State
+  pub end : End
+  pub replayed : replay (opening setup) steps ≡ Some last
+  pub within : length steps ≤ setup.budget
+  pub ended : IsEnd last setup.budget (Some end)
+  pub printed : text ≡ spelling steps ++ states_of last setup.shows (Some end)

@@ -1,0 +1,15 @@
+-- What a form of words asks for: files to read, one after the other, and then a refusal or work to do.
+use Rattle.std.specs.Prelude.{ℕ, List}
+use Rattle.cell_machine.specs.Opening.{Opening}
+use Rattle.cell_cli.specs.declared.fault.Fault.{Fault}
+use Rattle.cell_cli.specs.declared.fault.FileId.{FileId}
+
+-- the texts of one run of this setup; or this text
+pub data Work : Type 0 where
+  run_of : Opening → Work
+  text_of : List ℕ → Work
+
+pub data Task : Type 0 where
+  refuse : Fault → Task
+  ready : Work → Task
+  read : FileId → List ℕ → ℕ → (List ℕ → Task) → Task

@@ -1,0 +1,44 @@
+-- The forms of words.
+use Rattle.std.specs.Prelude.{ℕ, ◌≡◌, Bool, List, [], ◌∷◌, nat_eq, if◌then◌else◌, codes, Result, Err, IfErr}
+use Rattle.std.specs.Cmp.Lexicographic.{pointwise}
+use Rattle.cell_cli.specs.declared.fault.Fault.{Fault}
+use Rattle.cell_cli.specs.declared.fault.Fault.TheVariants.{Usage}
+use Rattle.cell_cli.specs.declared.fault.FileId.{FileId}
+use Rattle.cell_cli.specs.declared.fault.FileId.TheVariants.{Source}
+use Rattle.cell_io.specs.Store.{Ledger}
+use Rattle.cell_cli.specs.Task.{Task, refuse}
+use Rattle.cell_cli.specs.Forms.{run_task, asm_task}
+use Rattle.cell_cli.specs.Causes.{IsOfInput}
+use Rattle.cell_cli.specs.Answer.{AtFile, AtMachine}
+
+-- what the words say
+pub data Spoken : Type 0 where
+  run : List ℕ → Spoken
+  asm : List ℕ → Spoken
+  no_form : Spoken
+
+abbrev pub is_word : List ℕ → List ℕ → Bool
+is_word text word = pointwise nat_eq text word
+
+abbrev pub spoken : List (List ℕ) → Spoken
+spoken [] = no_form
+spoken (form ∷ []) = no_form
+spoken (form ∷ a ∷ []) = if is_word form (codes "run") then run a else if is_word form (codes "asm") then asm a else no_form
+spoken (form ∷ a ∷ b ∷ more) = no_form
+
+-- what they ask for
+abbrev pub task_of : Spoken → Task
+task_of (run machine) = run_task machine
+task_of (asm source) = asm_task source
+task_of no_form = refuse Usage
+
+-- the files that may fail, and how, whatever the store tells
+abbrev pub FailsIn : Spoken → FileId → Ledger → Ledger → Type 0
+FailsIn (run machine) file old new = AtMachine machine file old new
+FailsIn (asm source) file old new = AtFile (Source 0) source file old new
+FailsIn no_form file old new = ⊥
+
+-- usage is told exactly where the words are no form
+abbrev pub IsPrepared : {V : Type 0} → Spoken → Result V Fault → Type 0
+IsPrepared no_form result = result ≡ Err Usage
+IsPrepared spoken result = IfErr result IsOfInput

@@ -1,0 +1,38 @@
+//! What a refusal of a layer is called here.
+
+ghost use Rattle.std.specs.Prelude.{◌≡◌};
+ghost use Rattle.cell_cli.specs.Causes.{plan_fault_of, source_fault_of, load_fault_of, IsOfInput};
+
+use crate::fault::{Fault, FileId};
+use cell_load::{LoadError, PlanError};
+use spu_asm::AsmError;
+
+pub fn plan_fault(error: PlanError) -> Fault
+    ensures same { result ≡ plan_fault_of error }
+    ensures input { IsOfInput result }
+{
+    match error {
+        PlanError::BadLine { line } | PlanError::Limit { line } => Fault::Machine { line },
+        PlanError::Memory => Fault::Memory,
+    }
+}
+
+pub fn source_fault(file: FileId, error: AsmError) -> Fault
+    ensures same { result ≡ source_fault_of file error }
+    ensures input { IsOfInput result }
+{
+    match error {
+        AsmError::At { line, kind } => Fault::Source { file, line, kind },
+        AsmError::Memory => Fault::Memory,
+    }
+}
+
+pub fn load_fault(error: LoadError) -> Fault
+    ensures same { result ≡ load_fault_of error }
+    ensures input { IsOfInput result }
+{
+    match error {
+        LoadError::NotInTable { spe, address, word } => Fault::NotInTable { spe, address, word },
+        LoadError::Memory => Fault::Memory,
+    }
+}

@@ -1,0 +1,9 @@
+pub mod Admitted
+pub mod CutLemmas
+pub mod LoadLemmas
+pub mod MachineFits
+pub mod MachineLemmas
+pub mod Names
+pub mod RowLemmas
+pub mod SetupLemmas
+pub mod SourceLemmas

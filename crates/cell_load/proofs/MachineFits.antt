@@ -1,0 +1,494 @@
+-- What lines that all have their place stand for is within the limits of a setup.
+use Rattle.std.proofs.Common.{◌≡◌, ◌≤◌, ◌<◌, ◌+◌, ◌-◌, ◌%◌, ◌==◌, ◌&&◌, not, nat_le, nat_lt, ℕ, zero, suc, Bool, true, false, List, [], ◌∷◌, ◌++◌, length, slice_get, Option, Some, None, is_none, unwrap_or, cond, Result, Ok, Err, refl, sym, ap, subst, ◌∙◌, arith, lit≤}
+use Rattle.std.specs.Prelude.{All, IfSome}
+use Rattle.std.specs.List.{cons_option, filter_map}
+use Rattle.std.specs.Option.{option_or}
+use Rattle.std.proofs.lemmas.Bool.Decides.{nat_tests}
+use Rattle.std.proofs.lemmas.List.FromFn.{get_or-map-range_with_len, length-map-range_with_len}
+use Rattle.spu_asm.specs.Images.{Image}
+use Rattle.cell_machine.specs.declared.setup.Show.{Show}
+use Rattle.cell_machine.specs.Limits.{AreMachineLimits, FitsShow, FitsStore, IsOpening}
+use Rattle.cell_load.specs.declared.line.Refusal.{Refusal}
+use Rattle.cell_load.specs.declared.line.Refusal.TheVariants.{Form}
+use Rattle.cell_load.specs.declared.line.Counts.{Counts}
+use Rattle.cell_load.specs.declared.line.Stage.TheVariants.{Start, Headed, Sized, Body}
+use Rattle.cell_load.specs.Entries.{Entry, Head, Lines, Budget, Spe, Entrance, Code, Bytes, Source, ShowLocal}
+use Rattle.cell_load.specs.Form.{◌>>=◌}
+use Rattle.cell_load.specs.Order.{nothing, admit, admit_all, counted, in_body, ends_well, in_local, has_spe, limited, IsMachine}
+use Rattle.cell_load.specs.Sources.{spes_after, spes_in}
+use Rattle.cell_load.specs.Loaded as loaded
+use Rattle.cell_load.specs.Loaded.{Load, Part, first_of, for_spe, given_to, image_start, images_after, line_start, loads_from, loads_of, machine_of, lines_number, budget_number, parts_of, parts_of_image, placed_of, placed_part, shown_range, start_of, starts_of}
+use Rattle.cell_load.specs.LoadViews.{AllTakeFit, TakesFit}
+use Rattle.cell_load.proofs.SetupLemmas.{starts-length}
+use Rattle.cell_load.proofs.SourceLemmas.{spes_after-add}
+use Rattle.cell_load.proofs.Admitted.{counted-spes, few_spes, limited-ok, only_if-ok, ok_same}
+
+-- ---- what holds of each
+
+abbrev Each : {X : Type 0} → (X → Type 0) → List X → Type 0
+Each P [] = Unit {0}
+Each P (x ∷ xs) = P x × Each P xs
+
+each-append : {X : Type 0} (P : X → Type 0) (xs ys : List X) → Each P xs → Each P ys → Each P (xs ++ ys)
+each-append P [] ys first last = last
+each-append P (x ∷ xs) ys first last = (first.0, each-append P xs ys first.1 last)
+
+all_each : {X : Type 0} (P : X → Type 0) (xs : List X) → Each P xs → All P xs
+all_each P [] each k d within = absurd (omega arith)
+all_each P (x ∷ xs) each zero d within = each.0
+all_each P (x ∷ xs) each (suc k) d within = all_each P xs each.1 k d (omega arith)
+
+-- ---- tests
+
+both : (a b : Bool) → (a && b) ≡ true → (a ≡ true) × (b ≡ true)
+both true true e = (refl, refl)
+both true false e = absurd cc
+both false b e = absurd cc
+
+-- ---- what a line that has its place says of itself
+
+abbrev IsStart : ℕ → Type 0
+IsStart at = (at < 262144) × (at % 4 ≡ 0)
+
+abbrev Within : Counts → Entry → Type 0
+Within c (Entrance at) = (0 < c.spes) × IsStart at
+Within c (Code at bytes) = (0 < c.spes) × (at + length bytes ≤ 262144)
+Within c (Bytes at bytes) = (0 < c.spes) × (at + length bytes ≤ 262144)
+Within c (Source name) = 0 < c.spes
+Within c (ShowLocal spe at len) = (spe < c.spes) × (0 < len) × (len ≤ 4096) × (at + len ≤ 262144) × (c.shows < 64)
+Within c other = Unit {0}
+
+counted-within : (c : Counts) (e : Entry) (d : Counts) → counted c e ≡ Ok d → Within c e
+unfolding counted
+counted-within c Head d is = tt
+counted-within c (Lines n) d is = tt
+counted-within c (Budget n) d is = tt
+counted-within c Spe d is = tt
+counted-within c (Entrance at) d is =
+    let b = both (has_spe c && not c.entry && at % 4 == 0) (nat_lt at 262144) (only_if-ok _ _ d is).0 in
+    let a = both (has_spe c && not c.entry) (at % 4 == 0) b.0 in
+    let s = both (has_spe c) (not c.entry) a.0 in
+    let spe : nat_lt 0 c.spes ≡ true = s.0 in
+    let four : (at % 4 == 0) ≡ true = a.1 in
+    let low : nat_lt at 262144 ≡ true = b.1 in
+    (grind (arith, nat_tests), (grind (arith, nat_tests), grind (arith, nat_tests)))
+counted-within c (Code at bytes) d is =
+    let b = both (has_spe c && at % 4 == 0 && length bytes % 4 == 0) (in_local at (length bytes)) (only_if-ok _ _ d is).0 in
+    let a = both (has_spe c && at % 4 == 0) (length bytes % 4 == 0) b.0 in
+    let s = both (has_spe c) (at % 4 == 0) a.0 in
+    let spe : nat_lt 0 c.spes ≡ true = s.0 in
+    let low : nat_le (at + length bytes) 262144 ≡ true = b.1 in
+    (grind (arith, nat_tests), grind (arith, nat_tests))
+counted-within c (Bytes at bytes) d is =
+    let s = both (has_spe c) (in_local at (length bytes)) (only_if-ok _ _ d is).0 in
+    let spe : nat_lt 0 c.spes ≡ true = s.0 in
+    let low : nat_le (at + length bytes) 262144 ≡ true = s.1 in
+    (grind (arith, nat_tests), grind (arith, nat_tests))
+counted-within c (Source name) d is =
+    let spe : nat_lt 0 c.spes ≡ true = (only_if-ok _ _ d is).0 in
+    grind (arith, nat_tests)
+counted-within c (ShowLocal spe at len) d is =
+    let o = only_if-ok _ _ d is in
+    let s = both (nat_lt spe c.spes) (in_local at len) o.0 in
+    let l = both (nat_le 1 len && nat_le len 4096) (nat_lt c.shows 64) (limited-ok _ _ d o.1).0 in
+    let m = both (nat_le 1 len) (nat_le len 4096) l.0 in
+    let there : nat_lt spe c.spes ≡ true = s.0 in
+    let low : nat_le (at + len) 262144 ≡ true = s.1 in
+    let some : nat_le 1 len ≡ true = m.0 in
+    let few : nat_le len 4096 ≡ true = m.1 in
+    let room : nat_lt c.shows 64 ≡ true = l.1 in
+    (grind (arith, nat_tests), grind (arith, nat_tests), grind (arith, nat_tests), grind (arith, nat_tests), grind (arith, nat_tests))
+
+abbrev shows_after : ℕ → Entry → ℕ
+shows_after n (ShowLocal spe at len) = n + 1
+shows_after n other = n
+
+counted-shows : (c : Counts) (e : Entry) (d : Counts) → counted c e ≡ Ok d → d.shows ≡ shows_after c.shows e
+unfolding counted
+counted-shows c Head d is = absurd cc
+counted-shows c (Lines n) d is = absurd cc
+counted-shows c (Budget n) d is = absurd cc
+counted-shows c Spe d is = sym (ap (λ (x : Counts). x.shows) (ok_same _ d (only_if-ok _ _ d is).1))
+counted-shows c (Entrance at) d is = sym (ap (λ (x : Counts). x.shows) (ok_same _ d (only_if-ok _ _ d is).1))
+counted-shows c (Code at bytes) d is = sym (ap (λ (x : Counts). x.shows) (ok_same _ d (only_if-ok _ _ d is).1))
+counted-shows c (Bytes at bytes) d is = sym (ap (λ (x : Counts). x.shows) (ok_same _ d (only_if-ok _ _ d is).1))
+counted-shows c (Source name) d is = sym (ap (λ (x : Counts). x.shows) (limited-ok _ _ d (only_if-ok _ _ d is).1).1)
+counted-shows c (ShowLocal spe at len) d is = sym (ap (λ (x : Counts). x.shows) (limited-ok _ _ d (only_if-ok _ _ d is).1).1)
+
+-- a first line with its place, and the lines behind it
+record Step (c : Counts) (e : Entry) (es : List Entry) : Type 0 where
+  next : Counts
+  is : counted c e ≡ Ok next
+  later : ends_well (admit_all (Body next) es) ≡ true
+
+body_step : (c : Counts) (e : Entry) (es : List Entry) → ends_well (admit_all (Body c) (e ∷ es)) ≡ true → Step c e es
+unfolding admit_all admit
+body_step c e es ends = by_counts (counted c e) refl ends
+  where
+    by_counts : (o : Result Counts Refusal) → counted c e ≡ o → ends_well (in_body o >>= λ n. admit_all n es) ≡ true → Step c e es
+    by_counts (Err f) o ends = absurd cc
+    by_counts (Ok d) o ends = record { next = d; is = o; later = ends }
+
+-- ---- what the lines give fits
+
+abbrev FitsPart : Part → Type 0
+FitsPart (loaded.Text at bytes) = at + length bytes ≤ 262144
+FitsPart (loaded.Data at bytes) = at + length bytes ≤ 262144
+FitsPart (loaded.Start at) = IsStart at
+FitsPart (loaded.ImageEntry at) = IsStart at
+
+abbrev FitsLoad : ℕ → Load → Type 0
+FitsLoad n load = (load.spe < n) × FitsPart load.part
+
+parts_fit : (c : Counts) (e : Entry) (images : List Image) → Within c e → TakesFit images e → Each FitsPart (parts_of (slice_get images 0) e)
+parts_fit c Head images within takes = none (slice_get images 0)
+  where
+    none : (o : Option Image) → Each FitsPart (parts_of o Head)
+    none None = tt
+    none (Some i) = tt
+parts_fit c (Lines n) images within takes = none (slice_get images 0)
+  where
+    none : (o : Option Image) → Each FitsPart (parts_of o (Lines n))
+    none None = tt
+    none (Some i) = tt
+parts_fit c (Budget n) images within takes = none (slice_get images 0)
+  where
+    none : (o : Option Image) → Each FitsPart (parts_of o (Budget n))
+    none None = tt
+    none (Some i) = tt
+parts_fit c Spe images within takes = none (slice_get images 0)
+  where
+    none : (o : Option Image) → Each FitsPart (parts_of o Spe)
+    none None = tt
+    none (Some i) = tt
+parts_fit c (ShowLocal spe at len) images within takes = none (slice_get images 0)
+  where
+    none : (o : Option Image) → Each FitsPart (parts_of o (ShowLocal spe at len))
+    none None = tt
+    none (Some i) = tt
+parts_fit c (Entrance at) images within takes = (within.1, tt)
+parts_fit c (Code at bytes) images within takes = (within.1, tt)
+parts_fit c (Bytes at bytes) images within takes = (within.1, tt)
+parts_fit c (Source name) [] within takes = tt
+parts_fit c (Source name) (image ∷ images) within takes = (omega (arith, takes.before, takes.fits), (takes.fits, ((takes.within, takes.aligned), tt)))
+
+given_fit : (n spe : ℕ) (parts : List Part) → (0 < length parts → spe < n) → Each FitsPart parts → Each (FitsLoad n) (given_to spe parts)
+given_fit n spe [] below fit = tt
+given_fit n spe (part ∷ parts) below fit = ((below (omega arith), fit.0), given_fit n spe parts (λ some. below (omega arith)) fit.1)
+
+-- a line gives something only where a processor came before
+has_processor : (c : Counts) (e : Entry) (images : List Image) → Within c e → 0 < length (parts_of (slice_get images 0) e) → 0 < c.spes
+has_processor c Head images within some = absurd (none (slice_get images 0) some)
+  where
+    none : (o : Option Image) → 0 < length (parts_of o Head) → ⊥
+    none None h = omega arith
+    none (Some i) h = omega arith
+has_processor c (Lines n) images within some = absurd (none (slice_get images 0) some)
+  where
+    none : (o : Option Image) → 0 < length (parts_of o (Lines n)) → ⊥
+    none None h = omega arith
+    none (Some i) h = omega arith
+has_processor c (Budget n) images within some = absurd (none (slice_get images 0) some)
+  where
+    none : (o : Option Image) → 0 < length (parts_of o (Budget n)) → ⊥
+    none None h = omega arith
+    none (Some i) h = omega arith
+has_processor c Spe images within some = absurd (none (slice_get images 0) some)
+  where
+    none : (o : Option Image) → 0 < length (parts_of o Spe) → ⊥
+    none None h = omega arith
+    none (Some i) h = omega arith
+has_processor c (ShowLocal spe at len) images within some = omega (arith, within.0)
+has_processor c (Entrance at) images within some = within.0
+has_processor c (Code at bytes) images within some = within.0
+has_processor c (Bytes at bytes) images within some = within.0
+has_processor c (Source name) images within some = within
+
+loads_fit : (n : ℕ) (c : Counts) (entries : List Entry) (images : List Image) → ends_well (admit_all (Body c) entries) ≡ true → AllTakeFit entries images → c.spes + spes_in entries ≤ n → Each (FitsLoad n) (loads_from c.spes entries images)
+unfolding loads_from spes_in AllTakeFit
+loads_fit n c [] images ends takes few = tt
+loads_fit n c (e ∷ es) images ends takes few =
+    let step = body_step c e es ends in
+    let within = counted-within c e step.next step.is in
+    let more : step.next.spes ≡ spes_after c.spes e = (counted-spes c e step.next step.is).counts in
+    let all : spes_after c.spes e + spes_in es ≡ c.spes + spes_after (spes_in es) e = spes_after-add c.spes (spes_in es) e in
+    let rest : Each (FitsLoad n) (loads_from step.next.spes es (images_after images e)) = loads_fit n step.next es (images_after images e) step.later takes.1 (omega (arith, more, all, few)) in
+    each-append (FitsLoad n) (given_to (c.spes - 1) (parts_of (slice_get images 0) e)) (loads_from (spes_after c.spes e) es (images_after images e))
+    (given_fit n (c.spes - 1) (parts_of (slice_get images 0) e) (λ some. let spe = has_processor c e images within some in omega (arith, spe, few)) (parts_fit c e images within takes.0))
+    (subst (λ k. Each (FitsLoad n) (loads_from k es (images_after images e))) more rest)
+
+-- ---- what is placed fits
+
+placed_fit : (n : ℕ) (loads : List Load) → Each (FitsLoad n) loads → Each (FitsStore n) (placed_of loads)
+placed_fit n [] fit = tt
+placed_fit n (load ∷ loads) fit = by_part load.part fit.0.1 (placed_fit n loads fit.1)
+  where
+    by_part : (part : Part) → FitsPart part → Each (FitsStore n) (placed_of loads) → Each (FitsStore n) (cons_option (placed_part load.spe part) (placed_of loads))
+    by_part (loaded.Text at bytes) fits rest = ((fit.0.0, fits), rest)
+    by_part (loaded.Data at bytes) fits rest = ((fit.0.0, fits), rest)
+    by_part (loaded.Start at) fits rest = rest
+    by_part (loaded.ImageEntry at) fits rest = rest
+
+-- ---- the starts are places
+
+first_fit : (P : ℕ → Type 0) (f : Load → Option ℕ) (Q : Load → Type 0) → ((load : Load) → Q load → IfSome (f load) P) → (loads : List Load) → Each Q loads → IfSome (first_of f loads) P
+unfolding first_of
+first_fit P f Q one [] fit = tt
+first_fit P f Q one (load ∷ loads) fit = by_one (f load) (one load fit.0) (first_fit P f Q one loads fit.1)
+  where
+    by_one : (o : Option ℕ) → IfSome o P → IfSome (first_of f loads) P → IfSome (option_or o (first_of f loads)) P
+    by_one None here rest = rest
+    by_one (Some at) here rest = here
+
+line_fits : (p : ℕ) (part : Part) (b : Bool) → FitsPart part → IfSome (cond b (line_start part) None) IsStart
+line_fits p (loaded.Text at bytes) true fits = tt
+line_fits p (loaded.Data at bytes) true fits = tt
+line_fits p (loaded.Start at) true fits = fits
+line_fits p (loaded.ImageEntry at) true fits = tt
+line_fits p part false fits = tt
+
+image_fits : (p : ℕ) (part : Part) (b : Bool) → FitsPart part → IfSome (cond b (image_start part) None) IsStart
+image_fits p (loaded.Text at bytes) true fits = tt
+image_fits p (loaded.Data at bytes) true fits = tt
+image_fits p (loaded.Start at) true fits = tt
+image_fits p (loaded.ImageEntry at) true fits = fits
+image_fits p part false fits = tt
+
+start_fits : (n : ℕ) (loads : List Load) (p : ℕ) → Each (FitsLoad n) loads → IsStart (start_of loads p)
+start_fits n loads p fit = by_starts (first_of (for_spe p line_start) loads) (first_of (for_spe p image_start) loads)
+    (first_fit IsStart (for_spe p line_start) (FitsLoad n) (λ load fits. line_fits p load.part (load.spe == p) fits.1) loads fit)
+    (first_fit IsStart (for_spe p image_start) (FitsLoad n) (λ load fits. image_fits p load.part (load.spe == p) fits.1) loads fit)
+  where
+    by_starts : (a b : Option ℕ) → IfSome a IsStart → IfSome b IsStart → IsStart (unwrap_or (option_or a b) 0)
+    by_starts (Some x) b f g = f
+    by_starts None (Some y) f g = g
+    by_starts None None f g = (omega arith, refl)
+
+starts_fit : (n : ℕ) (loads : List Load) (m : ℕ) → Each (FitsLoad n) loads → All IsStart (starts_of loads m)
+starts_fit n loads m fit k d within =
+    let below : k < m = omega (arith, within, length-map-range_with_len (start_of loads) 0 m) in
+    subst IsStart (sym (get_or-map-range_with_len (start_of loads) 0 m k k d below (omega arith))) (start_fits n loads k fit)
+
+-- ---- the ranges that are shown fit
+
+shows_fit : (lines n : ℕ) (c : Counts) (entries : List Entry) → ends_well (admit_all (Body c) entries) ≡ true → c.spes + spes_in entries ≤ n → Each (FitsShow lines n) (filter_map shown_range entries)
+unfolding spes_in
+shows_fit lines n c [] ends few = tt
+shows_fit lines n c (e ∷ es) ends few =
+    let step = body_step c e es ends in
+    let more : step.next.spes ≡ spes_after c.spes e = (counted-spes c e step.next step.is).counts in
+    let all : spes_after c.spes e + spes_in es ≡ c.spes + spes_after (spes_in es) e = spes_after-add c.spes (spes_in es) e in
+    by_entry e (counted-within c e step.next step.is) few (shows_fit lines n step.next es step.later (omega (arith, more, all, few)))
+  where
+    by_entry : (e : Entry) → Within c e → c.spes + spes_after (spes_in es) e ≤ n → Each (FitsShow lines n) (filter_map shown_range es) → Each (FitsShow lines n) (cons_option (shown_range e) (filter_map shown_range es))
+    by_entry (ShowLocal spe at len) within few rest = ((omega (arith, within.0, few), within.1, within.2, within.3), rest)
+    by_entry Head within few rest = rest
+    by_entry (Lines k) within few rest = rest
+    by_entry (Budget k) within few rest = rest
+    by_entry Spe within few rest = rest
+    by_entry (Entrance at) within few rest = rest
+    by_entry (Code at bytes) within few rest = rest
+    by_entry (Bytes at bytes) within few rest = rest
+    by_entry (Source name) within few rest = rest
+
+shows_few : (c : Counts) (entries : List Entry) → ends_well (admit_all (Body c) entries) ≡ true → c.shows ≤ 64 → c.shows + length (filter_map shown_range entries) ≤ 64
+shows_few c [] ends few = omega (arith, few)
+shows_few c (e ∷ es) ends few =
+    let step = body_step c e es ends in
+    by_entry e (counted-within c e step.next step.is) (counted-shows c e step.next step.is) (λ less. shows_few step.next es step.later less)
+  where
+    by_entry : (e : Entry) → Within c e → {k : ℕ} → k ≡ shows_after c.shows e → (k ≤ 64 → k + length (filter_map shown_range es) ≤ 64) → c.shows + length (cons_option (shown_range e) (filter_map shown_range es)) ≤ 64
+    by_entry (ShowLocal spe at len) within same rest = let room = within.4 in omega (arith, same, room, rest (omega (arith, same, room)))
+    by_entry Head within same rest = omega (arith, same, rest (omega (arith, same, few)))
+    by_entry (Lines k) within same rest = omega (arith, same, rest (omega (arith, same, few)))
+    by_entry (Budget k) within same rest = omega (arith, same, rest (omega (arith, same, few)))
+    by_entry Spe within same rest = omega (arith, same, rest (omega (arith, same, few)))
+    by_entry (Entrance at) within same rest = omega (arith, same, rest (omega (arith, same, few)))
+    by_entry (Code at bytes) within same rest = omega (arith, same, rest (omega (arith, same, few)))
+    by_entry (Bytes at bytes) within same rest = omega (arith, same, rest (omega (arith, same, few)))
+    by_entry (Source name) within same rest = omega (arith, same, rest (omega (arith, same, few)))
+
+-- ---- there is a processor
+
+some_from : (c : Counts) (entries : List Entry) → ends_well (admit_all (Body c) entries) ≡ true → 0 < c.spes + spes_in entries
+unfolding spes_in admit_all
+some_from c [] ends = by_count (c.spes == 0) refl ends
+  where
+    by_count : (b : Bool) → (c.spes == 0) ≡ b → is_none (cond b (Some Form) None) ≡ true → 0 < c.spes + 0
+    by_count true e ends = absurd cc
+    by_count false e ends = grind (arith, nat_tests)
+some_from c (e ∷ es) ends =
+    let step = body_step c e es ends in
+    let more : step.next.spes ≡ spes_after c.spes e = (counted-spes c e step.next step.is).counts in
+    let all : spes_after c.spes e + spes_in es ≡ c.spes + spes_after (spes_in es) e = spes_after-add c.spes (spes_in es) e in
+    omega (arith, more, all, some_from step.next es step.later)
+
+-- ---- the first three lines
+
+record Whole (entries : List Entry) : Type 0 where
+  lines : ℕ
+  budget : ℕ
+  body : List Entry
+  is : entries ≡ Head ∷ Lines lines ∷ Budget budget ∷ body
+  limits : AreMachineLimits lines budget
+  ends : ends_well (admit_all (Body nothing) body) ≡ true
+
+record Sizes (entries : List Entry) : Type 0 where
+  lines : ℕ
+  rest : List Entry
+  is : entries ≡ Lines lines ∷ rest
+  limits : (0 < lines) × (lines ≤ 32768)
+  ends : ends_well (admit_all Sized rest) ≡ true
+
+record Budgets (entries : List Entry) : Type 0 where
+  budget : ℕ
+  rest : List Entry
+  is : entries ≡ Budget budget ∷ rest
+  limits : (0 < budget) × (budget ≤ 1000000)
+  ends : ends_well (admit_all (Body nothing) rest) ≡ true
+
+sizes : (entries : List Entry) → ends_well (admit_all Headed entries) ≡ true → Sizes entries
+unfolding admit_all admit
+sizes [] ends = absurd cc
+sizes (Lines n ∷ es) ends = by_limits (nat_le 1 n && nat_le n 32768) refl ends
+  where
+    by_limits : (b : Bool) → (nat_le 1 n && nat_le n 32768) ≡ b → ends_well (limited b Sized >>= λ s. admit_all s es) ≡ true → Sizes (Lines n ∷ es)
+    by_limits false e ends = absurd cc
+    by_limits true e ends =
+        let t = both (nat_le 1 n) (nat_le n 32768) e in
+        let low : nat_le 1 n ≡ true = t.0 in
+        let high : nat_le n 32768 ≡ true = t.1 in
+        record { lines = n; rest = es; is = refl; limits = (grind (arith, nat_tests), grind (arith, nat_tests)); ends = ends }
+sizes (other ∷ es) ends = absurd cc
+
+budgets : (entries : List Entry) → ends_well (admit_all Sized entries) ≡ true → Budgets entries
+unfolding admit_all admit
+budgets [] ends = absurd cc
+budgets (Budget n ∷ es) ends = by_limits (nat_le 1 n && nat_le n 1000000) refl ends
+  where
+    by_limits : (b : Bool) → (nat_le 1 n && nat_le n 1000000) ≡ b → ends_well (limited b (Body nothing) >>= λ s. admit_all s es) ≡ true → Budgets (Budget n ∷ es)
+    by_limits false e ends = absurd cc
+    by_limits true e ends =
+        let t = both (nat_le 1 n) (nat_le n 1000000) e in
+        let low : nat_le 1 n ≡ true = t.0 in
+        let high : nat_le n 1000000 ≡ true = t.1 in
+        record { budget = n; rest = es; is = refl; limits = (grind (arith, nat_tests), grind (arith, nat_tests)); ends = ends }
+budgets (other ∷ es) ends = absurd cc
+
+whole_file : (entries : List Entry) → ends_well (admit_all Start entries) ≡ true → Whole entries
+unfolding admit_all admit
+whole_file [] ends = absurd cc
+whole_file (Head ∷ es) ends =
+    let s = sizes es ends in
+    let b = budgets s.rest s.ends in
+    record {
+      lines = s.lines;
+      budget = b.budget;
+      body = b.rest;
+      is = ap (λ xs. Head ∷ xs) (s.is ∙ ap (λ xs. Lines s.lines ∷ xs) b.is);
+      limits = (s.limits.0, s.limits.1, b.limits.0, b.limits.1);
+      ends = b.ends;
+    }
+whole_file (other ∷ es) ends = absurd cc
+
+-- ---- the whole
+
+opening_of : (lines budget n : ℕ) (loads : List Load) (shows : List Show) → AreMachineLimits lines budget → n ≤ 8 → Each (FitsLoad n) loads → Each (FitsShow lines n) shows → length shows ≤ 64
+    → IsOpening (record { lines = lines; budget = budget; entries = starts_of loads n; placed = placed_of loads; shows = shows })
+opening_of lines budget n loads shows limits few loads_fit shows_fit shown =
+    let long : length (starts_of loads n) ≡ n = starts-length loads n in
+    record {
+      limits = limits;
+      spes = omega (arith, long, few);
+      entries = starts_fit n loads n loads_fit;
+      placed = subst (λ k. All (FitsStore k) (placed_of loads)) (sym long) (all_each (FitsStore n) (placed_of loads) (placed_fit n loads loads_fit));
+      shown = shown;
+      shows = subst (λ k. All (FitsShow lines k) shows) (sym long) (all_each (FitsShow lines n) shows shows_fit);
+    }
+
+-- a line that gives nothing
+record Idle (e : Entry) : Type 0 where
+  parts : (o : Option Image) → parts_of o e ≡ []
+  images : (is : List Image) → images_after is e ≡ is
+  spes : (n : ℕ) → spes_after n e ≡ n
+
+skip_loads : (n : ℕ) (e : Entry) (es : List Entry) (images : List Image) → Idle e → loads_from n (e ∷ es) images ≡ loads_from n es images
+unfolding loads_from
+skip_loads n e es images idle =
+    ap (λ parts. given_to (n - 1) parts ++ loads_from (spes_after n e) es (images_after images e)) (idle.parts (slice_get images 0))
+    ∙ ap (λ is. loads_from (spes_after n e) es is) (idle.images images)
+    ∙ ap (λ k. loads_from k es images) (idle.spes n)
+
+skip_takes : (e : Entry) (es : List Entry) (images : List Image) → Idle e → AllTakeFit (e ∷ es) images → AllTakeFit es images
+unfolding AllTakeFit
+skip_takes e es images idle takes = subst (λ is. AllTakeFit es is) (idle.images images) takes.1
+
+idle_head : Idle Head
+idle_head = record { parts = parts; images = images; spes = λ n. refl }
+  where
+    parts : (o : Option Image) → parts_of o Head ≡ []
+    parts None = refl
+    parts (Some i) = refl
+
+    images : (is : List Image) → images_after is Head ≡ is
+    images [] = refl
+    images (i ∷ is) = refl
+
+idle_lines : (n : ℕ) → Idle (Lines n)
+idle_lines n = record { parts = parts; images = images; spes = λ k. refl }
+  where
+    parts : (o : Option Image) → parts_of o (Lines n) ≡ []
+    parts None = refl
+    parts (Some i) = refl
+
+    images : (is : List Image) → images_after is (Lines n) ≡ is
+    images [] = refl
+    images (i ∷ is) = refl
+
+idle_budget : (n : ℕ) → Idle (Budget n)
+idle_budget n = record { parts = parts; images = images; spes = λ k. refl }
+  where
+    parts : (o : Option Image) → parts_of o (Budget n) ≡ []
+    parts None = refl
+    parts (Some i) = refl
+
+    images : (is : List Image) → images_after is (Budget n) ≡ is
+    images [] = refl
+    images (i ∷ is) = refl
+
+body_opening : (lines budget : ℕ) (body : List Entry) (images : List Image) → AreMachineLimits lines budget → ends_well (admit_all (Body nothing) body) ≡ true → spes_in body ≤ 8
+    → AllTakeFit body images → IsOpening (machine_of (Head ∷ Lines lines ∷ Budget budget ∷ body) (loads_from 0 body images))
+unfolding first_of spes_in
+body_opening lines budget body images limits ends few takes =
+    let n : 0 + spes_in body ≡ spes_in body = omega arith in
+    let shown : length (filter_map shown_range body) ≤ 64 = omega (arith, shows_few nothing body ends (lit≤ tt)) in
+    opening_of lines budget (spes_in body) (loads_from 0 body images) (filter_map shown_range body) limits few
+    (loads_fit (spes_in body) nothing body images ends takes (omega (arith, n)))
+    (shows_fit lines (spes_in body) nothing body ends (omega (arith, n)))
+    shown
+
+file_opening : (lines budget : ℕ) (body : List Entry) (images : List Image) → AreMachineLimits lines budget → ends_well (admit_all (Body nothing) body) ≡ true → spes_in body ≤ 8
+    → AllTakeFit (Head ∷ Lines lines ∷ Budget budget ∷ body) images → IsOpening (machine_of (Head ∷ Lines lines ∷ Budget budget ∷ body) (loads_of (Head ∷ Lines lines ∷ Budget budget ∷ body) images))
+file_opening lines budget body images limits ends few takes =
+    let same : loads_from 0 (Head ∷ Lines lines ∷ Budget budget ∷ body) images ≡ loads_from 0 body images =
+    skip_loads 0 Head (Lines lines ∷ Budget budget ∷ body) images idle_head
+    ∙ skip_loads 0 (Lines lines) (Budget budget ∷ body) images (idle_lines lines)
+    ∙ skip_loads 0 (Budget budget) body images (idle_budget budget) in
+    let rest = skip_takes (Budget budget) body images (idle_budget budget) (skip_takes (Lines lines) (Budget budget ∷ body) images (idle_lines lines) (skip_takes Head (Lines lines ∷ Budget budget ∷ body) images idle_head takes)) in
+    subst (λ loads. IsOpening (machine_of (Head ∷ Lines lines ∷ Budget budget ∷ body) loads)) (sym same) (body_opening lines budget body images limits ends few rest)
+
+body_spes : (lines budget : ℕ) (body : List Entry) → spes_in (Head ∷ Lines lines ∷ Budget budget ∷ body) ≡ spes_in body
+unfolding spes_in
+body_spes lines budget body = refl
+
+pub is_opening : (entries : List Entry) (images : List Image) → IsMachine entries → AllTakeFit entries images → IsOpening (machine_of entries (loads_of entries images))
+is_opening entries images whole takes =
+    let w = whole_file entries whole in
+    let few : spes_in w.body ≤ 8 = omega (arith, few_spes entries whole, ap spes_in w.is, body_spes w.lines w.budget w.body) in
+    subst (λ es. IsOpening (machine_of es (loads_of es images))) (sym w.is)
+    (file_opening w.lines w.budget w.body images w.limits w.ends few (subst (λ es. AllTakeFit es images) w.is takes))
+
+pub some_spes : (entries : List Entry) → IsMachine entries → 0 < spes_in entries
+some_spes entries whole =
+    let w = whole_file entries whole in
+    omega (arith, ap spes_in w.is, body_spes w.lines w.budget w.body, some_from nothing w.body w.ends)

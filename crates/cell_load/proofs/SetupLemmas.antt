@@ -1,0 +1,47 @@
+-- A setup as it is made.
+use Rattle.std.proofs.Common.{◌≡◌, ◌≤◌, ◌<◌, ◌+◌, ℕ, length, List, [], ◌∷◌, ◌++◌, slice_set, Option, Some, None, sym, ap, subst, ◌∙◌, arith}
+use Rattle.std.specs.Prelude.{All, IfSome}
+use Rattle.std.specs.Option.{option_to_list}
+use Rattle.std.proofs.lemmas.List.{append_assoc, length-append}
+use Rattle.std.proofs.lemmas.List.FromFn.{get_or-map-range_with_len, length-map-range_with_len, map-range_with_len_more}
+use Rattle.std.proofs.Math.Seq.{set-append_seam}
+use Rattle.cell_machine.specs.Opening.{Opening, Placed}
+use Rattle.cell_machine.specs.declared.setup.Show.{Show}
+use Rattle.cell_machine.specs.Limits.{FitsShow, MayShow}
+use Rattle.cell_load.specs.Loaded.{Load, start_of, starts_of}
+
+pub added_spe : (S T U : Opening) (n at : ℕ) → n ≡ length S.entries → T ≡ record S { entries = S.entries ++ 0 ∷ [] } → U ≡ record T { entries = slice_set T.entries n at } → U ≡ record S { entries = S.entries ++ at ∷ [] }
+added_spe S T U n at here first next =
+    next ∙ ap (λ (V : Opening). record V { entries = slice_set V.entries n at }) first
+    ∙ ap (λ es. record S { entries = es }) (ap (λ k. slice_set (S.entries ++ 0 ∷ []) k at) here ∙ set-append_seam S.entries 0 [] at)
+
+pub next_start : (S T U : Opening) (loads : List Load) (n : ℕ) → T ≡ record S { entries = starts_of loads n } → U ≡ record T { entries = T.entries ++ start_of loads n ∷ [] } → U ≡ record S { entries = starts_of loads (n + 1) }
+next_start S T U loads n so_far next =
+    next ∙ ap (λ (V : Opening). record V { entries = V.entries ++ start_of loads n ∷ [] }) so_far
+    ∙ ap (λ es. record S { entries = es }) (sym (map-range_with_len_more (start_of loads) 0 n n (omega arith)))
+
+pub starts-length : (loads : List Load) (n : ℕ) → length (starts_of loads n) ≡ n
+starts-length loads n = length-map-range_with_len (start_of loads) 0 n
+
+pub start_at : (P : ℕ → Type 0) (loads : List Load) (n k : ℕ) → All P (starts_of loads n) → k < n → P (start_of loads k)
+start_at P loads n k all within =
+    let long : k < length (starts_of loads n) = omega (arith, starts-length loads n) in
+    subst P (get_or-map-range_with_len (start_of loads) 0 n k k 0 within (omega arith)) (all k 0 long)
+
+pub next_placed : (S T U : Opening) (front more all : List Placed) → T ≡ record S { placed = S.placed ++ front } → U ≡ record T { placed = T.placed ++ more } → all ≡ front ++ more → U ≡ record S { placed = S.placed ++ all }
+next_placed S T U front more all so_far next is =
+    next ∙ ap (λ (V : Opening). record V { placed = V.placed ++ more }) so_far
+    ∙ ap (λ ps. record S { placed = ps }) (append_assoc S.placed front more ∙ ap (λ ps. S.placed ++ ps) (sym is))
+
+pub next_shown : (S T U : Opening) (front more all : List Show) → T ≡ record S { shows = S.shows ++ front } → U ≡ record T { shows = T.shows ++ more } → all ≡ front ++ more → U ≡ record S { shows = S.shows ++ all }
+next_shown S T U front more all so_far next is =
+    next ∙ ap (λ (V : Opening). record V { shows = V.shows ++ more }) so_far
+    ∙ ap (λ ps. record S { shows = ps }) (append_assoc S.shows front more ∙ ap (λ ps. S.shows ++ ps) (sym is))
+
+-- one more range may be shown
+pub may_show : (S T : Opening) (front : List Show) (o : Option Show) (most : ℕ) → T ≡ record S { shows = S.shows ++ front } → length (front ++ option_to_list o) ≤ most → length S.shows + most ≤ 64 → IfSome o (FitsShow S.lines (length S.entries)) → IfSome o (MayShow T)
+may_show S T front None most is few room fits = tt
+may_show S T front (Some s) most is few room fits =
+    let long : length (front ++ s ∷ []) ≡ length front + 1 = length-append front (s ∷ []) in
+    let all : length (S.shows ++ front) ≡ length S.shows + length front = length-append S.shows front in
+    subst (λ (V : Opening). MayShow V s) (sym is) (omega (arith, few, long, all), fits)

@@ -1,0 +1,85 @@
+-- Where the lines of a machine file may stand, and the limits of their numbers and counts.
+use Rattle.std.specs.Prelude.{ℕ, ◌+◌, ◌%◌, ◌==◌, ◌&&◌, not, nat_lt, nat_le, Bool, true, false, List, [], ◌∷◌, length, Option, Some, None, is_none, Result, Ok, Err, if◌then◌else◌, IsTrue}
+use Rattle.cell_base.specs.Words.{lines_of, words_of}
+use Rattle.cell_base.specs.Walk.{walk}
+use Rattle.cell_load.specs.declared.line.Refusal.{Refusal}
+use Rattle.cell_load.specs.declared.line.Refusal.TheVariants.{Form, Limit}
+use Rattle.cell_load.specs.declared.line.Counts.{Counts}
+use Rattle.cell_load.specs.declared.line.Stage.{Stage}
+use Rattle.cell_load.specs.declared.line.Stage.TheVariants.{Start, Headed, Sized, Body}
+use Rattle.cell_load.specs.Entries.{Entry, Head, Lines, Budget, Spe, Entrance, Code, Bytes, Source, ShowLocal}
+use Rattle.cell_load.specs.Form.{◌>>=◌, line_says}
+
+abbrev pub only_if : {A : Type 0} → Bool → Result A Refusal → Result A Refusal
+only_if holds next = if holds then next else Err Form
+
+abbrev pub limited : {A : Type 0} → Bool → A → Result A Refusal
+limited within next = if within then Ok next else Err Limit
+
+-- the bytes from a place on lie in a local store
+abbrev pub in_local : ℕ → ℕ → Bool
+in_local at len = nat_le (at + len) 262144
+
+-- a processor came before
+abbrev pub has_spe : Counts → Bool
+has_spe c = nat_lt 0 c.spes
+
+abbrev pub nothing : Counts
+nothing = record { spes = 0; entry = false; sources = 0; shows = 0 }
+
+-- the counts after a line that stands behind the first three
+unfoldable pub counted : Counts → Entry → Result Counts Refusal
+counted c Spe = only_if (c.spes == 0) (Ok (record c { spes = c.spes + 1; entry = false }))
+counted c (Entrance at) = only_if (has_spe c && not c.entry && at % 4 == 0 && nat_lt at 262144) (Ok (record c { entry = true }))
+counted c (Code at bytes) = only_if (has_spe c && at % 4 == 0 && length bytes % 4 == 0 && in_local at (length bytes)) (Ok c)
+counted c (Bytes at bytes) = only_if (has_spe c && in_local at (length bytes)) (Ok c)
+counted c (Source name) = only_if (has_spe c) (limited (nat_lt c.sources 32) (record c { sources = c.sources + 1 }))
+counted c (ShowLocal spe at len) = only_if (nat_lt spe c.spes && in_local at len) (limited (nat_le 1 len && nat_le len 4096 && nat_lt c.shows 64) (record c { shows = c.shows + 1 }))
+counted c first_three = Err Form
+
+abbrev pub in_body : Result Counts Refusal → Result Stage Refusal
+in_body (Ok c) = Ok (Body c)
+in_body (Err e) = Err e
+
+-- the stage after a line, or why it has no place
+unfoldable pub admit : Stage → Entry → Result Stage Refusal
+admit Start Head = Ok Headed
+admit Headed (Lines n) = limited (nat_le 1 n && nat_le n 32768) Sized
+admit Sized (Budget n) = limited (nat_le 1 n && nat_le n 1000000) (Body nothing)
+admit (Body c) entry = in_body (counted c entry)
+admit stage other = Err Form
+
+-- what the file still lacks at its end: it has at least one processor
+abbrev pub lacks : Stage → Option Refusal
+lacks (Body c) = if c.spes == 0 then Some Form else None
+lacks stage = Some Form
+
+abbrev pub words_step : Stage → List (List ℕ) → Result (Option (Entry × Stage)) Refusal
+words_step stage [] = Ok None
+words_step stage (w ∷ ws) = do
+  entry ← line_says w ws
+  next ← admit stage entry
+  Ok (Some (entry, next))
+
+-- a line without words is skipped
+unfoldable pub line_step : Stage → List ℕ → Result (Option (Entry × Stage)) Refusal
+line_step stage line = words_step stage (words_of line)
+
+-- what the lines of the text say, or the first line that has no place and why
+abbrev pub machine_at : List ℕ → Result (List Entry) (ℕ × Refusal)
+machine_at text = walk line_step lacks 1 Start (lines_of text)
+
+-- the stage after these lines, or why the first that has no place has none
+unfoldable pub admit_all : Stage → List Entry → Result Stage Refusal
+admit_all stage [] = Ok stage
+admit_all stage (entry ∷ entries) = do
+  next ← admit stage entry
+  admit_all next entries
+
+abbrev pub ends_well : Result Stage Refusal → Bool
+ends_well (Ok stage) = is_none (lacks stage)
+ends_well (Err e) = false
+
+-- these lines are a whole machine file: each has its place, and nothing is missing
+abbrev pub IsMachine : List Entry → Type 0
+IsMachine entries = IsTrue (ends_well (admit_all Start entries))

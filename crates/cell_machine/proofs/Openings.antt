@@ -1,0 +1,81 @@
+-- How a machine begins.
+use Rattle.std.proofs.Common.{◌≡◌, ◌≢◌, ℕ, zero, suc, ◌<◌, ◌≤◌, ◌+◌, ◌==◌, true, false, List, [], ◌∷◌, ◌++◌, map, length, arith, refl, sym, subst, ◌∙◌, slice_index_or, ap, take, drop}
+use Rattle.std.specs.Prelude.{All}
+use Rattle.std.specs.List.{enumerate_from}
+use Rattle.std.proofs.lemmas.Bool.Decides.{nat_tests}
+use Rattle.std.proofs.Math.Seq.{drop-cons}
+use Rattle.std.proofs.Math.ListN.{get_or-map, length-map}
+use Rattle.cell_base.specs.Bytes.{put}
+use Rattle.cell_base.specs.declared.steps.Step.{Step}
+use Rattle.cell_machine.specs.Opening.{Opening, opening, opening_spe, opening_spes, Placed, placed_in}
+use Rattle.cell_machine.specs.Run.{replay}
+use Rattle.cell_machine.specs.Shows.{AllTwo, ShowsSpe, IsMachine}
+use Rattle.cell_machine.proofs.AllTwo.{two_length}
+use Rattle.cell_machine.specs.declared.processor.Processor.{Processor}
+use Rattle.cell_machine.specs.Limits.{shown, IsOpening, FitsStore}
+use Rattle.cell_machine.specs.declared.setup.PlacedBytes.{PlacedBytes}
+
+abbrev pub shown_one : PlacedBytes → Placed
+shown_one x = record { spe = x.spe; at = x.at; bytes = x.bytes.items }
+
+-- what is left from place i on begins with the piece there
+pub drop-shown : (pieces : List PlacedBytes) (i : ℕ) (x : PlacedBytes) → i < length pieces → x ≡ slice_index_or pieces i x → drop i (shown pieces) ≡ shown_one x ∷ drop (i + 1) (shown pieces)
+drop-shown pieces i x h at =
+    let within : i < length (shown pieces) = rw length-map h in
+    let e : suc i ≡ i + 1 = omega arith in
+    drop-cons (shown pieces) i (shown_one x) within
+    ∙ ap (λ y. y ∷ drop (suc i) (shown pieces)) (get_or-map shown_one pieces i x ∙ ap shown_one (sym at))
+    ∙ ap (λ k. shown_one x ∷ drop k (shown pieces)) e
+
+-- a piece of this processor is written, and one of another isn't
+pub placed-own : (store : List ℕ) (p : ℕ) (x : Placed) (rest : List Placed) → x.spe ≡ p → placed_in store p (x ∷ rest) ≡ placed_in (put store x.at x.bytes) p rest
+placed-own store p x rest same = let e : (x.spe == p) ≡ true = grind (arith, nat_tests) in rw e refl
+
+pub placed-other : (store : List ℕ) (p : ℕ) (x : Placed) (rest : List Placed) → x.spe ≢ p → placed_in store p (x ∷ rest) ≡ placed_in store p rest
+placed-other store p x rest differs = let e : (x.spe == p) ≡ false = grind (arith, nat_tests) in rw e refl
+
+-- one more processor
+spes-suc : {A : Type 0} (f : ℕ × ℕ → A) (n i : ℕ) (entries : List ℕ) → i < length entries
+    → map f (enumerate_from n (take (suc i) entries)) ≡ map f (enumerate_from n (take i entries)) ++ f (n + i, slice_index_or entries i 0) ∷ []
+spes-suc f n i [] h = absurd (omega arith)
+spes-suc f n zero (e ∷ entries) h = let same : n ≡ n + 0 = omega arith in ap (λ k. f (k, e) ∷ []) same
+spes-suc f n (suc i) (e ∷ entries) h =
+    let same : n + 1 + i ≡ n + suc i = omega arith in
+    ap (λ xs. f (n, e) ∷ xs) (spes-suc f (n + 1) i entries (omega arith))
+    ∙ ap (λ k. f (n, e) ∷ (map f (enumerate_from (n + 1) (take i entries)) ++ f (k, slice_index_or entries i 0) ∷ [])) same
+
+pub spes-more : {A : Type 0} (f : ℕ × ℕ → A) (i : ℕ) (entries : List ℕ) → i < length entries
+    → map f (enumerate_from 0 (take (i + 1) entries)) ≡ map f (enumerate_from 0 (take i entries)) ++ f (i, slice_index_or entries i 0) ∷ []
+spes-more f i entries h =
+    let e : i + 1 ≡ suc i = omega arith in
+    let z : 0 + i ≡ i = omega arith in
+    ap (λ k. map f (enumerate_from 0 (take k entries))) e ∙ spes-suc f 0 i entries h
+    ∙ ap (λ k. map f (enumerate_from 0 (take i entries)) ++ f (k, slice_index_or entries i 0) ∷ []) z
+
+-- what holds of the pieces that are shown holds of those of the code
+pub fits-shown : (n : ℕ) (pieces : List PlacedBytes) → All (FitsStore n) (shown pieces) → All (λ x. x.at + length x.bytes.items ≤ 262144) pieces
+fits-shown n pieces all k d h =
+    let within : k < length (shown pieces) = rw length-map h in
+    let fits = subst (FitsStore n) (get_or-map shown_one pieces k d) (all k (shown_one d) within) in
+    fits.1
+
+length-enumerate : {A : Type 0} (f : ℕ × ℕ → A) (n : ℕ) (xs : List ℕ) → length (map f (enumerate_from n xs)) ≡ length xs
+length-enumerate f n [] = refl
+length-enumerate f n (x ∷ xs) = ap suc (length-enumerate f (n + 1) xs)
+
+-- a machine at its start
+pub machine-new : (S : Opening) (processors : List Processor) (steps : List Step) (capacity : ℕ) → IsOpening S
+    → AllTwo ShowsSpe processors (opening_spes S) → steps ≡ [] → S.budget ≤ capacity → IsMachine S steps capacity processors
+unfolding opening
+machine-new S processors steps capacity is shows none room =
+    let many : length processors ≡ length S.entries = sym (two_length ShowsSpe processors (opening_spes S) shows) ∙ length-enumerate (opening_spe S) 0 S.entries in
+    record {
+      room = room;
+      within = rw none (omega arith);
+      small = is.limits.3;
+      many = let h = is.spes in omega arith;
+      count = many;
+      state = opening S;
+      replayed = ap (replay (opening S)) none;
+      shown = record { spes = shows };
+    }

@@ -1,0 +1,106 @@
+-- A run goes on by one step.
+use Rattle.std.proofs.Common.{◌≡◌, slice_index_or, ℕ, ◌+◌, ◌<◌, ◌≤◌, List, [], ◌∷◌, ◌++◌, length, arith, refl, sym, subst, ◌∙◌, ap, length-append, suc, add-zero, zero-add}
+use Rattle.std.specs.Prelude.{Option, Some, None, IsSomeAnd, option_map, option_and_then}
+use Rattle.cell_base.specs.declared.steps.Step.{Step}
+use Rattle.cell_machine.specs.declared.processor.Processor.{Processor}
+use Rattle.cell_machine.specs.Spe.{Spe}
+use Rattle.cell_machine.specs.State.{State}
+use Rattle.cell_machine.specs.Next.{act, next, ended_by}
+use Rattle.cell_machine.specs.Opening.{Opening, opening}
+use Rattle.cell_machine.specs.Run.{Ran, replay, spe_of, state_of}
+use Rattle.cell_machine.specs.Tags.{settled}
+use Rattle.cell_machine.specs.Shows.{Shows, ShowsSpe, IsMachine}
+use Rattle.cell_machine.proofs.AllTwo.{two_at, two_map, some_map, some_and}
+
+none_last : (o : Option State) → option_and_then (λ N. Some N) o ≡ o
+none_last None = refl
+none_last (Some N) = refl
+
+through : (o : Option State) (steps : List Step) (s : Step) → ((N : State) → replay N (steps ++ s ∷ []) ≡ option_and_then (λ K. next K s) (replay N steps))
+    → option_and_then (λ N. replay N (steps ++ s ∷ [])) o ≡ option_and_then (λ N. next N s) (option_and_then (λ N. replay N steps) o)
+through None steps s h = refl
+through (Some N) steps s h = h N
+
+pub replay-snoc : (M : State) (steps : List Step) (s : Step) → replay M (steps ++ s ∷ []) ≡ option_and_then (λ N. next N s) (replay M steps)
+replay-snoc M [] s = none_last (next M s)
+replay-snoc M (t ∷ steps) s = through (next M t) steps s (λ N. replay-snoc N steps s)
+
+-- the record has the steps that were made
+ended-steps : (M : State) (s : Step) (o : Option State) (N : State) → option_map (ended_by M s) o ≡ Some N → N.steps ≡ M.steps ++ s ∷ []
+ended-steps M s None N h = absurd (cc)
+ended-steps M s (Some K) N h = let e : ended_by M s K ≡ N = cc in ap (λ (L : State). L.steps) (sym e)
+
+pub replay-length : (M : State) (steps : List Step) (N : State) → replay M steps ≡ Some N → length N.steps ≡ length M.steps + length steps
+replay-length M [] N h = let e : M ≡ N = cc in ap (λ (L : State). length L.steps) (sym e) ∙ sym (add-zero (length M.steps))
+replay-length M (s ∷ steps) N h = on (next M s) refl h (λ K. replay-length K steps N)
+  where
+    on : (o : Option State) → next M s ≡ o → option_and_then (λ K. replay K steps) o ≡ Some N
+        → ((K : State) → replay K steps ≡ Some N → length N.steps ≡ length K.steps + length steps) → length N.steps ≡ length M.steps + suc (length steps)
+    on None e g k = absurd (cc)
+    on (Some K) e g k =
+        let grown : length K.steps ≡ length (M.steps ++ s ∷ []) = ap length (ended-steps M s (act M s) K e) in
+        let one : length K.steps ≡ length M.steps + 1 = grown ∙ length-append M.steps (s ∷ []) in
+        let rest : length N.steps ≡ length K.steps + length steps = k K g in
+        omega arith
+
+shows-settled : (x : Processor) (P : Spe) → ShowsSpe x P → ShowsSpe x (settled P)
+shows-settled x P shows = shows
+
+-- what each step does at its end changes nothing that is shown
+pub shows-ended : (processors : List Processor) (M : State) (s : Step) (N : State) → Shows processors N → Shows processors (ended_by M s N)
+shows-ended processors M s N shows = record {
+  spes = two_map ShowsSpe settled processors N.spes shows-settled shows.spes;
+}
+
+-- an allowed step takes a machine to a machine
+pub machine-step : (setup : Opening) (steps : List Step) (capacity : ℕ) (processors new : List Processor) (s : Step) (room : ℕ)
+    → (old : IsMachine setup steps capacity processors)
+    → IsSomeAnd (act old.state s) (Shows new) → length new ≡ length processors → length steps < setup.budget → capacity ≤ room
+    → IsMachine setup (steps ++ s ∷ []) room new
+machine-step setup steps capacity processors new s room old did same within grown =
+    let end = some_and (next old.state s) (Shows new) (some_map (ended_by old.state s) (act old.state s) (Shows new) (Shows new) (shows-ended new old.state s) did) in
+    record {
+      room = omega arith;
+      within = simp length-append (omega arith);
+      small = old.small;
+      many = omega arith;
+      count = same ∙ old.count;
+      state = end.0;
+      replayed = replay-snoc (opening setup) steps s ∙ rw old.replayed end.1;
+      shown = end.2;
+    }
+
+-- the processor at p is that of the state that the machine stands for
+pub machine-spe : (setup : Opening) (steps : List Step) (capacity : ℕ) (processors : List Processor) (m : Ran) (p : ℕ) (x : Processor) (Q : Spe → Type 0)
+    → IsMachine setup steps capacity processors → record { setup = setup; steps = steps } ≡ m → p < length m.setup.entries → x ≡ slice_index_or processors p x
+    → ((P : Spe) → ShowsSpe x P → Q P)
+    → IsSomeAnd (spe_of m p) Q
+machine-spe setup steps capacity processors m p x Q is view h at k =
+    let two = two_at ShowsSpe processors is.state.spes p x is.shown.spes (let e : length setup.entries ≡ length m.setup.entries = ap (λ (n : Ran). length n.setup.entries) view in omega arith) in
+    subst (λ n. IsSomeAnd (spe_of n p) Q) view (rw (is.replayed, two.1) (k two.0 (subst (λ y. ShowsSpe y two.0) (sym at) two.2)))
+
+-- at the start no step was made
+pub opening-steps : (S : Opening) → (opening S).steps ≡ []
+unfolding opening
+opening-steps S = refl
+
+-- the record of a run's state has its steps
+pub run-length : (S : Opening) (steps : List Step) (M : State) → replay (opening S) steps ≡ Some M → length M.steps ≡ length steps
+run-length S steps M h = replay-length (opening S) steps M h ∙ ap (λ xs. length xs + length steps) (opening-steps S) ∙ zero-add (length steps)
+
+-- what holds of each state that the processors show, with so many steps, holds of the state that the machine stands for
+pub machine-state : (setup : Opening) (steps : List Step) (capacity : ℕ) (processors : List Processor) (m : Ran) (Q : State → Type 0)
+    → IsMachine setup steps capacity processors → record { setup = setup; steps = steps } ≡ m
+    → ((M : State) → Shows processors M → length M.steps ≡ length steps → Q M)
+    → IsSomeAnd (state_of m) Q
+machine-state setup steps capacity processors m Q is view k =
+    let long : length is.state.steps ≡ length steps = run-length setup steps is.state is.replayed in
+    subst (λ n. IsSomeAnd (state_of n) Q) view (rw is.replayed (k is.state is.shown long))
+
+-- and what is computed of each is computed of it
+pub machine-computes : {A : Type 0} (setup : Opening) (steps : List Step) (capacity : ℕ) (processors : List Processor) (m : Ran) (f : State → Option A) (r : Option A)
+    → IsMachine setup steps capacity processors → record { setup = setup; steps = steps } ≡ m
+    → ((M : State) → Shows processors M → r ≡ f M)
+    → r ≡ option_and_then f (state_of m)
+machine-computes setup steps capacity processors m f r is view k =
+    subst (λ n. r ≡ option_and_then f (state_of n)) view (rw is.replayed (k is.state is.shown))

@@ -1,0 +1,30 @@
+-- One instruction of one processor.
+use Rattle.std.specs.Prelude.{if◌then◌else◌, Option, Some, None}
+use Rattle.spu_decode.specs.declared.Instr.{Instr}
+use Rattle.spu_decode.specs.Spelling.{instr_of}
+use Rattle.spu_exec.specs.declared.flow.Flow.{Flow}
+use Rattle.spu_exec.specs.declared.flow.Flow.TheVariants.{Next, Stop, Halt, Channel}
+use Rattle.spu_exec.specs.Meaning.{meaning, Outcome}
+use Rattle.local_store.specs.Store.{word_at}
+use Rattle.cell_machine.specs.declared.status.Status.TheVariants.{Stopped, Halted, BadWord}
+use Rattle.cell_machine.specs.Spe.{Spe, is_running}
+use Rattle.cell_machine.specs.Channels.{channel}
+
+-- what comes after the instruction
+abbrev pub followed : Spe → Flow → Option Spe
+followed P (Next pc) = Some (record P { pc = pc })
+followed P (Stop code next) = Some (record P { status = Stopped code; pc = next })
+followed P (Halt next) = Some (record P { status = Halted; pc = next })
+followed P (Channel op) = channel P op
+
+abbrev pub outcome : Spe → Outcome → Option Spe
+outcome P o = followed (record P { registers = o.regs; store = o.store }) o.flow
+
+-- a word that spells no instruction is a bad word, with the PC at it
+abbrev pub exec_instr : Spe → Option Instr → Option Spe
+exec_instr P None = Some (record P { status = BadWord })
+exec_instr P (Some i) = outcome P (meaning i P.pc P.registers P.store)
+
+-- P after its next instruction, None where that isn't allowed
+unfoldable pub exec : Spe → Option Spe
+exec P = if is_running P.status then exec_instr P (instr_of (word_at P.store P.pc)) else None

@@ -1,0 +1,14 @@
+pub mod Spe
+pub mod State
+pub mod Moves
+pub mod Tags
+pub mod Channels
+pub mod Exec
+pub mod Transfers
+pub mod Atomic
+pub mod Hosts
+pub mod Next
+pub mod Opening
+pub mod Limits
+pub mod Run
+pub mod Shows

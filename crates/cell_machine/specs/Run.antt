@@ -1,0 +1,95 @@
+-- Runs of the written machine, and how they end.
+use Rattle.std.specs.Prelude.{◌≡◌, ℕ, ◌<◌, ◌≤◌, ◌%◌, Bool, true, false, ◌==◌, nat_lt, if◌then◌else◌, List, [], ◌∷◌, ◌++◌, length, map, filter, flat_map, Option, Some, None, is_some, IsSome, slice_get}
+use Rattle.std.specs.List.{list_all, range_with_len}
+use Rattle.std.specs.Option.{option_and_then}
+use Rattle.cell_base.specs.declared.steps.Actor.{Actor}
+use Rattle.cell_base.specs.declared.steps.Actor.TheVariants.{Spu, Mfc, Host as TheHost}
+use Rattle.cell_base.specs.declared.steps.Step.{Step}
+use Rattle.cell_base.specs.declared.steps.Step.TheVariants.{Exec, Atomic, Host}
+use Rattle.cell_machine.specs.declared.status.End.{End}
+use Rattle.cell_machine.specs.declared.status.End.TheVariants.{AllStopped, Stuck, Budget}
+use Rattle.cell_machine.specs.Spe.{Spe, is_running}
+use Rattle.cell_machine.specs.State.{State}
+use Rattle.cell_machine.specs.Moves.{outstanding}
+use Rattle.cell_machine.specs.Next.{next}
+use Rattle.cell_machine.specs.Opening.{Opening, opening}
+
+-- the state after these steps, None where one isn't allowed
+abbrev pub replay : State → List Step → Option State
+replay M [] = Some M
+replay M (s ∷ steps) = option_and_then (λ N. replay N steps) (next M s)
+
+-- what a Machine stands for: a setup, and the steps of a run from it
+pub record Ran : Type 0 where
+  pub setup : Opening
+  pub steps : List Step
+
+-- the steps are a run from the setup
+abbrev pub IsRun : Opening → List Step → Type 0
+IsRun setup steps = IsSome (replay (opening setup) steps) × (length steps ≤ setup.budget)
+
+abbrev pub state_of : Ran → Option State
+state_of m = replay (opening m.setup) m.steps
+
+-- the state of processor p
+abbrev pub spe_of : Ran → ℕ → Option Spe
+spe_of m p = option_and_then (λ M. slice_get M.spes p) (state_of m)
+
+-- the state after one more step, None where the budget is spent or the step isn't allowed
+abbrev pub next_of : Ran → Step → Option State
+next_of m s = if nat_lt (length m.steps) m.setup.budget then option_and_then (λ M. next M s) (state_of m) else None
+
+-- the steps that a processor's flow controller can come to make, in order: its atomic command, and then its queued ones
+abbrev pub steps_of_mfc : ℕ → List Step
+steps_of_mfc p = Atomic p ∷ []
+
+-- the steps that an actor can come to make, in order
+abbrev pub steps_of : State → Actor → List Step
+steps_of M (Spu p) = Exec p ∷ []
+steps_of M (Mfc p) = steps_of_mfc p
+steps_of M TheHost = Host ∷ []
+
+-- those of them that are allowed
+abbrev pub allowed : State → Actor → List Step
+allowed M actor = filter (λ s. is_some (next M s)) (steps_of M actor)
+
+-- all actors, in order
+abbrev pub actors : State → List Actor
+actors M =
+    map Spu (range_with_len 0 (length M.spes)) ++ map Mfc (range_with_len 0 (length M.spes)) ++ TheHost ∷ []
+
+-- the allowed step at the place that is the choice's remainder
+abbrev pub picked : State → Actor → ℕ → Option Step
+picked M actor choice = slice_get (allowed M actor) (choice % length (allowed M actor))
+
+-- the first allowed step of the first actor that has one
+abbrev pub first_allowed : State → Option Step
+first_allowed M = slice_get (flat_map (allowed M) (actors M)) 0
+
+abbrev pub HasEnded : State → Type 0
+HasEnded M = (s : Step) → next M s ≡ None
+
+abbrev pub CanGoOn : State → Type 0
+CanGoOn M = (s : Step) × IsSome (next M s)
+
+-- whether no processor runs and no command is outstanding
+abbrev pub is_quiet_spe : Spe → Bool
+is_quiet_spe P = if is_running P.status then false else length (outstanding P) == 0
+
+abbrev pub is_quiet : State → Bool
+is_quiet M = list_all is_quiet_spe M.spes
+
+-- the end word of a machine with this budget, None where it is open
+abbrev pub IsEnd : State → ℕ → Option End → Type 0
+IsEnd M budget (Some AllStopped) = HasEnded M × (is_quiet M ≡ true)
+IsEnd M budget (Some Stuck) = HasEnded M × (is_quiet M ≡ false)
+IsEnd M budget (Some Budget) = CanGoOn M × (length M.steps ≡ budget)
+IsEnd M budget None = CanGoOn M × (length M.steps < budget)
+
+-- what these choose under the budget
+abbrev pub picked_of : Ran → Actor → ℕ → Option Step
+picked_of m actor choice =
+    if nat_lt (length m.steps) m.setup.budget then option_and_then (λ M. picked M actor choice) (state_of m) else None
+
+abbrev pub first_of : Ran → Option Step
+first_of m = if nat_lt (length m.steps) m.setup.budget then option_and_then first_allowed (state_of m) else None

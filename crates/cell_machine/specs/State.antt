@@ -1,0 +1,12 @@
+-- The state of the written machine.
+use Rattle.std.specs.Prelude.{ℕ, List, slice_set}
+use Rattle.cell_base.specs.declared.steps.Step.{Step}
+use Rattle.cell_machine.specs.Spe.{Spe}
+
+pub record State : Type 0 where
+  pub spes : List Spe
+  pub steps : List Step  -- the record: the steps made so far, in their order
+
+-- M with this in place of its processor p
+abbrev pub with_spe : State → ℕ → Spe → State
+with_spe M p P = record M { spes = slice_set M.spes p P }

@@ -1,0 +1,14 @@
+//! The machine: processors that execute instructions of their local stores, one atomic step at a time, and the record of those steps.
+#![tactic(auto)]
+
+mod error;
+mod machine;
+mod processor;
+mod setup;
+mod status;
+
+pub use error::MachineError;
+pub use machine::Machine;
+pub use mfc_command::DmaFault;
+pub use setup::{Setup, SetupError, Show};
+pub use status::{End, Refused, Status};

@@ -1,0 +1,264 @@
+//! The whole machine.
+
+ghost use Rattle.std.specs.Prelude.{◌≡◌, ℕ, ◌+◌, ◌<◌, ◌≤◌, ◌↔◌, Bool, [], ◌∷◌, ◌++◌, Some, None, length, IfOk, IsOk, OnErr, OnOk, IsSome, IsSomeAnd, IfSome, IfNone, MatchBool, All};
+ghost use Rattle.cell_base.specs.declared.steps.Step.{Step};
+ghost use Rattle.cell_machine.specs.State.{State};
+ghost use Rattle.cell_machine.specs.Next.{act};
+ghost use Rattle.spu_exec.specs.Places.{IsPlace};
+ghost use Rattle.spu_regs.specs.Registers.{register};
+ghost use Rattle.cell_machine.specs.Opening.{Opening, opening_spes};
+ghost use Rattle.cell_machine.specs.Limits.{shown};
+ghost use Rattle.cell_machine.specs.Run.{Ran, IsRun, state_of, next_of, spe_of, picked_of, first_of, first_allowed, picked, is_quiet, IsEnd};
+ghost use Rattle.cell_machine.specs.Shows.{Shows, AllTwo, ShowsSpe};
+
+use crate::error::MachineError;
+use crate::processor::Processor;
+use crate::setup::{PlacedBytes, Setup};
+use crate::status::{End, Refused, Status};
+use cell_base::{Actor, Quad, Step};
+use local_store::LocalStore;
+use std::alloc::Global;
+use std::marker::Model;
+
+/// A machine, which stands for a run from its setup.
+#[derive(Drop)]
+pub struct Machine {
+    setup: Setup,
+    processors: Vec<Processor>,
+    steps: Vec<Step>,
+}
+
+impl Model for Machine {
+    ghost use Rattle.std.specs.Prelude.{vec_capacity};
+    ghost use Rattle.cell_machine.specs.Run.{Ran};
+
+    ghost Value = { Ran };
+
+    ghost use Rattle.cell_machine.specs.Shows.{IsMachine};
+
+    ghost view = { λ a. record { setup = a.setup; steps = a.steps.items } };
+
+    ghost invariant = { λ a. IsMachine a.setup a.steps.items (vec_capacity a.steps) a.processors.items };
+}
+
+/// Does the step, or leaves all as it is where it isn't allowed.
+fn act(processors: &mut [Processor], s: Step) -> bool
+    ensures { (M : State) → Shows processors.old M → MatchBool result (IsSomeAnd (act M s) (Shows processors.new)) ((act M s ≡ None) × (processors.new ≡ processors.old)) }
+{
+    match s {
+        Step::Exec { spe } => {
+            if spe as usize >= processors.len() {
+                return false;
+            }
+            processors[spe as usize].exec()
+        }
+        Step::Piece { .. } => false,
+        Step::Elem { .. } => false,
+        Step::Retire { .. } => false,
+        Step::Atomic { .. } => false,
+        Step::Host => false,
+    }
+}
+
+/// The processors at the start.
+fn opening_processors(
+    alloc: Global,
+    entries: &[u32],
+    placed: &[PlacedBytes],
+) -> Result<Vec<Processor>, MachineError>
+    requires many { length entries.now ≤ 8 }
+    requires places { All IsPlace entries.now }
+    requires fits { All (λ x. x.at + length x.bytes.items ≤ 262144) placed.now }
+    ensures { IfOk result (λ v. (S : Opening) → S.entries ≡ entries.now → S.placed ≡ shown placed.now → AllTwo ShowsSpe v.items (opening_spes S)) }
+{
+    let mut processors = Vec::new(alloc);
+    for spe in 0..entries.len() {
+        processors.push(Processor::new(alloc, spe as u8, entries[spe], placed)?)?;
+    }
+    Ok(processors)
+}
+
+/// The first allowed step of the first actor that has one.
+fn first_step(processors: &[Processor]) -> Option<Step>
+    requires { length processors.now ≤ 8 }
+    ensures { (M : State) → Shows processors.now M → result ≡ first_allowed M }
+{
+    for spe in 0..processors.len() {
+        let processor = &processors[spe];
+        if processor.may_exec() {
+            return Some(Step::Exec { spe: spe as u8 });
+        }
+    }
+    None
+}
+
+/// Whether no processor runs, no command is outstanding and no slot is taken.
+fn is_quiet(processors: &[Processor]) -> bool
+    ensures { (M : State) → Shows processors.now M → result ≡ is_quiet M }
+{
+    for processor in processors {
+        if !processor.is_quiet() {
+            return false;
+        }
+    }
+    true
+}
+
+/// The allowed step of the actor at the place that is the choice's remainder.
+fn nth_step(processors: &[Processor], actor: Actor, choice: u64) -> Option<Step>
+    ensures { (M : State) → Shows processors.now M → result ≡ picked M actor choice }
+{
+    match actor {
+        Actor::Spu(spe) => {
+            if spe as usize >= processors.len() {
+                return None;
+            }
+            let processor = &processors[spe as usize];
+            if processor.may_exec() {
+                Some(Step::Exec { spe })
+            } else {
+                None
+            }
+        }
+        Actor::Mfc(_) => None,
+        Actor::Host => None,
+    }
+}
+
+impl Machine {
+    /// A machine at its start, with room for a whole run.
+    pub fn new(alloc: Global, setup: Setup) -> Result<Machine, MachineError>
+        requires { 0 < length setup.entries }
+        ensures { IfOk result (λ m. m ≡ record { setup = setup; steps = [] }) }
+    {
+        let processors = opening_processors(alloc, &setup.entries, &setup.placed)?;
+        let steps = Vec::with_capacity(alloc, setup.budget as usize)?;
+        Ok(Machine {
+            setup,
+            processors,
+            steps,
+        })
+    }
+
+    /// Makes a step and answers its place in the record, counted from 0. `Spent` where the record has as many steps as the
+    /// budget, else `NotAllowed` where the machine doesn't allow it; then nothing changes. It takes no memory.
+    pub fn step(&mut self, s: Step) -> Result<u32, Refused>
+        ensures made { IfOk result (λ at. (at ≡ length self.old.steps) × (self.new ≡ record self.old { steps = self.old.steps ++ s ∷ [] })) }
+        ensures spent { (result ≡ Err Refused.Spent) ↔ (length self.old.steps ≡ self.old.setup.budget) }
+        ensures allowed { IsOk result ↔ IsSome (next_of self.old s) }
+        ensures err { OnErr result (self.new ≡ self.old) }
+    {
+        let at = self.steps.len();
+        if at >= self.setup.budget() as usize {
+            return Err(Refused::Spent);
+        }
+        if !act(&mut self.processors, s) {
+            return Err(Refused::NotAllowed);
+        }
+        let _ = self.steps.push(s);
+        Ok(at as u32)
+    }
+
+    /// The setup that it began with, which has its processors.
+    pub fn setup(&self) -> &Setup
+        ensures setup { result.now ≡ self.now.setup }
+        ensures count { IsSomeAnd (state_of self.now) (λ M. length M.spes ≡ length self.now.setup.entries) }
+    {
+        &self.setup
+    }
+
+    /// The steps made so far, which are a run from its setup.
+    pub fn steps(&self) -> &[Step]
+        ensures steps { result.now ≡ self.now.steps }
+        ensures run { IsRun self.now.setup self.now.steps }
+    {
+        &self.steps
+    }
+
+    /// What a processor that is there does.
+    pub fn status(&self, spe: u8) -> Status
+        requires { spe < length self.now.setup.entries }
+        ensures { IsSomeAnd (spe_of self.now spe) (λ P. P.status ≡ result) }
+    {
+        self.processors[spe as usize].status
+    }
+
+    /// The PC of a processor that is there.
+    pub fn pc(&self, spe: u8) -> u32
+        requires { spe < length self.now.setup.entries }
+        ensures { IsSomeAnd (spe_of self.now spe) (λ P. P.pc ≡ result) }
+    {
+        self.processors[spe as usize].pc
+    }
+
+    /// Register `r`, below 128, of a processor that is there.
+    pub fn register(&self, spe: u8, r: u8) -> Quad
+        requires spe { spe < length self.now.setup.entries }
+        requires register { r < 128 }
+        ensures { IsSomeAnd (spe_of self.now spe) (λ P. register P.registers r ≡ result) }
+    {
+        let processor = &self.processors[spe as usize];
+        processor.registers.get(r)
+    }
+
+    /// The local store of a processor that is there.
+    pub fn local(&self, spe: u8) -> &LocalStore
+        requires { spe < length self.now.setup.entries }
+        ensures { IsSomeAnd (spe_of self.now spe) (λ P. P.store ≡ result.now) }
+    {
+        let processor = &self.processors[spe as usize];
+        &processor.store
+    }
+
+    /// All registers of a processor that is there, in the order of their numbers.
+    pub fn registers(&self, spe: u8) -> &[Quad]
+        requires { spe < length self.now.setup.entries }
+        ensures all { IsSomeAnd (spe_of self.now spe) (λ P. P.registers ≡ result.now) }
+        ensures count { length result.now ≡ 128 }
+    {
+        let processor = &self.processors[spe as usize];
+        processor.registers.quads()
+    }
+
+    /// The allowed step of an actor at place `choice` modulo the number of its allowed steps, in their order.
+    /// None where it has none, or the budget is spent.
+    pub fn pick(&self, actor: Actor, choice: u64) -> Option<Step>
+        ensures picked { result ≡ picked_of self.now actor choice }
+        ensures allowed { IfSome result (λ s. IsSome (next_of self.now s)) }
+    {
+        if self.steps.len() >= self.setup.budget() as usize {
+            return None;
+        }
+        nth_step(&self.processors, actor, choice)
+    }
+
+    /// The first allowed step of the first actor that has one: the processors, their flow controllers, the host.
+    /// None where no step is allowed, or the budget is spent.
+    pub fn any_step(&self) -> Option<Step>
+        ensures first { result ≡ first_of self.now }
+        ensures allowed { IfSome result (λ s. IsSome (next_of self.now s)) }
+        ensures none { IfNone result ((s : Step) → next_of self.now s ≡ None) }
+    {
+        if self.steps.len() >= self.setup.budget() as usize {
+            return None;
+        }
+        first_step(&self.processors)
+    }
+
+    /// How the run ended; None where a step is allowed under the budget.
+    pub fn end(&self) -> Option<End>
+        ensures { IsSomeAnd (state_of self.now) (λ M. IsEnd M self.now.setup.budget result) }
+    {
+        if first_step(&self.processors).is_some() {
+            if self.steps.len() >= self.setup.budget() as usize {
+                Some(End::Budget)
+            } else {
+                None
+            }
+        } else if is_quiet(&self.processors) {
+            Some(End::AllStopped)
+        } else {
+            Some(End::Stuck)
+        }
+    }
+}

@@ -1,0 +1,213 @@
+//! What a machine begins with.
+
+ghost use Rattle.std.specs.Prelude.{All, ◌≡◌, ℕ, ◌+◌, ◌<◌, ◌≤◌, ◌≢◌, ◌↔◌, [], ◌∷◌, ◌++◌, length, slice_set, IfOk, IsTrue, OnErr, OnOk};
+ghost use Rattle.spu_exec.specs.Places.{IsPlace};
+ghost use Rattle.cell_machine.specs.Limits.{AreMachineLimits, FitsShow, MayShow};
+
+use local_store::STORE_BYTES;
+use std::alloc::Global;
+use std::marker::Model;
+
+/// How many processors a machine may have.
+const MOST_PROCESSORS: usize = 8;
+/// How many lines of 128 bytes its memory may have.
+const MOST_LINES: u32 = 32_768;
+/// How many steps a run may have.
+const MOST_STEPS: u32 = 1_000_000;
+
+/// How many ranges may be shown, and how many bytes each may have.
+const MOST_SHOWS: usize = 64;
+
+const MOST_SHOWN: u32 = 4096;
+
+/// A range that the states of a run show: of main memory, or of a processor's local store.
+#[derive(Clone, Copy, Debug, PartialEq, Eq)]
+pub enum Show {
+    Memory { at: u32, len: u32 },
+    Local { spe: u8, at: u32, len: u32 },
+}
+
+/// Bytes for a processor's store.
+#[derive(Drop)]
+pub(crate) struct PlacedBytes {
+    pub(crate) spe: u8,
+    pub(crate) at: u32,
+    pub(crate) bytes: Vec<u8>,
+}
+
+/// What a machine begins with: memory lines, a budget of steps, processors with their start addresses,
+/// the bytes placed in their local stores, and the ranges that the states show.
+#[derive(Drop)]
+pub struct Setup {
+    pub(crate) lines: u32,
+    pub(crate) budget: u32,
+    pub(crate) entries: Vec<u32>,
+    pub(crate) placed: Vec<PlacedBytes>,
+    shows: Vec<Show>,
+    alloc: Global,
+}
+
+impl Model for Setup {
+    ghost use Rattle.cell_machine.specs.Opening.{Opening};
+
+    ghost Value = { Opening };
+
+    ghost use Rattle.cell_machine.specs.Limits.{shown, IsOpening};
+
+    ghost view = { λ s. record { lines = s.lines; budget = s.budget; entries = s.entries.items; placed = shown s.placed.items; shows = s.shows.items } };
+
+    ghost invariant = { λ s. IsOpening (record { lines = s.lines; budget = s.budget; entries = s.entries.items; placed = shown s.placed.items; shows = s.shows.items }) };
+}
+
+/// Why a call of a Setup refused.
+#[derive(Clone, Copy, Debug, PartialEq, Eq)]
+pub enum SetupError {
+    /// A number is outside its limits, a range doesn't fit, or a processor isn't there.
+    Limit,
+    Memory,
+}
+
+impl Setup {
+    /// A setup with no processor, of 1 to 32,768 lines and with a budget of 1 to 1,000,000 steps; `Limit` outside of these.
+    pub fn new(alloc: Global, lines: u32, budget: u32) -> Result<Setup, SetupError>
+        ensures made { IfOk result (λ s. s ≡ record { lines = lines; budget = budget; entries = []; placed = []; shows = [] }) }
+        ensures limits { OnOk result (AreMachineLimits lines budget) }
+        ensures refused { AreMachineLimits lines budget → result ≢ Err SetupError.Limit }
+    {
+        if lines == 0 || lines > MOST_LINES || budget == 0 || budget > MOST_STEPS {
+            return Err(SetupError::Limit);
+        }
+        Ok(Setup {
+            lines,
+            budget,
+            entries: Vec::new(alloc),
+            placed: Vec::new(alloc),
+            shows: Vec::new(alloc),
+            alloc,
+        })
+    }
+
+    /// Adds a processor that starts at address 0, and answers its number, counted from 0. `Limit` where eight are there.
+    pub fn add_spe(&mut self) -> Result<u8, SetupError>
+        ensures added { OnOk result (self.new ≡ record self.old { entries = self.old.entries ++ 0 ∷ [] }) }
+        ensures number { IfOk result (λ n. n ≡ length self.old.entries) }
+        ensures limit { (result ≡ Err SetupError.Limit) ↔ (length self.old.entries ≡ 8) }
+        ensures err { OnErr result (self.new ≡ self.old) }
+    {
+        let number = self.entries.len();
+        if number >= MOST_PROCESSORS {
+            return Err(SetupError::Limit);
+        }
+        if self.entries.push(0).is_err() {
+            return Err(SetupError::Memory);
+        }
+        Ok(number as u8)
+    }
+
+    /// Places bytes in the store of a processor from an address on; later bytes replace earlier ones.
+    /// `Limit` where the processor isn't there or the bytes don't fit the store.
+    pub fn place(&mut self, spe: u8, at: u32, bytes: &[u8]) -> Result<(), SetupError>
+        ensures placed { OnOk result (self.new ≡ record self.old { placed = self.old.placed ++ record { spe = spe; at = at; bytes = bytes.now } ∷ [] }) }
+        ensures limit { (result ≡ Err SetupError.Limit) ↔ (spe < length self.old.entries → at + length bytes.now ≤ 262144 → ⊥) }
+        ensures err { OnErr result (self.new ≡ self.old) }
+    {
+        if spe as usize >= self.entries.len()
+            || bytes.len() > STORE_BYTES
+            || at as usize > STORE_BYTES - bytes.len()
+        {
+            return Err(SetupError::Limit);
+        }
+        let Ok(copy) = bytes.to_vec(self.alloc) else {
+            return Err(SetupError::Memory);
+        };
+        if self
+            .placed
+            .push(PlacedBytes {
+                spe,
+                at,
+                bytes: copy,
+            })
+            .is_err()
+        {
+            return Err(SetupError::Memory);
+        }
+        Ok(())
+    }
+
+    /// Makes a processor start at an address. `Limit` where the processor isn't there, or the address is no multiple of 4
+    /// below 262,144.
+    pub fn set_entry(&mut self, spe: u8, at: u32) -> Result<(), SetupError>
+        ensures set { OnOk result (self.new ≡ record self.old { entries = slice_set self.old.entries spe at }) }
+        ensures limit { (result ≡ Err SetupError.Limit) ↔ (spe < length self.old.entries → IsPlace at → ⊥) }
+        ensures only { OnErr result (result ≡ Err SetupError.Limit) }
+        ensures err { OnErr result (self.new ≡ self.old) }
+    {
+        if spe as usize >= self.entries.len() || at as usize >= STORE_BYTES || at % 4 != 0 {
+            return Err(SetupError::Limit);
+        }
+        self.entries[spe as usize] = at;
+        Ok(())
+    }
+
+    /// Adds a range that the states show. `Limit` where 64 are there, it has no byte or more than 4,096, it doesn't fit,
+    /// or its processor isn't there.
+    pub fn add_show(&mut self, s: Show) -> Result<(), SetupError>
+        ensures added { OnOk result (self.new ≡ record self.old { shows = self.old.shows ++ s ∷ [] }) }
+        ensures limit { (result ≡ Err SetupError.Limit) ↔ (MayShow self.old s → ⊥) }
+        ensures err { OnErr result (self.new ≡ self.old) }
+    {
+        if self.shows.len() >= MOST_SHOWS || !self.fits_show(s) {
+            return Err(SetupError::Limit);
+        }
+        if self.shows.push(s).is_err() {
+            return Err(SetupError::Memory);
+        }
+        Ok(())
+    }
+
+    /// Whether a range has 1 to 4,096 bytes and lies in the memory or the store that it names.
+    fn fits_show(&self, s: Show) -> bool
+        ensures { IsTrue result ↔ FitsShow self.now.lines (length self.now.entries) s }
+    {
+        match s {
+            Show::Memory { at, len } => {
+                let end = u64::from(at) + u64::from(len);
+                0 < len && len <= MOST_SHOWN && end <= 128 * u64::from(self.lines)
+            }
+            Show::Local { spe, at, len } => {
+                let end = at as usize + len as usize;
+                let is_there = (spe as usize) < self.entries.len();
+                is_there && 0 < len && len <= MOST_SHOWN && end <= STORE_BYTES
+            }
+        }
+    }
+
+    /// The ranges that the states show, in their order; each fits.
+    pub fn shows(&self) -> &[Show]
+        ensures shows { result.now ≡ self.now.shows }
+        ensures fits { All (FitsShow self.now.lines (length self.now.entries)) self.now.shows }
+    {
+        self.shows.as_slice()
+    }
+
+    /// How many processors there are.
+    pub fn spes(&self) -> u8
+        ensures { result ≡ length self.now.entries }
+    {
+        self.entries.len() as u8
+    }
+
+    /// How many lines of 128 bytes the memory has.
+    pub fn lines(&self) -> u32
+        ensures { result ≡ self.now.lines }
+    {
+        self.lines
+    }
+
+    /// How many steps a run may have.
+    pub fn budget(&self) -> u32
+        ensures { result ≡ self.now.budget }
+    {
+        self.budget
+    }
+}

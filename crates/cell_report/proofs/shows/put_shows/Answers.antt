@@ -1,0 +1,10 @@
+use Rattle.std.proofs.Common.{arith, ap, ◌∙◌}
+use Rattle.cell_machine.specs.Opening.{Opening}
+use Rattle.cell_report.specs.States.{show_line}
+use Rattle.cell_report.proofs.Texts.{shows-more}
+use Rattle.cell_report.proofs.shows.put_shows.Goals as goal
+
+pub loop-show-preserved : goal.loop-show-preserved
+loop-show-preserved c = λ M stands.
+    shows-more (show_line M) c.args.out.now.items c.loop-show.out.items _ c.shows-show-items.result.now c.args.m.now.setup.shows c.loop-show.show-index _
+    (omega arith) (c.shows-show-items.ensures.shows ∙ ap (λ (S : Opening). S.shows) c.setup.ensures.setup) (c.loop-show.invariant M stands) (c.in_ok-put_show.ensures M stands)

@@ -1,0 +1,12 @@
+use Rattle.std.proofs.Common.{arith}
+use Rattle.cell_report.proofs.Texts.{one_register, no_register}
+use Rattle.cell_report.proofs.states.put_registers.Goals as goal
+
+pub loop-quad-preserved : goal.loop-quad-preserved
+loop-quad-preserved c = record {
+  number = omega arith;
+  whole = rw (c.in_ok-put_register.ensures, c.bytes.ensures, c.quad-item.is) (one_register c.loop-quad.out.items _ _ c.loop-quad.r c.loop-quad.quad-index c.args.registers.now c.loop-quad-test.true c.loop-quad.invariant.whole);
+}
+
+pub returns : goal.returns
+returns c = no_register c.loop-quad.out.items _ c.loop-quad.r c.loop-quad.quad-index c.args.registers.now c.loop-quad-test.false c.loop-quad.invariant.whole

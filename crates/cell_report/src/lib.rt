@@ -1,0 +1,13 @@
+//! The texts that the program prints.
+#![tactic(auto)]
+
+mod error;
+mod image;
+mod record;
+mod shows;
+mod states;
+
+pub use error::TextError;
+pub use image::image_text;
+pub use record::record_text;
+pub use states::states_text;
