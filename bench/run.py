@@ -1,0 +1,88 @@
+#!/usr/bin/env python3
+"""Measures `cell`: python3 bench/run.py, from the repository's root, after `./cell` was built.
+
+Prints instructions per second of two loops of a million steps, and the time and the greatest memory
+that assembling two sources of 4 MB takes. Each figure is the best of five runs; the time of a run of
+one step is taken off that of the loops, so that starting the program isn't counted.
+"""
+import os
+import subprocess
+import sys
+import tempfile
+import time
+
+ROOT = os.path.dirname(os.path.dirname(os.path.abspath(__file__)))
+RUNS = 5
+STEPS = 1_000_000
+SOURCE_BYTES = 4_194_304
+
+
+def measured(words):
+    """The best time in seconds, and the greatest resident memory in KiB, of a command."""
+    best, most = None, 0
+    for _ in range(RUNS):
+        start = time.monotonic()
+        with open(os.devnull, "w") as nowhere:
+            child = subprocess.Popen([os.path.join(ROOT, "cell"), *words], stdout=nowhere, cwd=ROOT)
+            _, status, usage = os.wait4(child.pid, 0)
+        took = time.monotonic() - start
+        if os.waitstatus_to_exitcode(status) != 0:
+            sys.exit(f"cell {' '.join(words)} failed")
+        best = took if best is None else min(best, took)
+        most = max(most, usage.ru_maxrss)
+    return best, most
+
+
+def machine_file(folder, source, budget):
+    name = os.path.join(folder, f"{os.path.basename(source)}.{budget}.cell")
+    with open(name, "w") as file:
+        file.write(f"cell-machine 1\nlines 1\nbudget {budget}\nspe\nsource {source}\n")
+    return name
+
+
+def loop(folder, source):
+    """Instructions per second of a loop, and the memory of its run."""
+    idle, _ = measured(["run", machine_file(folder, source, 1)])
+    busy, most = measured(["run", machine_file(folder, source, STEPS)])
+    print(f"{source}: {STEPS / (busy - idle) / 1e6:.1f} million instructions a second; "
+          f"{busy:.2f} s and {most / 1024:.0f} MiB for a million steps, {idle * 1000:.0f} ms for one")
+
+
+def assembling(folder, title, lines):
+    """The time and the memory of a source of 4 MB."""
+    name = os.path.join(folder, "big.s")
+    size = 0
+    with open(name, "w") as file:
+        for line in lines:
+            if size + len(line) > SOURCE_BYTES:
+                break
+            file.write(line)
+            size += len(line)
+    took, most = measured(["asm", name])
+    print(f"{title}: {took:.2f} s and {most / 1024:.0f} MiB for {size / 1048576:.1f} MiB of source")
+
+
+def commented():
+    """As many instructions as a store holds, each with a label and a comment."""
+    for number in range(65_536):
+        yield f"l{number}:\tai\t$3,$4,{number % 512}\t# the number of this line is {number:>12}\n"
+
+
+def short():
+    """Short lines: labels alone."""
+    number = 0
+    while True:
+        yield f"l{number}:\n"
+        number += 1
+
+
+def main():
+    with tempfile.TemporaryDirectory() as folder:
+        loop(folder, "bench/arithmetic.s")
+        loop(folder, "bench/memory.s")
+        assembling(folder, "65,536 instructions with labels and comments", commented())
+        assembling(folder, "labels alone", short())
+
+
+if __name__ == "__main__":
+    main()
