@@ -8,6 +8,7 @@ use Rattle.cell_base.specs.declared.steps.Step.{Step}
 use Rattle.cell_base.specs.declared.steps.Step.TheVariants.{Exec, Piece, Elem, Retire, Atomic, Host}
 use Rattle.cell_machine.specs.declared.processor.Processor.{Processor}
 use Rattle.cell_machine.specs.Spe.{Spe}
+use Rattle.cell_host.specs.Script.{Progress}
 use Rattle.cell_machine.specs.State.{State, with_spe}
 use Rattle.cell_machine.specs.Exec.{exec}
 use Rattle.cell_machine.specs.Next.{act, next, ended_by}
@@ -17,7 +18,7 @@ use Rattle.cell_machine.proofs.AllTwo.{two_at, two_length, two_found, is_some_ma
 use Rattle.cell_machine.proofs.Steps.{act-no_spe, act-piece, act-elem, act-retire, act-atomic, act-host}
 
 -- the processor's test says whether its instruction is allowed
-pub next-exec : (processors : List Processor) (M : State) (p : ℕ) (x : Processor) (b : Bool) → Shows processors M → p < length processors → x ≡ slice_index_or processors p x
+pub next-exec : {memory : List ℕ} {host : Progress} (processors : List Processor) (M : State) (p : ℕ) (x : Processor) (b : Bool) → Shows processors memory host M → p < length processors → x ≡ slice_index_or processors p x
     → ((P : Spe) → ShowsSpe x P → b ≡ is_some (exec P))
     → is_some (next M (Exec p)) ≡ b
 next-exec processors M p x b shows h at test =
@@ -41,10 +42,10 @@ allowed-no_spu M p h = allowed-no_one M (Exec p) (Exec p ∷ []) refl h
 pub no_next : (M : State) (s : Step) → act M s ≡ None → is_some (next M s) ≡ false
 no_next M s h = rw h refl
 
-pub allowed-host : (processors : List Processor) (M : State) → Shows processors M → allowed M TheHost ≡ []
+pub allowed-host : {memory : List ℕ} {host : Progress} (processors : List Processor) (M : State) → Shows processors memory host M → allowed M TheHost ≡ []
 allowed-host processors M shows = allowed-no_one M Host (Host ∷ []) refl (no_next M Host (act-host processors M shows))
 
-pub allowed-mfc : (processors : List Processor) (M : State) (p : ℕ) → Shows processors M → allowed M (Mfc p) ≡ []
+pub allowed-mfc : {memory : List ℕ} {host : Progress} (processors : List Processor) (M : State) (p : ℕ) → Shows processors memory host M → allowed M (Mfc p) ≡ []
 allowed-mfc processors M p shows = allowed-no_one M (Atomic p) (Atomic p ∷ []) refl (no_next M (Atomic p) (act-atomic processors M p shows))
 
 -- what is chosen of one step, and of none
@@ -64,11 +65,11 @@ from-skip M a n h none = let e : n - a ≡ suc (n - (a + 1)) = omega arith in rw
 pub from-found : (M : State) (a n : ℕ) → a < n → allowed M (Spu a) ≡ Exec a ∷ [] → slice_get (from_spu M a (n - a)) 0 ≡ Some (Exec a)
 from-found M a n h one = let e : n - a ≡ suc (n - (a + 1)) = omega arith in rw e (rw one refl)
 
-mfc_none : (processors : List Processor) (M : State) (a n : ℕ) → Shows processors M → flat_map (allowed M) (map Mfc (range_with_len a n) ++ TheHost ∷ []) ≡ []
+mfc_none : {memory : List ℕ} {host : Progress} (processors : List Processor) (M : State) (a n : ℕ) → Shows processors memory host M → flat_map (allowed M) (map Mfc (range_with_len a n) ++ TheHost ∷ []) ≡ []
 mfc_none processors M a zero shows = rw (allowed-host processors M shows) refl
 mfc_none processors M a (suc n) shows = rw (allowed-mfc processors M a shows) (mfc_none processors M (a + 1) n shows)
 
-pub from-end : (processors : List Processor) (M : State) (a : ℕ) → Shows processors M → from_spu M a 0 ≡ []
+pub from-end : {memory : List ℕ} {host : Progress} (processors : List Processor) (M : State) (a : ℕ) → Shows processors memory host M → from_spu M a 0 ≡ []
 from-end processors M a shows = mfc_none processors M 0 (length M.spes) shows
 
 -- where there is none, no processor has one
@@ -95,7 +96,7 @@ no_act : (M : State) (s : Step) → act M s ≡ None → next M s ≡ None
 no_act M s h = rw h refl
 
 -- where no step is first, the machine has ended
-pub has_ended : (processors : List Processor) (M : State) → Shows processors M → first_allowed M ≡ None → HasEnded M
+pub has_ended : {memory : List ℕ} {host : Progress} (processors : List Processor) (M : State) → Shows processors memory host M → first_allowed M ≡ None → HasEnded M
 has_ended processors M shows h (Exec p) =
     let all : from_spu M 0 (length M.spes) ≡ [] = first_none (from_spu M 0 (length M.spes)) h in
     elim (two_found ShowsSpe processors M.spes p shows.spes) as (λ _. next M (Exec p) ≡ None) [
@@ -116,11 +117,11 @@ has_ended processors M shows h (Retire p c) = no_act M (Retire p c) (act-retire 
 has_ended processors M shows h (Atomic p) = no_act M (Atomic p) (act-atomic processors M p shows)
 has_ended processors M shows h Host = no_act M Host (act-host processors M shows)
 
-pub allowed-absent : (processors : List Processor) (M : State) (p : ℕ) → Shows processors M → length processors ≤ p → allowed M (Spu p) ≡ []
+pub allowed-absent : {memory : List ℕ} {host : Progress} (processors : List Processor) (M : State) (p : ℕ) → Shows processors memory host M → length processors ≤ p → allowed M (Spu p) ≡ []
 allowed-absent processors M p shows h = allowed-no_spu M p (no_next M (Exec p) (act-no_spe processors M p shows h))
 
 -- no processor has an allowed step below this one, nor has this one
-pub from-on : (processors : List Processor) (M : State) (p : ℕ) (x : Processor) (b : Bool) → Shows processors M → p < length processors → x ≡ slice_index_or processors p x
+pub from-on : {memory : List ℕ} {host : Progress} (processors : List Processor) (M : State) (p : ℕ) (x : Processor) (b : Bool) → Shows processors memory host M → p < length processors → x ≡ slice_index_or processors p x
     → ((P : Spe) → ShowsSpe x P → b ≡ is_some (exec P)) → b ≡ false
     → from_spu M 0 (length M.spes) ≡ from_spu M p (length M.spes - p)
     → from_spu M 0 (length M.spes) ≡ from_spu M (p + 1) (length M.spes - (p + 1))
@@ -129,7 +130,7 @@ from-on processors M p x b shows h at test off so_far =
     so_far ∙ from-skip M p (length M.spes) (omega arith) (allowed-no_spu M p (next-exec processors M p x b shows h at test ∙ off))
 
 -- this one has
-pub first-found : (processors : List Processor) (M : State) (p : ℕ) (x : Processor) (b : Bool) → Shows processors M → p < length processors → x ≡ slice_index_or processors p x
+pub first-found : {memory : List ℕ} {host : Progress} (processors : List Processor) (M : State) (p : ℕ) (x : Processor) (b : Bool) → Shows processors memory host M → p < length processors → x ≡ slice_index_or processors p x
     → ((P : Spe) → ShowsSpe x P → b ≡ is_some (exec P)) → b ≡ true
     → from_spu M 0 (length M.spes) ≡ from_spu M p (length M.spes - p)
     → Some (Exec p) ≡ first_allowed M
@@ -138,7 +139,7 @@ first-found processors M p x b shows h at test on so_far =
     sym (ap (λ xs. slice_get xs 0) so_far ∙ from-found M p (length M.spes) (omega arith) (allowed-spu M p (next-exec processors M p x b shows h at test ∙ on)))
 
 -- none has
-pub first-none : (processors : List Processor) (M : State) (p : ℕ) → Shows processors M → length processors ≤ p
+pub first-none : {memory : List ℕ} {host : Progress} (processors : List Processor) (M : State) (p : ℕ) → Shows processors memory host M → length processors ≤ p
     → from_spu M 0 (length M.spes) ≡ from_spu M p (length M.spes - p)
     → None ≡ first_allowed M
 first-none processors M p shows h so_far =
@@ -163,7 +164,7 @@ pub can_go_on : (M : State) (o : Option Step) → o ≡ first_allowed M → is_s
 can_go_on M None e h = absurd (cc)
 can_go_on M (Some s) e h = (s, first_passes M (actors M) s (sym e))
 
-pub ended_at : (processors : List Processor) (M : State) (o : Option Step) → Shows processors M → o ≡ first_allowed M → is_some o ≡ false → HasEnded M
+pub ended_at : {memory : List ℕ} {host : Progress} (processors : List Processor) (M : State) (o : Option Step) → Shows processors memory host M → o ≡ first_allowed M → is_some o ≡ false → HasEnded M
 ended_at processors M o shows e h = has_ended processors M shows (sym e ∙ none_of o h)
 
 pub first_allowed-allowed : (M : State) (s : Step) → first_allowed M ≡ Some s → is_some (next M s) ≡ true

@@ -1,22 +1,38 @@
 -- How a machine begins.
-use Rattle.std.proofs.Common.{◌≡◌, ◌≢◌, ℕ, zero, suc, ◌<◌, ◌≤◌, ◌+◌, ◌==◌, true, false, List, [], ◌∷◌, ◌++◌, map, length, arith, refl, sym, subst, ◌∙◌, slice_index_or, ap, take, drop}
+use Rattle.std.proofs.Common.{◌≡◌, ◌≢◌, ℕ, zero, suc, ◌<◌, ◌≤◌, ◌+◌, ◌*◌, ◌==◌, true, false, List, [], ◌∷◌, ◌++◌, map, length, arith, refl, sym, subst, ◌∙◌, slice_index_or, ap, take, drop}
 use Rattle.std.specs.Prelude.{All}
 use Rattle.std.specs.List.{enumerate_from}
 use Rattle.std.proofs.lemmas.Bool.Decides.{nat_tests}
+use Rattle.std.proofs.lemmas.List.{length-replicate}
 use Rattle.std.proofs.Math.Seq.{drop-cons}
 use Rattle.std.proofs.Math.ListN.{get_or-map, length-map}
-use Rattle.cell_base.specs.Bytes.{put}
+use Rattle.cell_base.specs.Bytes.{put, zeros}
 use Rattle.cell_base.specs.declared.steps.Step.{Step}
-use Rattle.cell_machine.specs.Opening.{Opening, opening, opening_spe, opening_spes, Placed, placed_in}
+use Rattle.cell_host.specs.Script.{Progress, opening as opening_host}
+use Rattle.cell_machine.specs.Opening.{Opening, opening, opening_spe, opening_spes, opening_memory, filled, InMemory, Placed, placed_in}
 use Rattle.cell_machine.specs.Run.{replay}
 use Rattle.cell_machine.specs.Shows.{AllTwo, ShowsSpe, IsMachine}
 use Rattle.cell_machine.proofs.AllTwo.{two_length}
 use Rattle.cell_machine.specs.declared.processor.Processor.{Processor}
-use Rattle.cell_machine.specs.Limits.{shown, IsOpening, FitsStore}
+use Rattle.cell_machine.specs.Limits.{shown, shown_memory, IsOpening, FitsStore, FitsMemory}
 use Rattle.cell_machine.specs.declared.setup.PlacedBytes.{PlacedBytes}
+use Rattle.cell_machine.specs.declared.setup.MemoryBytes.{MemoryBytes}
 
 abbrev pub shown_one : PlacedBytes → Placed
 shown_one x = record { spe = x.spe; at = x.at; bytes = x.bytes.items }
+
+abbrev pub in_memory : MemoryBytes → InMemory
+in_memory x = record { at = x.at; bytes = x.bytes.items }
+
+-- what is left to fill from piece i on begins with the piece there
+pub filled-next : (memory : List ℕ) (pieces : List MemoryBytes) (i : ℕ) (x : MemoryBytes) → i < length pieces → x ≡ slice_index_or pieces i x
+    → filled memory (drop i (shown_memory pieces)) ≡ filled (put memory x.at x.bytes.items) (drop (i + 1) (shown_memory pieces))
+filled-next memory pieces i x h at =
+    let within : i < length (shown_memory pieces) = rw length-map h in
+    let e : suc i ≡ i + 1 = omega arith in
+    ap (filled memory) (drop-cons (shown_memory pieces) i (in_memory x) within
+    ∙ ap (λ y. y ∷ drop (suc i) (shown_memory pieces)) (get_or-map in_memory pieces i x ∙ ap in_memory (sym at))
+    ∙ ap (λ k. in_memory x ∷ drop k (shown_memory pieces)) e)
 
 -- what is left from place i on begins with the piece there
 pub drop-shown : (pieces : List PlacedBytes) (i : ℕ) (x : PlacedBytes) → i < length pieces → x ≡ slice_index_or pieces i x → drop i (shown pieces) ≡ shown_one x ∷ drop (i + 1) (shown pieces)
@@ -33,6 +49,10 @@ placed-own store p x rest same = let e : (x.spe == p) ≡ true = grind (arith, n
 
 pub placed-other : (store : List ℕ) (p : ℕ) (x : Placed) (rest : List Placed) → x.spe ≢ p → placed_in store p (x ∷ rest) ≡ placed_in store p rest
 placed-other store p x rest differs = let e : (x.spe == p) ≡ false = grind (arith, nat_tests) in rw e refl
+
+pub length-zeros : (n : ℕ) → length (zeros n) ≡ n
+unfolding zeros
+length-zeros n = length-replicate n 0
 
 -- one more processor
 spes-suc : {A : Type 0} (f : ℕ × ℕ → A) (n i : ℕ) (entries : List ℕ) → i < length entries
@@ -59,15 +79,21 @@ fits-shown n pieces all k d h =
     let fits = subst (FitsStore n) (get_or-map shown_one pieces k d) (all k (shown_one d) within) in
     fits.1
 
+pub fits-memory : (n : ℕ) (pieces : List MemoryBytes) → All (FitsMemory n) (shown_memory pieces) → All (λ x. x.at + length x.bytes.items ≤ 128 * n) pieces
+fits-memory n pieces all k d h =
+    let within : k < length (shown_memory pieces) = rw length-map h in
+    subst (FitsMemory n) (get_or-map in_memory pieces k d) (all k (in_memory d) within)
+
 length-enumerate : {A : Type 0} (f : ℕ × ℕ → A) (n : ℕ) (xs : List ℕ) → length (map f (enumerate_from n xs)) ≡ length xs
 length-enumerate f n [] = refl
 length-enumerate f n (x ∷ xs) = ap suc (length-enumerate f (n + 1) xs)
 
 -- a machine at its start
-pub machine-new : (S : Opening) (processors : List Processor) (steps : List Step) (capacity : ℕ) → IsOpening S
-    → AllTwo ShowsSpe processors (opening_spes S) → steps ≡ [] → S.budget ≤ capacity → IsMachine S steps capacity processors
+pub machine-new : (S : Opening) (processors : List Processor) (memory : List ℕ) (host : Progress) (steps : List Step) (capacity : ℕ) → IsOpening S
+    → AllTwo ShowsSpe processors (opening_spes S) → opening_memory S ≡ memory → length memory ≡ 128 * S.lines → opening_host S.actions ≡ host
+    → steps ≡ [] → S.budget ≤ capacity → IsMachine S steps capacity processors memory host
 unfolding opening
-machine-new S processors steps capacity is shows none room =
+machine-new S processors memory host steps capacity is shows fills long begins none room =
     let many : length processors ≡ length S.entries = sym (two_length ShowsSpe processors (opening_spes S) shows) ∙ length-enumerate (opening_spe S) 0 S.entries in
     record {
       room = room;
@@ -77,5 +103,8 @@ machine-new S processors steps capacity is shows none room =
       count = many;
       state = opening S;
       replayed = ap (replay (opening S)) none;
-      shown = record { spes = shows };
+      shown = record { spes = shows; memory_is = fills; host_is = begins };
+      long = long;
+      script = ap (λ (h : Progress). h.script) (sym begins);
+      actions = is.actions;
     }

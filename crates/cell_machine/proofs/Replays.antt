@@ -4,12 +4,13 @@ use Rattle.std.specs.Prelude.{Option, Some, None, IsSomeAnd, option_map, option_
 use Rattle.cell_base.specs.declared.steps.Step.{Step}
 use Rattle.cell_machine.specs.declared.processor.Processor.{Processor}
 use Rattle.cell_machine.specs.Spe.{Spe}
+use Rattle.cell_host.specs.Script.{Progress}
 use Rattle.cell_machine.specs.State.{State}
 use Rattle.cell_machine.specs.Next.{act, next, ended_by}
 use Rattle.cell_machine.specs.Opening.{Opening, opening}
 use Rattle.cell_machine.specs.Run.{Ran, replay, spe_of, state_of}
 use Rattle.cell_machine.specs.Tags.{settled}
-use Rattle.cell_machine.specs.Shows.{Shows, ShowsSpe, IsMachine}
+use Rattle.cell_machine.specs.Shows.{Shows, ShowsSpe, IsMachine, IsFit}
 use Rattle.cell_machine.proofs.AllTwo.{two_at, two_map, some_map, some_and}
 
 none_last : (o : Option State) → option_and_then (λ N. Some N) o ≡ o
@@ -47,18 +48,22 @@ shows-settled : (x : Processor) (P : Spe) → ShowsSpe x P → ShowsSpe x (settl
 shows-settled x P shows = shows
 
 -- what each step does at its end changes nothing that is shown
-pub shows-ended : (processors : List Processor) (M : State) (s : Step) (N : State) → Shows processors N → Shows processors (ended_by M s N)
-shows-ended processors M s N shows = record {
+pub shows-ended : (processors : List Processor) (memory : List ℕ) (host : Progress) (M : State) (s : Step) (N : State) → Shows processors memory host N → Shows processors memory host (ended_by M s N)
+shows-ended processors memory host M s N shows = record {
   spes = two_map ShowsSpe settled processors N.spes shows-settled shows.spes;
+  memory_is = shows.memory_is;
+  host_is = shows.host_is;
 }
 
 -- an allowed step takes a machine to a machine
-pub machine-step : (setup : Opening) (steps : List Step) (capacity : ℕ) (processors new : List Processor) (s : Step) (room : ℕ)
-    → (old : IsMachine setup steps capacity processors)
-    → IsSomeAnd (act old.state s) (Shows new) → length new ≡ length processors → length steps < setup.budget → capacity ≤ room
-    → IsMachine setup (steps ++ s ∷ []) room new
-machine-step setup steps capacity processors new s room old did same within grown =
-    let end = some_and (next old.state s) (Shows new) (some_map (ended_by old.state s) (act old.state s) (Shows new) (Shows new) (shows-ended new old.state s) did) in
+pub machine-step : (setup : Opening) (steps : List Step) (capacity : ℕ) (processors new : List Processor) (memory memory2 : List ℕ) (host host2 : Progress) (s : Step) (room : ℕ)
+    → (old : IsMachine setup steps capacity processors memory host)
+    → IsSomeAnd (act old.state s) (Shows new memory2 host2) → length new ≡ length processors → length memory2 ≡ length memory → host2.script ≡ host.script
+    → length steps < setup.budget → capacity ≤ room
+    → IsMachine setup (steps ++ s ∷ []) room new memory2 host2
+machine-step setup steps capacity processors new memory memory2 host host2 s room old did same long script within grown =
+    let shows : State → Type 0 = Shows new memory2 host2 in
+    let end = some_and (next old.state s) shows (some_map (ended_by old.state s) (act old.state s) shows shows (shows-ended new memory2 host2 old.state s) did) in
     record {
       room = omega arith;
       within = simp length-append (omega arith);
@@ -68,11 +73,19 @@ machine-step setup steps capacity processors new s room old did same within grow
       state = end.0;
       replayed = replay-snoc (opening setup) steps s ∙ rw old.replayed end.1;
       shown = end.2;
+      long = long ∙ old.long;
+      script = script ∙ old.script;
+      actions = old.actions;
     }
 
+-- each action of a machine's script fits it
+pub machine-fit : (setup : Opening) (steps : List Step) (capacity : ℕ) (processors : List Processor) (memory : List ℕ) (host : Progress)
+    → IsMachine setup steps capacity processors memory host → IsFit (length processors) memory host
+machine-fit setup steps capacity processors memory host is = record { lines = setup.lines; long = is.long; actions = rw (is.script, is.count) is.actions }
+
 -- the processor at p is that of the state that the machine stands for
-pub machine-spe : (setup : Opening) (steps : List Step) (capacity : ℕ) (processors : List Processor) (m : Ran) (p : ℕ) (x : Processor) (Q : Spe → Type 0)
-    → IsMachine setup steps capacity processors → record { setup = setup; steps = steps } ≡ m → p < length m.setup.entries → x ≡ slice_index_or processors p x
+pub machine-spe : {memory : List ℕ} {host : Progress} (setup : Opening) (steps : List Step) (capacity : ℕ) (processors : List Processor) (m : Ran) (p : ℕ) (x : Processor) (Q : Spe → Type 0)
+    → IsMachine setup steps capacity processors memory host → record { setup = setup; steps = steps } ≡ m → p < length m.setup.entries → x ≡ slice_index_or processors p x
     → ((P : Spe) → ShowsSpe x P → Q P)
     → IsSomeAnd (spe_of m p) Q
 machine-spe setup steps capacity processors m p x Q is view h at k =
@@ -89,18 +102,18 @@ pub run-length : (S : Opening) (steps : List Step) (M : State) → replay (openi
 run-length S steps M h = replay-length (opening S) steps M h ∙ ap (λ xs. length xs + length steps) (opening-steps S) ∙ zero-add (length steps)
 
 -- what holds of each state that the processors show, with so many steps, holds of the state that the machine stands for
-pub machine-state : (setup : Opening) (steps : List Step) (capacity : ℕ) (processors : List Processor) (m : Ran) (Q : State → Type 0)
-    → IsMachine setup steps capacity processors → record { setup = setup; steps = steps } ≡ m
-    → ((M : State) → Shows processors M → length M.steps ≡ length steps → Q M)
+pub machine-state : {memory : List ℕ} {host : Progress} (setup : Opening) (steps : List Step) (capacity : ℕ) (processors : List Processor) (m : Ran) (Q : State → Type 0)
+    → IsMachine setup steps capacity processors memory host → record { setup = setup; steps = steps } ≡ m
+    → ((M : State) → Shows processors memory host M → length M.steps ≡ length steps → Q M)
     → IsSomeAnd (state_of m) Q
 machine-state setup steps capacity processors m Q is view k =
     let long : length is.state.steps ≡ length steps = run-length setup steps is.state is.replayed in
     subst (λ n. IsSomeAnd (state_of n) Q) view (rw is.replayed (k is.state is.shown long))
 
 -- and what is computed of each is computed of it
-pub machine-computes : {A : Type 0} (setup : Opening) (steps : List Step) (capacity : ℕ) (processors : List Processor) (m : Ran) (f : State → Option A) (r : Option A)
-    → IsMachine setup steps capacity processors → record { setup = setup; steps = steps } ≡ m
-    → ((M : State) → Shows processors M → r ≡ f M)
+pub machine-computes : {memory : List ℕ} {host : Progress} {A : Type 0} (setup : Opening) (steps : List Step) (capacity : ℕ) (processors : List Processor) (m : Ran) (f : State → Option A) (r : Option A)
+    → IsMachine setup steps capacity processors memory host → record { setup = setup; steps = steps } ≡ m
+    → ((M : State) → Shows processors memory host M → r ≡ f M)
     → r ≡ option_and_then f (state_of m)
 machine-computes setup steps capacity processors m f r is view k =
     subst (λ n. r ≡ option_and_then f (state_of n)) view (rw is.replayed (k is.state is.shown))

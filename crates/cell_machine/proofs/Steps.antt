@@ -1,10 +1,9 @@
-use Rattle.std.proofs.Common.{◌≡◌, ℕ, ◌<◌, ◌≤◌, List, length, refl, ◌∙◌, slice_index_or, slice_set, ap, true, false, Bool}
+use Rattle.std.proofs.Common.{◌≡◌, ℕ, ◌<◌, ◌≤◌, List, length, refl, slice_index_or, slice_set, true, false, Bool}
 use Rattle.std.specs.Prelude.{None, IsSomeAnd, option_map, MatchBool}
-use Rattle.std.specs.Bool.{OnFalse}
-use Rattle.std.proofs.lemmas.List.{set-get_or}
 use Rattle.cell_base.specs.declared.steps.Step.TheVariants.{Exec, Piece, Elem, Retire, Atomic, Host}
 use Rattle.cell_machine.specs.declared.processor.Processor.{Processor}
 use Rattle.cell_machine.specs.Spe.{Spe}
+use Rattle.cell_host.specs.Script.{Progress}
 use Rattle.cell_machine.specs.State.{State, with_spe}
 use Rattle.cell_machine.specs.Exec.{exec}
 use Rattle.cell_machine.specs.Transfers.{piece, elem, retire}
@@ -15,23 +14,24 @@ use Rattle.cell_machine.specs.Shows.{Shows, ShowsSpe}
 use Rattle.cell_machine.proofs.AllTwo.{two_at, two_none, two_set, two_and_then, some_map}
 
 -- a processor that isn't there makes no step
-pub act-no_spe : (processors : List Processor) (M : State) (p : ℕ) → Shows processors M → length processors ≤ p → act M (Exec p) ≡ None
+pub act-no_spe : {memory : List ℕ} {host : Progress} (processors : List Processor) (M : State) (p : ℕ) → Shows processors memory host M → length processors ≤ p → act M (Exec p) ≡ None
 act-no_spe processors M p shows h = rw (two_none ShowsSpe processors M.spes p shows.spes h) refl
 
 -- the call of the processor at p did the step, or left all as it was
-pub act-exec : (processors : List Processor) (d new : Processor) (M : State) (p : ℕ) (made : Bool) → Shows processors M → p < length processors
+pub act-exec : {memory : List ℕ} {host : Progress} (processors : List Processor) (d new : Processor) (M : State) (p : ℕ) (made : Bool) → Shows processors memory host M → p < length processors
     → ((P : Spe) → ShowsSpe (slice_index_or processors p d) P → MatchBool made (IsSomeAnd (exec P) (ShowsSpe new)) (exec P ≡ None))
-    → OnFalse made (new ≡ slice_index_or processors p d)
-    → MatchBool made (IsSomeAnd (act M (Exec p)) (Shows (slice_set processors p new))) ((act M (Exec p) ≡ None) × (slice_set processors p new ≡ processors))
-act-exec processors d new M p true shows h does same =
+    → MatchBool made (IsSomeAnd (act M (Exec p)) (Shows (slice_set processors p new) memory host)) (act M (Exec p) ≡ None)
+act-exec processors d new M p true shows h does =
     let two = two_at ShowsSpe processors M.spes p d shows.spes h in
-    rw two.1 (some_map (with_spe M p) (exec two.0) (ShowsSpe new) (Shows (slice_set processors p new)) (λ P r. record {
+    rw two.1 (some_map (with_spe M p) (exec two.0) (ShowsSpe new) (Shows (slice_set processors p new) _ _) (λ P r. record {
       spes = two_set ShowsSpe processors M.spes p new P shows.spes r;
+      memory_is = shows.memory_is;
+      host_is = shows.host_is;
     }) (does two.0 two.2))
-act-exec processors d new M p false shows h does same =
+act-exec processors d new M p false shows h does =
     let two = two_at ShowsSpe processors M.spes p d shows.spes h in
     let none : exec two.0 ≡ None = does two.0 two.2 in
-    (rw (two.1, none) refl, ap (slice_set processors p) same ∙ set-get_or processors p d)
+    rw (two.1, none) refl
 
 -- no queued command, no atomic command and no host action has a step
 spe-piece : (M : State) (p c e k : ℕ) (x : Processor) (P : Spe) → ShowsSpe x P → option_map (with_spe M p) (piece P c e k) ≡ None
@@ -54,17 +54,17 @@ host-none : (M : State) → host M ≡ None
 unfolding host
 host-none M = refl
 
-pub act-piece : (processors : List Processor) (M : State) (p c e k : ℕ) → Shows processors M → act M (Piece p c e k) ≡ None
+pub act-piece : {memory : List ℕ} {host : Progress} (processors : List Processor) (M : State) (p c e k : ℕ) → Shows processors memory host M → act M (Piece p c e k) ≡ None
 act-piece processors M p c e k shows = two_and_then ShowsSpe (λ P. option_map (with_spe M p) (piece P c e k)) processors M.spes p (spe-piece M p c e k) shows.spes
 
-pub act-elem : (processors : List Processor) (M : State) (p c : ℕ) → Shows processors M → act M (Elem p c) ≡ None
+pub act-elem : {memory : List ℕ} {host : Progress} (processors : List Processor) (M : State) (p c : ℕ) → Shows processors memory host M → act M (Elem p c) ≡ None
 act-elem processors M p c shows = two_and_then ShowsSpe (λ P. option_map (with_spe M p) (elem P c)) processors M.spes p (spe-elem M p c) shows.spes
 
-pub act-retire : (processors : List Processor) (M : State) (p c : ℕ) → Shows processors M → act M (Retire p c) ≡ None
+pub act-retire : {memory : List ℕ} {host : Progress} (processors : List Processor) (M : State) (p c : ℕ) → Shows processors memory host M → act M (Retire p c) ≡ None
 act-retire processors M p c shows = two_and_then ShowsSpe (λ P. option_map (with_spe M p) (retire P c)) processors M.spes p (spe-retire M p c) shows.spes
 
-pub act-atomic : (processors : List Processor) (M : State) (p : ℕ) → Shows processors M → act M (Atomic p) ≡ None
+pub act-atomic : {memory : List ℕ} {host : Progress} (processors : List Processor) (M : State) (p : ℕ) → Shows processors memory host M → act M (Atomic p) ≡ None
 act-atomic processors M p shows = two_and_then ShowsSpe (λ P. option_map (with_spe M p) (atomic P)) processors M.spes p (spe-atomic M p) shows.spes
 
-pub act-host : (processors : List Processor) (M : State) → Shows processors M → act M Host ≡ None
+pub act-host : {memory : List ℕ} {host : Progress} (processors : List Processor) (M : State) → Shows processors memory host M → act M Host ≡ None
 act-host processors M shows = host-none M

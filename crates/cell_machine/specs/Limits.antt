@@ -1,14 +1,20 @@
 -- The limits of a setup.
-use Rattle.std.specs.Prelude.{ℕ, ◌+◌, ◌*◌, ◌<◌, ◌≤◌, List, map, length, All}
+use Rattle.std.specs.Prelude.{ℕ, ◌+◌, ◌*◌, ◌%◌, ◌<◌, ◌≤◌, List, map, length, All}
 use Rattle.spu_exec.specs.Places.{IsPlace}
-use Rattle.cell_machine.specs.Opening.{Opening, Placed}
+use Rattle.cell_host.specs.declared.HostAction.{HostAction}
+use Rattle.cell_host.specs.declared.HostAction.TheVariants.{Send, Take, TakeIntr, Store, Await}
+use Rattle.cell_machine.specs.Opening.{Opening, Placed, InMemory}
 use Rattle.cell_machine.specs.declared.setup.PlacedBytes.{PlacedBytes}
+use Rattle.cell_machine.specs.declared.setup.MemoryBytes.{MemoryBytes}
 use Rattle.cell_machine.specs.declared.setup.Show.{Show}
 use Rattle.cell_machine.specs.declared.setup.Show.TheVariants.{Memory, Local}
 
 -- placed bytes without where they lie in memory
 abbrev pub shown : List PlacedBytes → List Placed
 shown pieces = map (λ x. record { spe = x.spe; at = x.at; bytes = x.bytes.items }) pieces
+
+abbrev pub shown_memory : List MemoryBytes → List InMemory
+shown_memory pieces = map (λ x. record { at = x.at; bytes = x.bytes.items }) pieces
 
 -- 1 to 32,768 lines of memory, and 1 to 1,000,000 steps
 abbrev pub AreMachineLimits : ℕ → ℕ → Type 0
@@ -17,6 +23,22 @@ AreMachineLimits lines budget = (0 < lines) × (lines ≤ 32768) × (0 < budget)
 -- the processor is there, and the bytes fit its store
 abbrev pub FitsStore : ℕ → Placed → Type 0
 FitsStore spes x = (x.spe < spes) × (x.at + length x.bytes ≤ 262144)
+
+-- the bytes fit so many lines of memory
+abbrev pub FitsMemory : ℕ → InMemory → Type 0
+FitsMemory lines x = x.at + length x.bytes ≤ 128 * lines
+
+-- the processor is there; a store has 1 to 16 bytes, within one line of memory that is there
+abbrev pub FitsAction : ℕ → ℕ → HostAction → Type 0
+FitsAction lines spes (Send spe value) = spe < spes
+FitsAction lines spes (Take spe) = spe < spes
+FitsAction lines spes (TakeIntr spe) = spe < spes
+FitsAction lines spes (Store ea len bytes) = (0 < len) × (len ≤ 16) × (ea % 128 + len ≤ 128) × (ea + len ≤ 128 * lines)
+FitsAction lines spes (Await spe) = spe < spes
+
+-- one more action may be done
+abbrev pub MayAct : Opening → HostAction → Type 0
+MayAct S a = (length S.actions < 4096) × FitsAction S.lines (length S.entries) a
 
 -- a range of 1 to 4,096 bytes within so many lines of memory, or within the store of one of so many processors
 abbrev pub FitsShow : ℕ → ℕ → Show → Type 0
@@ -32,5 +54,8 @@ pub record IsOpening (S : Opening) : Type 0 where
   pub spes : length S.entries ≤ 8
   pub entries : All IsPlace S.entries
   pub placed : All (FitsStore (length S.entries)) S.placed
+  pub memory : All (FitsMemory S.lines) S.memory
+  pub few : length S.actions ≤ 4096
+  pub actions : All (FitsAction S.lines (length S.entries)) S.actions
   pub shown : length S.shows ≤ 64
   pub shows : All (FitsShow S.lines (length S.entries)) S.shows

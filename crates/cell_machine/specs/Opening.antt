@@ -1,8 +1,10 @@
 -- What a Setup is, and the state in which its machine begins.
-use Rattle.std.specs.Prelude.{ℕ, ◌==◌, List, [], map, filter, fold}
+use Rattle.std.specs.Prelude.{ℕ, ◌*◌, ◌==◌, List, [], map, filter, fold}
 use Rattle.std.specs.List.{enumerate_from}
 use Rattle.cell_base.specs.Bytes.{put, zeros}
 use Rattle.spu_regs.specs.Registers.{zero_registers}
+use Rattle.cell_host.specs.declared.HostAction.{HostAction}
+use Rattle.cell_host.specs.Script.{opening as opening_host}
 use Rattle.cell_machine.specs.declared.status.Status.TheVariants.{Running}
 use Rattle.cell_machine.specs.declared.setup.Show.{Show}
 use Rattle.cell_machine.specs.Spe.{Spe}
@@ -14,11 +16,18 @@ pub record Placed : Type 0 where
   pub at : ℕ
   pub bytes : List ℕ
 
+-- bytes placed in main memory
+pub record InMemory : Type 0 where
+  pub at : ℕ
+  pub bytes : List ℕ
+
 pub record Opening : Type 0 where
   pub lines : ℕ  -- of main memory, 128 bytes each
   pub budget : ℕ  -- how many steps a run may have
   pub entries : List ℕ  -- the start address of each processor
   pub placed : List Placed  -- in the order in which they were placed
+  pub memory : List InMemory  -- likewise
+  pub actions : List HostAction  -- the host script
   pub shows : List Show  -- the ranges that the states show, in their order
 
 -- a store with the bytes placed in it that are processor p's, later ones in place of earlier ones
@@ -30,10 +39,17 @@ opening_store S p = placed_in (zeros 262144) p S.placed
 
 -- a processor at its start: its number and its entry
 abbrev pub opening_spe : Opening → ℕ × ℕ → Spe
-opening_spe S x = record { status = Running; pc = x.1; registers = zero_registers; store = opening_store S x.0 }
+opening_spe S x = record { status = Running; pc = x.1; registers = zero_registers; store = opening_store S x.0; inbound = []; outbound = []; interrupt = [] }
 
 abbrev pub opening_spes : Opening → List Spe
 opening_spes S = map (opening_spe S) (enumerate_from 0 S.entries)
 
+-- memory with the bytes placed in it, later ones in place of earlier ones
+abbrev pub filled : List ℕ → List InMemory → List ℕ
+filled memory pieces = fold (λ bytes x. put bytes x.at x.bytes) memory pieces
+
+abbrev pub opening_memory : Opening → List ℕ
+opening_memory S = filled (zeros (128 * S.lines)) S.memory
+
 unfoldable pub opening : Opening → State
-opening S = record { spes = opening_spes S; steps = [] }
+opening S = record { spes = opening_spes S; memory = opening_memory S; host = opening_host S.actions; steps = [] }

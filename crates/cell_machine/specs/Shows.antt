@@ -1,11 +1,13 @@
 -- What the code's parts stand for.
-use Rattle.std.specs.Prelude.{◌≡◌, ℕ, ◌≤◌, List, [], ◌∷◌, length, Some}
+use Rattle.std.specs.Prelude.{◌≡◌, ℕ, ◌*◌, ◌≤◌, List, [], ◌∷◌, length, Some, All}
 use Rattle.cell_base.specs.declared.steps.Step.{Step}
 use Rattle.cell_machine.specs.declared.processor.Processor.{Processor}
 use Rattle.cell_machine.specs.Spe.{Spe}
 use Rattle.cell_machine.specs.State.{State}
 use Rattle.cell_machine.specs.Opening.{Opening, opening}
+use Rattle.cell_machine.specs.Limits.{FitsAction}
 use Rattle.cell_machine.specs.Run.{replay}
+use Rattle.cell_host.specs.Script.{Progress}
 
 -- the processor is what the written machine has
 pub record ShowsSpe (c : Processor) (P : Spe) : Type 0 where
@@ -13,6 +15,9 @@ pub record ShowsSpe (c : Processor) (P : Spe) : Type 0 where
   pub pc : P.pc ≡ c.pc
   pub registers : P.registers ≡ c.registers
   pub store : P.store ≡ c.store
+  pub inbound : P.inbound ≡ c.inbound
+  pub outbound : P.outbound ≡ c.outbound
+  pub interrupt : P.interrupt ≡ c.interrupt
 
 -- the lists are as long, and each two elements at one place are so
 abbrev pub AllTwo : {X Y : Type 0} → (X → Y → Type 0) → List X → List Y → Type 0
@@ -21,12 +26,20 @@ AllTwo R (x ∷ xs) (y ∷ ys) = R x y × AllTwo R xs ys
 AllTwo R [] (y ∷ ys) = ⊥
 AllTwo R (x ∷ xs) [] = ⊥
 
--- the processors are the written machine's
-pub record Shows (processors : List Processor) (M : State) : Type 0 where
+-- the processors, the memory and the host are the written machine's
+pub record Shows (processors : List Processor) (memory : List ℕ) (host : Progress) (M : State) : Type 0 where
   pub spes : AllTwo ShowsSpe processors M.spes
+  pub memory_is : M.memory ≡ memory
+  pub host_is : M.host ≡ host
 
--- the processors stand for the replay of the steps from the setup, and the record has room for a run
-pub record IsMachine (setup : Opening) (steps : List Step) (capacity : ℕ) (processors : List Processor) : Type 0 where
+-- the memory has some lines, and each action of the script fits
+pub record IsFit (spes : ℕ) (memory : List ℕ) (host : Progress) : Type 0 where
+  pub lines : ℕ
+  pub long : length memory ≡ 128 * lines
+  pub actions : All (FitsAction lines spes) host.script
+
+-- the processors, the memory and the host stand for the replay of the steps from the setup, and the record has room for a run
+pub record IsMachine (setup : Opening) (steps : List Step) (capacity : ℕ) (processors : List Processor) (memory : List ℕ) (host : Progress) : Type 0 where
   pub room : setup.budget ≤ capacity
   pub within : length steps ≤ setup.budget
   pub small : setup.budget ≤ 1000000
@@ -34,4 +47,7 @@ pub record IsMachine (setup : Opening) (steps : List Step) (capacity : ℕ) (pro
   pub count : length processors ≡ length setup.entries
   pub state : State
   pub replayed : replay (opening setup) steps ≡ Some state
-  pub shown : Shows processors state
+  pub shown : Shows processors memory host state
+  pub long : length memory ≡ 128 * setup.lines
+  pub script : host.script ≡ setup.actions
+  pub actions : All (FitsAction setup.lines (length setup.entries)) setup.actions

@@ -8,6 +8,10 @@ pub record Spe : Type 0 where
   pub pc : ℕ
   pub registers : List (List ℕ)  -- 128 quadwords of 16 bytes
   pub store : List ℕ  -- the local store's 262,144 bytes
+  -- the values in the mailboxes, the oldest first: of 4 places, of 1 and of 1
+  pub inbound : List ℕ
+  pub outbound : List ℕ
+  pub interrupt : List ℕ
 
 abbrev pub is_running : Status → Bool
 is_running Running = true

@@ -1,6 +1,8 @@
 //! Why a machine was not made.
 
+use cell_host::HostError;
 use local_store::StoreError;
+use main_memory::MemoryError;
 use spu_regs::RegsError;
 use std::alloc::{AllocError, AllocFailed};
 
@@ -30,6 +32,18 @@ impl From<RegsError> for MachineError {
 
 impl From<StoreError> for MachineError {
     fn from(_: StoreError) -> MachineError {
+        MachineError::Memory
+    }
+}
+
+impl From<MemoryError> for MachineError {
+    fn from(_: MemoryError) -> MachineError {
+        MachineError::Memory
+    }
+}
+
+impl From<HostError> for MachineError {
+    fn from(_: HostError) -> MachineError {
         MachineError::Memory
     }
 }

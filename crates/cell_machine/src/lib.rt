@@ -7,6 +7,7 @@ mod processor;
 mod setup;
 mod status;
 
+pub use cell_host::{Host, HostAction, Took};
 pub use error::MachineError;
 pub use machine::Machine;
 pub use mfc_command::DmaFault;

@@ -1,22 +1,27 @@
 //! The whole machine.
 
-ghost use Rattle.std.specs.Prelude.{◌≡◌, ℕ, ◌+◌, ◌<◌, ◌≤◌, ◌↔◌, Bool, [], ◌∷◌, ◌++◌, Some, None, length, IfOk, IsOk, OnErr, OnOk, IsSome, IsSomeAnd, IfSome, IfNone, MatchBool, All};
+ghost use Rattle.std.specs.Prelude.{◌≡◌, ℕ, ◌+◌, ◌*◌, ◌<◌, ◌≤◌, ◌↔◌, Bool, List, [], ◌∷◌, ◌++◌, Some, None, length, IfOk, IsOk, OnErr, OnOk, IsSome, IsSomeAnd, IfSome, IfNone, MatchBool, All};
+ghost use Rattle.std.specs.Bool.{OnFalse};
 ghost use Rattle.cell_base.specs.declared.steps.Step.{Step};
 ghost use Rattle.cell_machine.specs.State.{State};
 ghost use Rattle.cell_machine.specs.Next.{act};
 ghost use Rattle.spu_exec.specs.Places.{IsPlace};
 ghost use Rattle.spu_regs.specs.Registers.{register};
-ghost use Rattle.cell_machine.specs.Opening.{Opening, opening_spes};
-ghost use Rattle.cell_machine.specs.Limits.{shown};
+ghost use Rattle.cell_base.specs.Bytes.{zeros};
+ghost use Rattle.cell_host.specs.Script.{Progress};
+ghost use Rattle.cell_machine.specs.Opening.{Opening, opening_spes, filled};
+ghost use Rattle.cell_machine.specs.Limits.{shown, shown_memory};
 ghost use Rattle.cell_machine.specs.Run.{Ran, IsRun, state_of, next_of, spe_of, picked_of, first_of, first_allowed, picked, is_quiet, IsEnd};
-ghost use Rattle.cell_machine.specs.Shows.{Shows, AllTwo, ShowsSpe};
+ghost use Rattle.cell_machine.specs.Shows.{Shows, AllTwo, ShowsSpe, IsFit};
 
 use crate::error::MachineError;
 use crate::processor::Processor;
-use crate::setup::{PlacedBytes, Setup};
+use crate::setup::{MemoryBytes, PlacedBytes, Setup};
 use crate::status::{End, Refused, Status};
 use cell_base::{Actor, Quad, Step};
+use cell_host::Host;
 use local_store::LocalStore;
+use main_memory::Memory;
 use std::alloc::Global;
 use std::marker::Model;
 
@@ -25,6 +30,8 @@ use std::marker::Model;
 pub struct Machine {
     setup: Setup,
     processors: Vec<Processor>,
+    memory: Memory,
+    host: Host,
     steps: Vec<Step>,
 }
 
@@ -38,12 +45,16 @@ impl Model for Machine {
 
     ghost view = { λ a. record { setup = a.setup; steps = a.steps.items } };
 
-    ghost invariant = { λ a. IsMachine a.setup a.steps.items (vec_capacity a.steps) a.processors.items };
+    ghost invariant = { λ a. IsMachine a.setup a.steps.items (vec_capacity a.steps) a.processors.items a.memory a.host };
 }
 
 /// Does the step, or leaves all as it is where it isn't allowed.
-fn act(processors: &mut [Processor], s: Step) -> bool
-    ensures { (M : State) → Shows processors.old M → MatchBool result (IsSomeAnd (act M s) (Shows processors.new)) ((act M s ≡ None) × (processors.new ≡ processors.old)) }
+fn act(processors: &mut [Processor], memory: &mut Memory, host: &mut Host, s: Step) -> bool
+    requires { IsFit (length processors.old) memory.old host.old }
+    ensures made { (M : State) → Shows processors.old memory.old host.old M → MatchBool result (IsSomeAnd (act M s) (Shows processors.new memory.new host.new)) (act M s ≡ None) }
+    ensures refused { OnFalse result ((processors.new ≡ processors.old) × (memory.new ≡ memory.old) × (host.new ≡ host.old)) }
+    ensures long { length memory.new ≡ length memory.old }
+    ensures script { host.new.script ≡ host.old.script }
 {
     match s {
         Step::Exec { spe } => {
@@ -78,10 +89,24 @@ fn opening_processors(
     Ok(processors)
 }
 
+/// The memory at the start.
+fn opening_memory(alloc: Global, lines: u32, pieces: &[MemoryBytes]) -> Result<Memory, MachineError>
+    requires lines { (0 < lines) × (lines ≤ 32768) }
+    requires fits { All (λ x. x.at + length x.bytes.items ≤ 128 * lines) pieces.now }
+    ensures filled { IfOk result (λ memory. memory ≡ filled (zeros (128 * lines)) (shown_memory pieces.now)) }
+    ensures long { IfOk result (λ memory. length memory ≡ 128 * lines) }
+{
+    let mut memory = Memory::new(alloc, lines)?;
+    for piece in pieces {
+        memory.copy_in(piece.at, &piece.bytes);
+    }
+    Ok(memory)
+}
+
 /// The first allowed step of the first actor that has one.
 fn first_step(processors: &[Processor]) -> Option<Step>
     requires { length processors.now ≤ 8 }
-    ensures { (M : State) → Shows processors.now M → result ≡ first_allowed M }
+    ensures { (memory : List ℕ) (host : Progress) (M : State) → Shows processors.now memory host M → result ≡ first_allowed M }
 {
     for spe in 0..processors.len() {
         let processor = &processors[spe];
@@ -94,7 +119,7 @@ fn first_step(processors: &[Processor]) -> Option<Step>
 
 /// Whether no processor runs, no command is outstanding and no slot is taken.
 fn is_quiet(processors: &[Processor]) -> bool
-    ensures { (M : State) → Shows processors.now M → result ≡ is_quiet M }
+    ensures { (memory : List ℕ) (host : Progress) (M : State) → Shows processors.now memory host M → result ≡ is_quiet M }
 {
     for processor in processors {
         if !processor.is_quiet() {
@@ -106,7 +131,7 @@ fn is_quiet(processors: &[Processor]) -> bool
 
 /// The allowed step of the actor at the place that is the choice's remainder.
 fn nth_step(processors: &[Processor], actor: Actor, choice: u64) -> Option<Step>
-    ensures { (M : State) → Shows processors.now M → result ≡ picked M actor choice }
+    ensures { (memory : List ℕ) (host : Progress) (M : State) → Shows processors.now memory host M → result ≡ picked M actor choice }
 {
     match actor {
         Actor::Spu(spe) => {
@@ -132,10 +157,14 @@ impl Machine {
         ensures { IfOk result (λ m. m ≡ record { setup = setup; steps = [] }) }
     {
         let processors = opening_processors(alloc, &setup.entries, &setup.placed)?;
+        let memory = opening_memory(alloc, setup.lines, &setup.memory)?;
+        let host = Host::new(alloc, &setup.actions)?;
         let steps = Vec::with_capacity(alloc, setup.budget as usize)?;
         Ok(Machine {
             setup,
             processors,
+            memory,
+            host,
             steps,
         })
     }
@@ -152,7 +181,7 @@ impl Machine {
         if at >= self.setup.budget() as usize {
             return Err(Refused::Spent);
         }
-        if !act(&mut self.processors, s) {
+        if !act(&mut self.processors, &mut self.memory, &mut self.host, s) {
             return Err(Refused::NotAllowed);
         }
         let _ = self.steps.push(s);
@@ -208,6 +237,22 @@ impl Machine {
     {
         let processor = &self.processors[spe as usize];
         &processor.store
+    }
+
+    /// The main memory.
+    pub fn memory(&self) -> &Memory
+        ensures memory { IsSomeAnd (state_of self.now) (λ M. M.memory ≡ result.now) }
+        ensures long { length result.now ≡ 128 * self.now.setup.lines }
+    {
+        &self.memory
+    }
+
+    /// The host: its script, how many of the actions were done, and the values that these took.
+    pub fn host(&self) -> &Host
+        ensures host { IsSomeAnd (state_of self.now) (λ M. M.host ≡ result.now) }
+        ensures script { result.now.script ≡ self.now.setup.actions }
+    {
+        &self.host
     }
 
     /// All registers of a processor that is there, in the order of their numbers.

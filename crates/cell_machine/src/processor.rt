@@ -12,6 +12,7 @@ use crate::error::MachineError;
 use crate::setup::PlacedBytes;
 use crate::status::Status;
 use local_store::LocalStore;
+use mailboxes::Mailbox;
 use spu_decode::decode;
 use spu_exec::{Flow, exec};
 use spu_regs::Regs;
@@ -24,6 +25,9 @@ pub(crate) struct Processor {
     pub(crate) pc: u32,
     pub(crate) registers: Regs,
     pub(crate) store: LocalStore,
+    pub(crate) inbound: Mailbox<4>,
+    pub(crate) outbound: Mailbox<1>,
+    pub(crate) interrupt: Mailbox<1>,
     ghost here: { IsPlace pc },
 }
 
@@ -64,6 +68,9 @@ impl Processor {
             pc: entry,
             registers,
             store,
+            inbound: Mailbox::new(),
+            outbound: Mailbox::new(),
+            interrupt: Mailbox::new(),
         })
     }
 

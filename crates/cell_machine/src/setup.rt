@@ -1,10 +1,12 @@
 //! What a machine begins with.
 
-ghost use Rattle.std.specs.Prelude.{All, ◌≡◌, ℕ, ◌+◌, ◌<◌, ◌≤◌, ◌≢◌, ◌↔◌, [], ◌∷◌, ◌++◌, length, slice_set, IfOk, IsTrue, OnErr, OnOk};
+ghost use Rattle.std.specs.Prelude.{All, ◌≡◌, ℕ, ◌+◌, ◌*◌, ◌%◌, ◌<◌, ◌≤◌, ◌≢◌, ◌↔◌, [], ◌∷◌, ◌++◌, length, slice_set, IfOk, IsTrue, OnErr, OnOk};
 ghost use Rattle.spu_exec.specs.Places.{IsPlace};
-ghost use Rattle.cell_machine.specs.Limits.{AreMachineLimits, FitsShow, MayShow};
+ghost use Rattle.cell_machine.specs.Limits.{AreMachineLimits, FitsShow, MayShow, FitsAction, MayAct};
 
+use cell_host::{HostAction, MAX_ACTIONS};
 use local_store::STORE_BYTES;
+use main_memory::LINE_BYTES;
 use std::alloc::Global;
 use std::marker::Model;
 
@@ -19,6 +21,9 @@ const MOST_STEPS: u32 = 1_000_000;
 const MOST_SHOWS: usize = 64;
 
 const MOST_SHOWN: u32 = 4096;
+
+/// How many bytes a host action may store.
+const MOST_STORED: u32 = 16;
 
 /// A range that the states of a run show: of main memory, or of a processor's local store.
 #[derive(Clone, Copy, Debug, PartialEq, Eq)]
@@ -35,14 +40,23 @@ pub(crate) struct PlacedBytes {
     pub(crate) bytes: Vec<u8>,
 }
 
+/// Bytes for main memory.
+#[derive(Drop)]
+pub(crate) struct MemoryBytes {
+    pub(crate) at: u32,
+    pub(crate) bytes: Vec<u8>,
+}
+
 /// What a machine begins with: memory lines, a budget of steps, processors with their start addresses,
-/// the bytes placed in their local stores, and the ranges that the states show.
+/// the bytes placed in their local stores and in main memory, the host's script, and the ranges that the states show.
 #[derive(Drop)]
 pub struct Setup {
     pub(crate) lines: u32,
     pub(crate) budget: u32,
     pub(crate) entries: Vec<u32>,
     pub(crate) placed: Vec<PlacedBytes>,
+    pub(crate) memory: Vec<MemoryBytes>,
+    pub(crate) actions: Vec<HostAction>,
     shows: Vec<Show>,
     alloc: Global,
 }
@@ -52,11 +66,11 @@ impl Model for Setup {
 
     ghost Value = { Opening };
 
-    ghost use Rattle.cell_machine.specs.Limits.{shown, IsOpening};
+    ghost use Rattle.cell_machine.specs.Limits.{shown, shown_memory, IsOpening};
 
-    ghost view = { λ s. record { lines = s.lines; budget = s.budget; entries = s.entries.items; placed = shown s.placed.items; shows = s.shows.items } };
+    ghost view = { λ s. record { lines = s.lines; budget = s.budget; entries = s.entries.items; placed = shown s.placed.items; memory = shown_memory s.memory.items; actions = s.actions.items; shows = s.shows.items } };
 
-    ghost invariant = { λ s. IsOpening (record { lines = s.lines; budget = s.budget; entries = s.entries.items; placed = shown s.placed.items; shows = s.shows.items }) };
+    ghost invariant = { λ s. IsOpening (record { lines = s.lines; budget = s.budget; entries = s.entries.items; placed = shown s.placed.items; memory = shown_memory s.memory.items; actions = s.actions.items; shows = s.shows.items }) };
 }
 
 /// Why a call of a Setup refused.
@@ -70,7 +84,7 @@ pub enum SetupError {
 impl Setup {
     /// A setup with no processor, of 1 to 32,768 lines and with a budget of 1 to 1,000,000 steps; `Limit` outside of these.
     pub fn new(alloc: Global, lines: u32, budget: u32) -> Result<Setup, SetupError>
-        ensures made { IfOk result (λ s. s ≡ record { lines = lines; budget = budget; entries = []; placed = []; shows = [] }) }
+        ensures made { IfOk result (λ s. s ≡ record { lines = lines; budget = budget; entries = []; placed = []; memory = []; actions = []; shows = [] }) }
         ensures limits { OnOk result (AreMachineLimits lines budget) }
         ensures refused { AreMachineLimits lines budget → result ≢ Err SetupError.Limit }
     {
@@ -82,6 +96,8 @@ impl Setup {
             budget,
             entries: Vec::new(alloc),
             placed: Vec::new(alloc),
+            memory: Vec::new(alloc),
+            actions: Vec::new(alloc),
             shows: Vec::new(alloc),
             alloc,
         })
@@ -132,6 +148,81 @@ impl Setup {
             return Err(SetupError::Memory);
         }
         Ok(())
+    }
+
+    /// Places bytes in main memory from an address on; later bytes replace earlier ones. `Limit` where they don't fit it.
+    pub fn place_memory(&mut self, at: u32, bytes: &[u8]) -> Result<(), SetupError>
+        ensures placed { OnOk result (self.new ≡ record self.old { memory = self.old.memory ++ record { at = at; bytes = bytes.now } ∷ [] }) }
+        ensures limit { (result ≡ Err SetupError.Limit) ↔ (at + length bytes.now ≤ 128 * self.old.lines → ⊥) }
+        ensures err { OnErr result (self.new ≡ self.old) }
+    {
+        let size = (LINE_BYTES * self.lines) as usize;
+        if bytes.len() > size || at as usize > size - bytes.len() {
+            return Err(SetupError::Limit);
+        }
+        let Ok(copy) = bytes.to_vec(self.alloc) else {
+            return Err(SetupError::Memory);
+        };
+        if self.memory.push(MemoryBytes { at, bytes: copy }).is_err() {
+            return Err(SetupError::Memory);
+        }
+        Ok(())
+    }
+
+    /// Adds the next action of the host's script. `Limit` where 4,096 are there, its processor isn't there, or it is a store
+    /// that doesn't have 1 to 16 bytes within one line of 128 bytes of the memory.
+    pub fn add_action(&mut self, a: HostAction) -> Result<(), SetupError>
+        ensures added { OnOk result (self.new ≡ record self.old { actions = self.old.actions ++ a ∷ [] }) }
+        ensures limit { (result ≡ Err SetupError.Limit) ↔ (MayAct self.old a → ⊥) }
+        ensures err { OnErr result (self.new ≡ self.old) }
+    {
+        if self.actions.len() >= MAX_ACTIONS || !self.fits_action(a) {
+            return Err(SetupError::Limit);
+        }
+        if self.actions.push(a).is_err() {
+            return Err(SetupError::Memory);
+        }
+        Ok(())
+    }
+
+    /// Whether an action's processor is there, or its bytes are 1 to 16 within one line of the memory.
+    fn fits_action(&self, a: HostAction) -> bool
+        ensures { IsTrue result ↔ FitsAction self.now.lines (length self.now.entries) a }
+    {
+        match a {
+            HostAction::Send { spe, .. } => self.has_spe(spe),
+            HostAction::Take { spe } => self.has_spe(spe),
+            HostAction::TakeIntr { spe } => self.has_spe(spe),
+            HostAction::Store { ea, len, .. } => self.fits_in_line(ea, len),
+            HostAction::Await { spe } => self.has_spe(spe),
+        }
+    }
+
+    fn has_spe(&self, spe: u8) -> bool
+        ensures { IsTrue result ↔ (spe < length self.now.entries) }
+    {
+        (spe as usize) < self.entries.len()
+    }
+
+    /// Whether so many bytes are 1 to 16 within one line of the memory.
+    fn fits_in_line(&self, ea: u32, len: u8) -> bool
+        ensures { IsTrue result ↔ ((0 < len) × (len ≤ 16) × (ea % 128 + len ≤ 128) × (ea + len ≤ 128 * self.now.lines)) }
+    {
+        let len = u32::from(len);
+        let end = u64::from(ea) + u64::from(len);
+        0 < len
+            && len <= MOST_STORED
+            && ea % LINE_BYTES + len <= LINE_BYTES
+            && end <= 128 * u64::from(self.lines)
+    }
+
+    /// The host's script; each action fits.
+    pub fn actions(&self) -> &[HostAction]
+        ensures actions { result.now ≡ self.now.actions }
+        ensures few { length self.now.actions ≤ 4096 }
+        ensures fits { All (FitsAction self.now.lines (length self.now.entries)) self.now.actions }
+    {
+        self.actions.as_slice()
     }
 
     /// Makes a processor start at an address. `Limit` where the processor isn't there, or the address is no multiple of 4

@@ -12,4 +12,7 @@ returns c = λ S placed. record {
   store = ap (placed_in (zeros 262144) c.args.spe) placed
       ∙ ap (λ store. placed_in store c.args.spe (shown c.args.placed.now)) (sym c.in_ok-store.ensures)
       ∙ sym c.place_bytes.ensures;
+  inbound = sym c.new-3.ensures;
+  outbound = sym c.new-4.ensures;
+  interrupt = sym c.new-5.ensures;
 }
