@@ -12,10 +12,11 @@ use Rattle.cell_host.specs.Script.{Progress}
 use Rattle.cell_machine.specs.State.{State, with_spe}
 use Rattle.cell_machine.specs.Exec.{exec}
 use Rattle.cell_machine.specs.Next.{act, next, ended_by}
-use Rattle.cell_machine.specs.Run.{steps_of, allowed, actors, first_allowed, HasEnded, CanGoOn}
+use Rattle.cell_machine.specs.Hosts.{host as host_step}
+use Rattle.cell_machine.specs.Run.{steps_of, allowed, picked, actors, first_allowed, HasEnded, CanGoOn}
 use Rattle.cell_machine.specs.Shows.{Shows, ShowsSpe}
 use Rattle.cell_machine.proofs.AllTwo.{two_at, two_length, two_found, is_some_map, none_of}
-use Rattle.cell_machine.proofs.Steps.{act-no_spe, act-piece, act-elem, act-retire, act-atomic, act-host}
+use Rattle.cell_machine.proofs.Steps.{act-no_spe, act-piece, act-elem, act-retire, act-atomic}
 
 -- the processor's test says whether its instruction is allowed
 pub next-exec : {memory : List ℕ} {host : Progress} (processors : List Processor) (M : State) (p : ℕ) (x : Processor) (b : Bool) → Shows processors memory host M → p < length processors → x ≡ slice_index_or processors p x
@@ -42,8 +43,14 @@ allowed-no_spu M p h = allowed-no_one M (Exec p) (Exec p ∷ []) refl h
 pub no_next : (M : State) (s : Step) → act M s ≡ None → is_some (next M s) ≡ false
 no_next M s h = rw h refl
 
-pub allowed-host : {memory : List ℕ} {host : Progress} (processors : List Processor) (M : State) → Shows processors memory host M → allowed M TheHost ≡ []
-allowed-host processors M shows = allowed-no_one M Host (Host ∷ []) refl (no_next M Host (act-host processors M shows))
+pub next-host : (M : State) → is_some (next M Host) ≡ is_some (host_step M)
+next-host M = is_some_map (ended_by M Host) (host_step M)
+
+pub allowed-host : (M : State) (b : Bool) → b ≡ is_some (host_step M) → b ≡ true → allowed M TheHost ≡ Host ∷ []
+allowed-host M b test on = allowed-one M Host (Host ∷ []) refl (next-host M ∙ sym test ∙ on)
+
+pub allowed-no_host : (M : State) (b : Bool) → b ≡ is_some (host_step M) → b ≡ false → allowed M TheHost ≡ []
+allowed-no_host M b test off = allowed-no_one M Host (Host ∷ []) refl (next-host M ∙ sym test ∙ off)
 
 pub allowed-mfc : {memory : List ℕ} {host : Progress} (processors : List Processor) (M : State) (p : ℕ) → Shows processors memory host M → allowed M (Mfc p) ≡ []
 allowed-mfc processors M p shows = allowed-no_one M (Atomic p) (Atomic p ∷ []) refl (no_next M (Atomic p) (act-atomic processors M p shows))
@@ -65,11 +72,16 @@ from-skip M a n h none = let e : n - a ≡ suc (n - (a + 1)) = omega arith in rw
 pub from-found : (M : State) (a n : ℕ) → a < n → allowed M (Spu a) ≡ Exec a ∷ [] → slice_get (from_spu M a (n - a)) 0 ≡ Some (Exec a)
 from-found M a n h one = let e : n - a ≡ suc (n - (a + 1)) = omega arith in rw e (rw one refl)
 
-mfc_none : {memory : List ℕ} {host : Progress} (processors : List Processor) (M : State) (a n : ℕ) → Shows processors memory host M → flat_map (allowed M) (map Mfc (range_with_len a n) ++ TheHost ∷ []) ≡ []
-mfc_none processors M a zero shows = rw (allowed-host processors M shows) refl
+append_nothing : (xs : List Step) → xs ++ [] ≡ xs
+append_nothing [] = refl
+append_nothing (x ∷ xs) = ap (λ ys. x ∷ ys) (append_nothing xs)
+
+mfc_none : {memory : List ℕ} {host : Progress} (processors : List Processor) (M : State) (a n : ℕ) → Shows processors memory host M → flat_map (allowed M) (map Mfc (range_with_len a n) ++ TheHost ∷ []) ≡ allowed M TheHost
+mfc_none processors M a zero shows = append_nothing (allowed M TheHost)
 mfc_none processors M a (suc n) shows = rw (allowed-mfc processors M a shows) (mfc_none processors M (a + 1) n shows)
 
-pub from-end : {memory : List ℕ} {host : Progress} (processors : List Processor) (M : State) (a : ℕ) → Shows processors memory host M → from_spu M a 0 ≡ []
+-- behind the processors comes the host
+pub from-end : {memory : List ℕ} {host : Progress} (processors : List Processor) (M : State) (a : ℕ) → Shows processors memory host M → from_spu M a 0 ≡ allowed M TheHost
 from-end processors M a shows = mfc_none processors M 0 (length M.spes) shows
 
 -- where there is none, no processor has one
@@ -83,6 +95,11 @@ spu_none M a (suc n) zero h less = let e : a + 0 ≡ a = omega arith in subst (�
 spu_none M a (suc n) (suc k) h less =
     let e : a + suc k ≡ a + 1 + k = omega arith in
     subst (λ q. allowed M (Spu q) ≡ []) (sym e) (spu_none M (a + 1) n k (append_none (allowed M (Spu a)) (from_spu M (a + 1) n) h).1 (omega arith))
+
+-- nor has the host
+host_none : {memory : List ℕ} {host : Progress} (processors : List Processor) (M : State) (a n : ℕ) → Shows processors memory host M → from_spu M a n ≡ [] → allowed M TheHost ≡ []
+host_none processors M a zero shows h = sym (from-end processors M a shows) ∙ h
+host_none processors M a (suc n) shows h = host_none processors M (a + 1) n shows (append_none (allowed M (Spu a)) (from_spu M (a + 1) n) h).1
 
 filter_none : (M : State) (s : Step) (b : Bool) → is_some (next M s) ≡ b → filter (λ t. is_some (next M t)) (s ∷ []) ≡ [] → next M s ≡ None
 filter_none M s true e h = absurd (let f : filter (λ t. is_some (next M t)) (s ∷ []) ≡ s ∷ [] = rw e refl in let g : s ∷ [] ≡ [] = sym f ∙ h in cc)
@@ -115,7 +132,8 @@ has_ended processors M shows h (Piece p c e k) = no_act M (Piece p c e k) (act-p
 has_ended processors M shows h (Elem p c) = no_act M (Elem p c) (act-elem processors M p c shows)
 has_ended processors M shows h (Retire p c) = no_act M (Retire p c) (act-retire processors M p c shows)
 has_ended processors M shows h (Atomic p) = no_act M (Atomic p) (act-atomic processors M p shows)
-has_ended processors M shows h Host = no_act M Host (act-host processors M shows)
+has_ended processors M shows h Host =
+    filter_none M Host _ refl (host_none processors M 0 (length M.spes) shows (first_none (from_spu M 0 (length M.spes)) h))
 
 pub allowed-absent : {memory : List ℕ} {host : Progress} (processors : List Processor) (M : State) (p : ℕ) → Shows processors memory host M → length processors ≤ p → allowed M (Spu p) ≡ []
 allowed-absent processors M p shows h = allowed-no_spu M p (no_next M (Exec p) (act-no_spe processors M p shows h))
@@ -141,11 +159,19 @@ first-found processors M p x b shows h at test on so_far =
 -- none has
 pub first-none : {memory : List ℕ} {host : Progress} (processors : List Processor) (M : State) (p : ℕ) → Shows processors memory host M → length processors ≤ p
     → from_spu M 0 (length M.spes) ≡ from_spu M p (length M.spes - p)
-    → None ≡ first_allowed M
+    → first_allowed M ≡ slice_get (allowed M TheHost) 0
 first-none processors M p shows h so_far =
     let same : length M.spes ≡ length processors = two_length ShowsSpe processors M.spes shows.spes in
     let e : length M.spes - p ≡ 0 = omega arith in
-    sym (ap (λ xs. slice_get xs 0) (so_far ∙ ap (from_spu M p) e ∙ from-end processors M p shows))
+    ap (λ xs. slice_get xs 0) (so_far ∙ ap (from_spu M p) e ∙ from-end processors M p shows)
+
+-- the host's step is picked, where it is allowed
+pub pick-host : (M : State) (choice : ℕ) (o : Option Step) → o ≡ slice_get (allowed M TheHost) 0 → o ≡ picked M TheHost choice
+pick-host M choice o h = on (is_some (next M Host)) refl
+  where
+    on : (b : Bool) → is_some (next M Host) ≡ b → o ≡ picked M TheHost choice
+    on true e = let xs = allowed-one M Host (Host ∷ []) refl e in h ∙ ap (λ ys. slice_get ys 0) xs ∙ sym (pick_one (allowed M TheHost) Host choice xs)
+    on false e = let xs = allowed-no_one M Host (Host ∷ []) refl e in h ∙ ap (λ ys. slice_get ys 0) xs ∙ sym (pick_none (allowed M TheHost) (choice % length (allowed M TheHost)) xs)
 
 -- each element of a filtered list passes, and so does the first of several
 filter_head : (t : Step → Bool) (xs rest : List Step) (s : Step) → slice_get (filter t xs ++ rest) 0 ≡ Some s → (t s ≡ true) ⊎ (slice_get rest 0 ≡ Some s)

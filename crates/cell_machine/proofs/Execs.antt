@@ -1,18 +1,22 @@
 -- One instruction of a processor, as the code comes to it.
-use Rattle.std.proofs.Common.{◌≡◌, Bool, refl, sym, ◌∙◌, ap, true, false}
-use Rattle.std.specs.Prelude.{Option, Some, None, is_some, IsSomeAnd}
+use Rattle.std.proofs.Props.{props}
+use Rattle.std.proofs.Common.{ℕ, ◌≡◌, true≢false, Bool, refl, sym, ◌∙◌, ap, true, false}
+use Rattle.std.specs.Prelude.{Option, Some, None, is_some, IsSome, IsSomeAnd, MatchBool}
+use Rattle.std.specs.Bool.{OnFalse}
 use Rattle.spu_decode.specs.declared.Instr.{Instr}
 use Rattle.spu_decode.specs.Spelling.{instr_of}
 use Rattle.spu_exec.specs.declared.flow.Flow.{Flow}
 use Rattle.spu_exec.specs.declared.flow.Flow.TheVariants.{Next, Stop, Halt, Channel}
 use Rattle.spu_exec.specs.Meaning.{meaning, Outcome}
+use Rattle.spu_exec.specs.Places.{IsPlace}
 use Rattle.local_store.specs.Store.{word_at}
 use Rattle.cell_machine.specs.declared.processor.Processor.{Processor}
 use Rattle.cell_machine.specs.declared.status.Status.TheVariants.{BadWord}
 use Rattle.cell_machine.specs.Spe.{Spe, is_running}
 use Rattle.cell_machine.specs.Channels.{channel}
-use Rattle.cell_machine.specs.Exec.{exec, exec_instr, followed}
-use Rattle.cell_machine.specs.Shows.{ShowsSpe}
+use Rattle.cell_base.specs.declared.steps.ChannelOp.{ChannelOp}
+use Rattle.cell_machine.specs.Exec.{exec, exec_instr, followed, op_of}
+use Rattle.cell_machine.specs.Shows.{ShowsSpe, ShowsMailboxes}
 
 -- one that doesn't run makes no instruction
 pub exec-stopped : (P : Spe) → is_running P.status ≡ false → exec P ≡ None
@@ -38,29 +42,56 @@ pub none_there : {A : Type 0} (o : Option A) → ((x : A) → o ≡ Some x → �
 none_there None lacks = refl
 none_there (Some x) lacks = absurd (lacks x refl)
 
--- the code did what follows the instruction
-pub exec-follows : (c : Processor) (P : Spe) (i : Instr) (o : Outcome) (Q : Spe → Type 0) → ShowsSpe c P → is_running c.status ≡ true → instr_of (word_at c.store c.pc) ≡ Some i
-    → o ≡ meaning i c.pc c.registers c.store → IsSomeAnd (followed (record P { registers = o.regs; store = o.store }) o.flow) Q → IsSomeAnd (exec P) Q
-exec-follows c P i o Q shows on some means did = rw (exec-made c P i o shows on some means) did
+-- the code did what follows the instruction, or that isn't allowed
+pub exec-follows : (c : Processor) (P : Spe) (i : Instr) (o : Outcome) (b : Bool) (Q : Spe → Type 0) → ShowsSpe c P → is_running c.status ≡ true → instr_of (word_at c.store c.pc) ≡ Some i
+    → o ≡ meaning i c.pc c.registers c.store
+    → MatchBool b (IsSomeAnd (followed (record P { registers = o.regs; store = o.store }) o.flow) Q) (followed (record P { registers = o.regs; store = o.store }) o.flow ≡ None)
+    → MatchBool b (IsSomeAnd (exec P) Q) (exec P ≡ None)
+exec-follows c P i o b Q shows on some means did = rw (exec-made c P i o shows on some means) did
 
-follows-some : (P : Spe) (flow : Flow) → is_some (followed P flow) ≡ true
-unfolding channel
-follows-some P (Next pc) = refl
-follows-some P (Stop code next) = refl
-follows-some P (Halt next) = refl
-follows-some P (Channel op) = refl
+-- what an instruction asks for is what its flow asks for
+follows-op : (P : Spe) (flow : Flow) (op : ChannelOp) → op_of flow ≡ Some op → followed P flow ≡ channel P op
+follows-op P (Next pc) op h = absurd (cc)
+follows-op P (Stop code next) op h = absurd (cc)
+follows-op P (Halt next) op h = absurd (cc)
+follows-op P (Channel asked) op h = let same : asked ≡ op = cc in ap (channel P) same
 
-instr-some : (P : Spe) (o : Option Instr) → is_some (exec_instr P o) ≡ true
-instr-some P None = refl
-instr-some P (Some i) =
-    let o = meaning i P.pc P.registers P.store in
-    follows-some (record P { registers = o.regs; store = o.store }) o.flow
+follows-none : (P : Spe) (flow : Flow) → op_of flow ≡ None → is_some (followed P flow) ≡ true
+follows-none P (Next pc) h = refl
+follows-none P (Stop code next) h = refl
+follows-none P (Halt next) h = refl
+follows-none P (Channel op) h = absurd (cc)
 
--- one that runs makes its next instruction, whatever that is
-pub exec-running : (P : Spe) → is_running P.status ≡ true → is_some (exec P) ≡ true
-unfolding exec
-exec-running P on = rw on (instr-some P (instr_of (word_at P.store P.pc)))
+-- whether the instruction is allowed
+pub may-bad_word : (c : Processor) (P : Spe) → ShowsSpe c P → is_running c.status ≡ true → instr_of (word_at c.store c.pc) ≡ None → true ≡ is_some (exec P)
+may-bad_word c P shows on none = sym (ap is_some (exec-bad_word c P shows on none))
 
-pub may_exec-is : (P : Spe) (b : Bool) → b ≡ is_running P.status → b ≡ is_some (exec P)
-may_exec-is P true e = sym (exec-running P (sym e))
-may_exec-is P false e = sym (ap is_some (exec-stopped P (sym e)))
+pub may-operate : (c : Processor) (P : Spe) (i : Instr) (op : ChannelOp) (b : Bool) → ShowsSpe c P → is_running c.status ≡ true → instr_of (word_at c.store c.pc) ≡ Some i
+    → Some op ≡ op_of (meaning i c.pc c.registers c.store).flow → ((Q : Spe) → ShowsMailboxes c Q → b ≡ is_some (channel Q op)) → b ≡ is_some (exec P)
+may-operate c P i op b shows on some asks ready =
+    let o = meaning i c.pc c.registers c.store in
+    let Q : Spe = record P { registers = o.regs; store = o.store } in
+    ready Q (record { inbound = shows.inbound; outbound = shows.outbound; interrupt = shows.interrupt })
+    ∙ sym (ap is_some (exec-made c P i o shows on some refl ∙ follows-op Q o.flow op (sym asks)))
+
+pub may-go_on : (c : Processor) (P : Spe) (i : Instr) → ShowsSpe c P → is_running c.status ≡ true → instr_of (word_at c.store c.pc) ≡ Some i
+    → None ≡ op_of (meaning i c.pc c.registers c.store).flow → true ≡ is_some (exec P)
+may-go_on c P i shows on some asks =
+    let o = meaning i c.pc c.registers c.store in
+    let Q : Spe = record P { registers = o.regs; store = o.store } in
+    sym (ap is_some (exec-made c P i o shows on some refl) ∙ follows-none Q o.flow (sym asks))
+
+-- an address is a place in one way
+pub place-prop : (pc : ℕ) → IsProp (IsPlace pc)
+place-prop pc = hlevel props
+
+-- only a channel operation is refused, and it leaves the processor as it was
+channel_of : (flow : Flow) → IsSome (op_of flow) → (op : ChannelOp) × (flow ≡ Channel op)
+channel_of (Next pc) h = absurd (true≢false (sym h))
+channel_of (Stop code next) h = absurd (true≢false (sym h))
+channel_of (Halt next) h = absurd (true≢false (sym h))
+channel_of (Channel op) h = (op, refl)
+
+pub exec-refused : (b : Bool) (x y z : Processor) (flow : Flow) → OnFalse b (z ≡ y) → OnFalse b (IsSome (op_of flow)) → ((op : ChannelOp) → flow ≡ Channel op → y ≡ x) → OnFalse b (z ≡ x)
+exec-refused true x y z flow same only kept = tt
+exec-refused false x y z flow same only kept = let is = channel_of flow only in same ∙ kept is.0 is.1

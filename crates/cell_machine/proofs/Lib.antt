@@ -5,3 +5,5 @@ pub mod Choices
 pub mod Openings
 pub mod AnyStep
 pub mod Execs
+pub mod ChannelSteps
+pub mod HostSteps

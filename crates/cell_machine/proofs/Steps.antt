@@ -1,6 +1,6 @@
 use Rattle.std.proofs.Common.{◌≡◌, ℕ, ◌<◌, ◌≤◌, List, length, refl, slice_index_or, slice_set, true, false, Bool}
 use Rattle.std.specs.Prelude.{None, IsSomeAnd, option_map, MatchBool}
-use Rattle.cell_base.specs.declared.steps.Step.TheVariants.{Exec, Piece, Elem, Retire, Atomic, Host}
+use Rattle.cell_base.specs.declared.steps.Step.TheVariants.{Exec, Piece, Elem, Retire, Atomic}
 use Rattle.cell_machine.specs.declared.processor.Processor.{Processor}
 use Rattle.cell_machine.specs.Spe.{Spe}
 use Rattle.cell_host.specs.Script.{Progress}
@@ -8,7 +8,6 @@ use Rattle.cell_machine.specs.State.{State, with_spe}
 use Rattle.cell_machine.specs.Exec.{exec}
 use Rattle.cell_machine.specs.Transfers.{piece, elem, retire}
 use Rattle.cell_machine.specs.Atomic.{atomic}
-use Rattle.cell_machine.specs.Hosts.{host}
 use Rattle.cell_machine.specs.Next.{act}
 use Rattle.cell_machine.specs.Shows.{Shows, ShowsSpe}
 use Rattle.cell_machine.proofs.AllTwo.{two_at, two_none, two_set, two_and_then, some_map}
@@ -33,7 +32,7 @@ act-exec processors d new M p false shows h does =
     let none : exec two.0 ≡ None = does two.0 two.2 in
     rw (two.1, none) refl
 
--- no queued command, no atomic command and no host action has a step
+-- no queued command and no atomic command has a step
 spe-piece : (M : State) (p c e k : ℕ) (x : Processor) (P : Spe) → ShowsSpe x P → option_map (with_spe M p) (piece P c e k) ≡ None
 unfolding piece
 spe-piece M p c e k x P shows = refl
@@ -50,10 +49,6 @@ spe-atomic : (M : State) (p : ℕ) (x : Processor) (P : Spe) → ShowsSpe x P �
 unfolding atomic
 spe-atomic M p x P shows = refl
 
-host-none : (M : State) → host M ≡ None
-unfolding host
-host-none M = refl
-
 pub act-piece : {memory : List ℕ} {host : Progress} (processors : List Processor) (M : State) (p c e k : ℕ) → Shows processors memory host M → act M (Piece p c e k) ≡ None
 act-piece processors M p c e k shows = two_and_then ShowsSpe (λ P. option_map (with_spe M p) (piece P c e k)) processors M.spes p (spe-piece M p c e k) shows.spes
 
@@ -65,6 +60,3 @@ act-retire processors M p c shows = two_and_then ShowsSpe (λ P. option_map (wit
 
 pub act-atomic : {memory : List ℕ} {host : Progress} (processors : List Processor) (M : State) (p : ℕ) → Shows processors memory host M → act M (Atomic p) ≡ None
 act-atomic processors M p shows = two_and_then ShowsSpe (λ P. option_map (with_spe M p) (atomic P)) processors M.spes p (spe-atomic M p) shows.spes
-
-pub act-host : {memory : List ℕ} {host : Progress} (processors : List Processor) (M : State) → Shows processors memory host M → act M Host ≡ None
-act-host processors M shows = host-none M

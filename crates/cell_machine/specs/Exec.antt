@@ -1,5 +1,6 @@
 -- One instruction of one processor.
 use Rattle.std.specs.Prelude.{if◌then◌else◌, Option, Some, None}
+use Rattle.cell_base.specs.declared.steps.ChannelOp.{ChannelOp}
 use Rattle.spu_decode.specs.declared.Instr.{Instr}
 use Rattle.spu_decode.specs.Spelling.{instr_of}
 use Rattle.spu_exec.specs.declared.flow.Flow.{Flow}
@@ -9,6 +10,13 @@ use Rattle.local_store.specs.Store.{word_at}
 use Rattle.cell_machine.specs.declared.status.Status.TheVariants.{Stopped, Halted, BadWord}
 use Rattle.cell_machine.specs.Spe.{Spe, is_running}
 use Rattle.cell_machine.specs.Channels.{channel}
+
+-- the channel operation that a flow asks for
+abbrev pub op_of : Flow → Option ChannelOp
+op_of (Next pc) = None
+op_of (Stop code next) = None
+op_of (Halt next) = None
+op_of (Channel op) = Some op
 
 -- what comes after the instruction
 abbrev pub followed : Spe → Flow → Option Spe

@@ -1,5 +1,5 @@
 -- What the code's parts stand for.
-use Rattle.std.specs.Prelude.{◌≡◌, ℕ, ◌*◌, ◌≤◌, List, [], ◌∷◌, length, Some, All}
+use Rattle.std.specs.Prelude.{◌≡◌, ℕ, ◌*◌, ◌≤◌, List, [], ◌∷◌, length, Option, Some, None, All}
 use Rattle.cell_base.specs.declared.steps.Step.{Step}
 use Rattle.cell_machine.specs.declared.processor.Processor.{Processor}
 use Rattle.cell_machine.specs.Spe.{Spe}
@@ -8,6 +8,9 @@ use Rattle.cell_machine.specs.Opening.{Opening, opening}
 use Rattle.cell_machine.specs.Limits.{FitsAction}
 use Rattle.cell_machine.specs.Run.{replay}
 use Rattle.cell_host.specs.Script.{Progress}
+use Rattle.cell_host.specs.declared.HostAction.{HostAction}
+use Rattle.cell_machine.specs.declared.hosts.Taken.{Taken}
+use Rattle.cell_machine.specs.Hosts.{Given, Acted}
 
 -- the processor is what the written machine has
 pub record ShowsSpe (c : Processor) (P : Spe) : Type 0 where
@@ -15,6 +18,12 @@ pub record ShowsSpe (c : Processor) (P : Spe) : Type 0 where
   pub pc : P.pc ≡ c.pc
   pub registers : P.registers ≡ c.registers
   pub store : P.store ≡ c.store
+  pub inbound : P.inbound ≡ c.inbound
+  pub outbound : P.outbound ≡ c.outbound
+  pub interrupt : P.interrupt ≡ c.interrupt
+
+-- its mailboxes are
+pub record ShowsMailboxes (c : Processor) (P : Spe) : Type 0 where
   pub inbound : P.inbound ≡ c.inbound
   pub outbound : P.outbound ≡ c.outbound
   pub interrupt : P.interrupt ≡ c.interrupt
@@ -31,6 +40,26 @@ pub record Shows (processors : List Processor) (memory : List ℕ) (host : Progr
   pub spes : AllTwo ShowsSpe processors M.spes
   pub memory_is : M.memory ≡ memory
   pub host_is : M.host ≡ host
+
+-- what an action took from a processor, and what it leaves of it
+abbrev pub Gives : Option Taken → Option Given → Processor → Type 0
+Gives None None c = Unit {0}
+Gives (Some t) (Some g) c = ShowsSpe c g.spe × (g.took ≡ t.value)
+Gives None (Some g) c = ⊥
+Gives (Some t) None c = ⊥
+
+-- and what it leaves of a state
+abbrev pub Leaves : Option Taken → Option Acted → List Processor → List ℕ → Progress → Type 0
+Leaves None None processors memory host = Unit {0}
+Leaves (Some t) (Some d) processors memory host = Shows processors memory host d.state × (d.took ≡ t.value)
+Leaves None (Some d) processors memory host = ⊥
+Leaves (Some t) None processors memory host = ⊥
+
+-- the memory has some lines, and the action fits
+pub record Fits (spes : ℕ) (memory : List ℕ) (action : HostAction) : Type 0 where
+  pub lines : ℕ
+  pub long : length memory ≡ 128 * lines
+  pub fits : FitsAction lines spes action
 
 -- the memory has some lines, and each action of the script fits
 pub record IsFit (spes : ℕ) (memory : List ℕ) (host : Progress) : Type 0 where

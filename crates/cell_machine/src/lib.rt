@@ -1,7 +1,9 @@
 //! The machine: processors that execute instructions of their local stores, one atomic step at a time, and the record of those steps.
 #![tactic(auto)]
 
+mod channels;
 mod error;
+mod hosts;
 mod machine;
 mod processor;
 mod setup;

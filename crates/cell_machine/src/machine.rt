@@ -1,6 +1,6 @@
 //! The whole machine.
 
-ghost use Rattle.std.specs.Prelude.{◌≡◌, ℕ, ◌+◌, ◌*◌, ◌<◌, ◌≤◌, ◌↔◌, Bool, List, [], ◌∷◌, ◌++◌, Some, None, length, IfOk, IsOk, OnErr, OnOk, IsSome, IsSomeAnd, IfSome, IfNone, MatchBool, All};
+ghost use Rattle.std.specs.Prelude.{◌≡◌, ℕ, ◌+◌, ◌*◌, ◌<◌, ◌≤◌, ◌↔◌, Bool, List, [], ◌∷◌, ◌++◌, Some, None, length, IfOk, IsOk, OnErr, OnOk, IsSome, IsSomeAnd, IfSome, IfNone, MatchBool, All, slice_get};
 ghost use Rattle.std.specs.Bool.{OnFalse};
 ghost use Rattle.cell_base.specs.declared.steps.Step.{Step};
 ghost use Rattle.cell_machine.specs.State.{State};
@@ -11,10 +11,11 @@ ghost use Rattle.cell_base.specs.Bytes.{zeros};
 ghost use Rattle.cell_host.specs.Script.{Progress};
 ghost use Rattle.cell_machine.specs.Opening.{Opening, opening_spes, filled};
 ghost use Rattle.cell_machine.specs.Limits.{shown, shown_memory};
-ghost use Rattle.cell_machine.specs.Run.{Ran, IsRun, state_of, next_of, spe_of, picked_of, first_of, first_allowed, picked, is_quiet, IsEnd};
+ghost use Rattle.cell_machine.specs.Run.{Ran, IsRun, state_of, next_of, spe_of, picked_of, first_of, first_allowed, picked, allowed, is_quiet, IsEnd};
 ghost use Rattle.cell_machine.specs.Shows.{Shows, AllTwo, ShowsSpe, IsFit};
 
 use crate::error::MachineError;
+use crate::hosts::{act_host, may_act_host};
 use crate::processor::Processor;
 use crate::setup::{MemoryBytes, PlacedBytes, Setup};
 use crate::status::{End, Refused, Status};
@@ -67,7 +68,7 @@ fn act(processors: &mut [Processor], memory: &mut Memory, host: &mut Host, s: St
         Step::Elem { .. } => false,
         Step::Retire { .. } => false,
         Step::Atomic { .. } => false,
-        Step::Host => false,
+        Step::Host => act_host(processors, memory, host),
     }
 }
 
@@ -104,9 +105,9 @@ fn opening_memory(alloc: Global, lines: u32, pieces: &[MemoryBytes]) -> Result<M
 }
 
 /// The first allowed step of the first actor that has one.
-fn first_step(processors: &[Processor]) -> Option<Step>
+fn first_step(processors: &[Processor], host: &Host) -> Option<Step>
     requires { length processors.now ≤ 8 }
-    ensures { (memory : List ℕ) (host : Progress) (M : State) → Shows processors.now memory host M → result ≡ first_allowed M }
+    ensures { (memory : List ℕ) (M : State) → Shows processors.now memory host.now M → result ≡ first_allowed M }
 {
     for spe in 0..processors.len() {
         let processor = &processors[spe];
@@ -114,7 +115,18 @@ fn first_step(processors: &[Processor]) -> Option<Step>
             return Some(Step::Exec { spe: spe as u8 });
         }
     }
-    None
+    first_of_host(processors, host)
+}
+
+/// The host's step, if it is allowed.
+fn first_of_host(processors: &[Processor], host: &Host) -> Option<Step>
+    ensures { (memory : List ℕ) (M : State) → Shows processors.now memory host.now M → result ≡ slice_get (allowed M Actor.Host) 0 }
+{
+    if may_act_host(processors, host) {
+        Some(Step::Host)
+    } else {
+        None
+    }
 }
 
 /// Whether no processor runs, no command is outstanding and no slot is taken.
@@ -130,8 +142,8 @@ fn is_quiet(processors: &[Processor]) -> bool
 }
 
 /// The allowed step of the actor at the place that is the choice's remainder.
-fn nth_step(processors: &[Processor], actor: Actor, choice: u64) -> Option<Step>
-    ensures { (memory : List ℕ) (host : Progress) (M : State) → Shows processors.now memory host M → result ≡ picked M actor choice }
+fn nth_step(processors: &[Processor], host: &Host, actor: Actor, choice: u64) -> Option<Step>
+    ensures { (memory : List ℕ) (M : State) → Shows processors.now memory host.now M → result ≡ picked M actor choice }
 {
     match actor {
         Actor::Spu(spe) => {
@@ -146,7 +158,7 @@ fn nth_step(processors: &[Processor], actor: Actor, choice: u64) -> Option<Step>
             }
         }
         Actor::Mfc(_) => None,
-        Actor::Host => None,
+        Actor::Host => first_of_host(processors, host),
     }
 }
 
@@ -274,7 +286,7 @@ impl Machine {
         if self.steps.len() >= self.setup.budget() as usize {
             return None;
         }
-        nth_step(&self.processors, actor, choice)
+        nth_step(&self.processors, &self.host, actor, choice)
     }
 
     /// The first allowed step of the first actor that has one: the processors, their flow controllers, the host.
@@ -287,14 +299,14 @@ impl Machine {
         if self.steps.len() >= self.setup.budget() as usize {
             return None;
         }
-        first_step(&self.processors)
+        first_step(&self.processors, &self.host)
     }
 
     /// How the run ended; None where a step is allowed under the budget.
     pub fn end(&self) -> Option<End>
         ensures { IsSomeAnd (state_of self.now) (λ M. IsEnd M self.now.setup.budget result) }
     {
-        if first_step(&self.processors).is_some() {
+        if first_step(&self.processors, &self.host).is_some() {
             if self.steps.len() >= self.setup.budget() as usize {
                 Some(End::Budget)
             } else {

@@ -1,13 +1,15 @@
 //! One processor.
 
-ghost use Rattle.std.specs.Prelude.{◌≡◌, ℕ, ◌+◌, ◌≤◌, List, length, is_some, IfOk, IsSomeAnd, MatchBool, All};
+ghost use Rattle.std.specs.Prelude.{◌≡◌, ℕ, ◌+◌, ◌≤◌, List, length, is_some, None, IfOk, IsSome, IsSomeAnd, MatchBool, All};
 ghost use Rattle.std.specs.Bool.{OnFalse};
-ghost use Rattle.spu_exec.specs.Places.{IsPlace, LeadsToPlace};
+ghost use Rattle.spu_exec.specs.Places.{IsPlace, LeadsToPlace, RegisterFits};
+ghost use Rattle.cell_base.specs.declared.steps.ChannelOp.{ChannelOp};
 ghost use Rattle.cell_machine.specs.Spe.{Spe, is_running};
-ghost use Rattle.cell_machine.specs.Exec.{exec, followed};
+ghost use Rattle.cell_machine.specs.Exec.{exec, followed, op_of};
 ghost use Rattle.cell_machine.specs.Opening.{placed_in};
 ghost use Rattle.cell_machine.specs.Limits.{shown};
 
+use crate::channels::operation;
 use crate::error::MachineError;
 use crate::setup::PlacedBytes;
 use crate::status::Status;
@@ -74,29 +76,36 @@ impl Processor {
         })
     }
 
-    fn is_running(&self) -> bool
+    pub(crate) fn is_running(&self) -> bool
         ensures { result ≡ is_running self.now.status }
     {
         matches!(self.status, Status::Running)
     }
 
-    /// Goes where an instruction leads.
-    #[tactic(auto, unfolding(crate::specs::Channels::channel))]
-    fn follow(&mut self, flow: Flow)
-        requires { LeadsToPlace flow }
-        ensures { (P : Spe) → ShowsSpe self.old P → IsSomeAnd (followed P flow) (ShowsSpe self.new) }
+    /// Goes where an instruction leads, and says whether that was allowed.
+    fn follow(&mut self, flow: Flow) -> bool
+        requires leads { LeadsToPlace flow }
+        requires channel { (op : ChannelOp) → flow ≡ Flow.Channel op → RegisterFits op }
+        ensures made { (P : Spe) → ShowsSpe self.old P → MatchBool result (IsSomeAnd (followed P flow) (ShowsSpe self.new)) (followed P flow ≡ None) }
+        ensures refused { OnFalse result (self.new ≡ self.old) }
+        ensures only { OnFalse result (IsSome (op_of flow)) }
     {
         match flow {
-            Flow::Next(pc) => self.pc = pc,
+            Flow::Next(pc) => {
+                self.pc = pc;
+                true
+            }
             Flow::Stop { code, next } => {
                 self.status = Status::Stopped { code };
                 self.pc = next;
+                true
             }
             Flow::Halt { next } => {
                 self.status = Status::Halted;
                 self.pc = next;
+                true
             }
-            Flow::Channel(_) => self.status = Status::BadChannel,
+            Flow::Channel(op) => self.channel(op),
         }
     }
 
@@ -113,15 +122,23 @@ impl Processor {
             return true;
         };
         let flow = exec(instruction, self.pc, &mut self.registers, &mut self.store);
-        self.follow(flow);
-        true
+        self.follow(flow)
     }
 
     /// Whether its next instruction is allowed.
     pub(crate) fn may_exec(&self) -> bool
         ensures { (P : Spe) → ShowsSpe self.now P → result ≡ is_some (exec P) }
     {
-        self.is_running()
+        if !self.is_running() {
+            return false;
+        }
+        let Some(instruction) = decode(self.store.word(self.pc)) else {
+            return true;
+        };
+        match operation(instruction, &self.registers) {
+            Some(op) => self.is_ready(op),
+            None => true,
+        }
     }
 
     /// Whether it doesn't run and has nothing outstanding.

@@ -51,7 +51,8 @@ pub(crate) fn indirect(a: Quad) -> u32
     a.word(0) / 4 % 0x1_0000 * 4
 }
 
-pub(crate) fn next_pc(pc: u32) -> u32
+/// The address after an instruction at `pc`, which is below 262,144; after the last one comes 0.
+pub fn next_pc(pc: u32) -> u32
     requires { pc < 262144 }
     ensures { result ≡ next_pc pc }
 {

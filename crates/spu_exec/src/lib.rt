@@ -15,6 +15,7 @@ mod flow;
 mod tests;
 mod transfer;
 
+pub use address::next_pc;
 use branch::flow_of;
 use cell_base::Quad;
 pub use flow::Flow;

@@ -1,5 +1,5 @@
 use Rattle.std.proofs.Common.{arith}
-use Rattle.cell_machine.proofs.Steps.{act-no_spe, act-exec, act-piece, act-elem, act-retire, act-atomic, act-host}
+use Rattle.cell_machine.proofs.Steps.{act-no_spe, act-exec, act-piece, act-elem, act-retire, act-atomic}
 use Rattle.cell_machine.proofs.machine.act.Goals as goal
 
 pub returns-then-spe-processors-clause-made : goal.returns-then-spe-processors-clause-made
@@ -21,4 +21,4 @@ pub returns-in-Atomic-clause-made : goal.returns-in-Atomic-clause-made
 returns-in-Atomic-clause-made c = λ M shows. rw c.in-Atomic.is (act-atomic _ M _ shows)
 
 pub returns-in-Host-clause-made : goal.returns-in-Host-clause-made
-returns-in-Host-clause-made c = λ M shows. rw c.in-Host.is (act-host _ M shows)
+returns-in-Host-clause-made c = λ M shows. rw c.in-Host.is (c.act_host.ensures.made M shows)

@@ -7,10 +7,10 @@ pub returns-clause-allowed : goal.returns-clause-allowed
 returns-clause-allowed c =
     pick-allowed _ c.args.self.now c.self.invariant.state c.args.actor c.args.choice (machine-replayed _ _ _ _ _ c.self.invariant c.self.view_is)
     (let e = ap (λ (n : Ran). n.setup.budget) c.self.view_is in let l = ap (λ (n : Ran). length n.steps) c.self.view_is in omega arith)
-    (c.nth_step.ensures c.self.inside.memory c.self.inside.host c.self.invariant.state (rw c.deref.ensures.value c.self.invariant.shown))
+    (c.nth_step.ensures c.self.inside.memory c.self.invariant.state (rw c.deref.ensures.value c.self.invariant.shown))
 
 pub returns-clause-picked : goal.returns-clause-picked
 returns-clause-picked c =
     picked-is _ c.args.self.now c.self.invariant.state c.args.actor c.args.choice (machine-replayed _ _ _ _ _ c.self.invariant c.self.view_is)
     (let e = ap (λ (n : Ran). n.setup.budget) c.self.view_is in let l = ap (λ (n : Ran). length n.steps) c.self.view_is in omega arith)
-    (c.nth_step.ensures c.self.inside.memory c.self.inside.host c.self.invariant.state (rw c.deref.ensures.value c.self.invariant.shown))
+    (c.nth_step.ensures c.self.inside.memory c.self.invariant.state (rw c.deref.ensures.value c.self.invariant.shown))

@@ -3,7 +3,7 @@ use Rattle.std.specs.Prelude.{None}
 use Rattle.spu_decode.specs.Spelling.{instr_of}
 use Rattle.local_store.specs.Store.{word_at}
 use Rattle.cell_machine.specs.Spe.{is_running}
-use Rattle.cell_machine.proofs.Execs.{exec-stopped, exec-bad_word, exec-follows, none_there}
+use Rattle.cell_machine.proofs.Execs.{exec-stopped, exec-bad_word, exec-follows, exec-refused, place-prop, none_there}
 use Rattle.cell_machine.proofs.processor.Processor.exec.Goals as goal
 
 pub returns-then-not-is_running-clause-made : goal.returns-then-not-is_running-clause-made
@@ -18,7 +18,12 @@ returns-in_default-clause-made c = λ P shows.
 
 pub returns-clause-made : goal.returns-clause-made
 returns-clause-made c = λ P shows.
-    exec-follows c.args.self.now P c.in-Some.instruction _ _ shows (sym c.is_running.ensures ∙ c.if-not-is_running.false)
+    exec-follows c.args.self.now P c.in-Some.instruction _ _ _ shows (sym c.is_running.ensures ∙ c.if-not-is_running.false)
     (ap instr_of (sym c.word.ensures) ∙ sym c.decode.ensures.means ∙ c.in-Some.is)
     c.exec-flow.ensures.means
-    (c.follow.ensures (record P { registers = c.exec-flow.new.regs; store = c.exec-flow.new.ls }) (record { status = shows.status; pc = shows.pc; registers = refl; store = refl; inbound = shows.inbound; outbound = shows.outbound; interrupt = shows.interrupt }))
+    (c.follow.ensures.made (record P { registers = c.exec-flow.new.regs; store = c.exec-flow.new.ls }) (record { status = shows.status; pc = shows.pc; registers = refl; store = refl; inbound = shows.inbound; outbound = shows.outbound; interrupt = shows.interrupt }))
+
+pub returns-clause-refused : goal.returns-clause-refused
+returns-clause-refused c =
+    exec-refused c.follow.result c.args.self.now _ c.follow.new.self c.exec-flow.result c.follow.ensures.refused c.follow.ensures.only
+    (λ op is. let kept = c.exec-flow.ensures.channel op is in rw (kept.0, kept.1) (ap (λ here. record c.args.self.now { here = here }) (place-prop _ _ _)))

@@ -1,7 +1,26 @@
 use Rattle.std.proofs.Common.{sym, ◌∙◌, ap}
+use Rattle.std.specs.Prelude.{is_some}
+use Rattle.spu_decode.specs.Spelling.{instr_of}
 use Rattle.cell_machine.specs.Spe.{is_running}
-use Rattle.cell_machine.proofs.Execs.{may_exec-is}
+use Rattle.cell_machine.proofs.Execs.{exec-stopped, may-bad_word, may-operate, may-go_on, none_there}
 use Rattle.cell_machine.proofs.processor.Processor.may_exec.Goals as goal
 
-pub returns : goal.returns
-returns c = λ P shows. may_exec-is P c.is_running.result (c.is_running.ensures ∙ ap is_running (sym shows.status))
+pub returns-then-not-is_running : goal.returns-then-not-is_running
+returns-then-not-is_running c = λ P shows. sym (ap is_some (exec-stopped P (ap is_running shows.status ∙ sym c.is_running.ensures ∙ c.if-not-is_running.true)))
+
+pub returns-in_default : goal.returns-in_default
+returns-in_default c = λ P shows.
+    may-bad_word c.args.self.now P shows (sym c.is_running.ensures ∙ c.if-not-is_running.false)
+    (ap instr_of (sym c.word.ensures) ∙ sym c.decode.ensures.means ∙ none_there c.decode.result c.in_default.not-Some)
+
+pub returns-in-Some-operation : goal.returns-in-Some-operation
+returns-in-Some-operation c = λ P shows.
+    may-operate c.args.self.now P c.in-Some.instruction c.in-Some-operation.op _ shows (sym c.is_running.ensures ∙ c.if-not-is_running.false)
+    (ap instr_of (sym c.word.ensures) ∙ sym c.decode.ensures.means ∙ c.in-Some.is)
+    (sym c.in-Some-operation.is ∙ c.operation.ensures c.args.self.now.pc c.args.self.now.store) c.is_ready.ensures
+
+pub returns-in-None : goal.returns-in-None
+returns-in-None c = λ P shows.
+    may-go_on c.args.self.now P c.in-Some.instruction shows (sym c.is_running.ensures ∙ c.if-not-is_running.false)
+    (ap instr_of (sym c.word.ensures) ∙ sym c.decode.ensures.means ∙ c.in-Some.is)
+    (sym c.in-None.is ∙ c.operation.ensures c.args.self.now.pc c.args.self.now.store)

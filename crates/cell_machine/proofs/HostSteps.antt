@@ -1,0 +1,126 @@
+-- The host's actions, as the code comes to them.
+use Rattle.std.proofs.Common.{◌≡◌, ℕ, zero, suc, ◌<◌, ◌≤◌, List, [], ◌∷◌, length, take, arith, refl, sym, ◌∙◌, slice_index_or, slice_set, ap, subst, true, false, Bool}
+use Rattle.std.specs.Prelude.{All, Option, Some, None, IsSomeAnd, is_some, slice_get}
+use Rattle.std.specs.Option.{option_map}
+use Rattle.cell_host.specs.declared.HostAction.{HostAction}
+use Rattle.cell_base.specs.Bytes.{put}
+use Rattle.cell_host.specs.declared.HostAction.TheVariants.{Send, Take, TakeIntr, Store, Await}
+use Rattle.cell_host.specs.Script.{Progress, advanced, takes, next_takes}
+use Rattle.cell_machine.specs.declared.processor.Processor.{Processor}
+use Rattle.cell_machine.specs.declared.hosts.Taken.{Taken}
+use Rattle.cell_machine.specs.Spe.{Spe}
+use Rattle.cell_machine.specs.State.{State, with_spe}
+use Rattle.cell_machine.specs.Hosts.{Given, Acted, at_spe, given, acted, after_action, host as host_step}
+use Rattle.cell_machine.specs.Shows.{Shows, ShowsSpe, Gives, Leaves}
+use Rattle.cell_machine.proofs.AllTwo.{two_at, two_none, two_set, is_some_map}
+
+-- what a processor answers is what the action leaves
+leaves-one : (processors : List Processor) (memory : List ℕ) (host : Progress) (M : State) (p : ℕ) (new : Processor) (r : Option Taken) (o : Option Given)
+    → Shows processors memory host M → Gives r o new
+    → Leaves r (option_map (λ g. record { state = with_spe M p g.spe; took = g.took }) o) (slice_set processors p new) memory host
+leaves-one processors memory host M p new None None shows given = tt
+leaves-one processors memory host M p new (Some t) (Some g) shows given =
+    (record { spes = two_set ShowsSpe processors M.spes p new g.spe shows.spes given.0; memory_is = shows.memory_is; host_is = shows.host_is }, given.1)
+leaves-one processors memory host M p new None (Some g) shows given = absurd given
+leaves-one processors memory host M p new (Some t) None shows given = absurd given
+
+pub leaves-at : (processors : List Processor) (memory : List ℕ) (host : Progress) (M : State) (p : ℕ) (f : Spe → Option Given) (d new : Processor) (r : Option Taken)
+    → Shows processors memory host M → p < length processors
+    → ((P : Spe) → ShowsSpe (slice_index_or processors p d) P → Gives r (f P) new)
+    → Leaves r (at_spe M p f) (slice_set processors p new) memory host
+leaves-at processors memory host M p f d new r shows h does =
+    let two = two_at ShowsSpe processors M.spes p d shows.spes h in
+    rw two.1 (leaves-one processors memory host M p new r (f two.0) shows (does two.0 two.2))
+
+pub leaves-absent : (processors : List Processor) (memory : List ℕ) (host : Progress) (M : State) (p : ℕ) (f : Spe → Option Given)
+    → Shows processors memory host M → length processors ≤ p → Leaves None (at_spe M p f) processors memory host
+leaves-absent processors memory host M p f shows h = rw (two_none ShowsSpe processors M.spes p shows.spes h) tt
+
+-- the action was done, and is counted
+after : (processors : List Processor) (memory : List ℕ) (host : Progress) (t : Taken) (o : Option Acted)
+    → Leaves (Some t) o processors memory host → IsSomeAnd (option_map after_action o) (Shows processors memory (advanced host t.value))
+after processors memory host t None h = absurd h
+after processors memory host t (Some d) h =
+    record { spes = h.0.spes; memory_is = h.0.memory_is; host_is = ap (λ x. advanced x d.took) h.0.host_is ∙ ap (advanced host) h.1 }
+
+none_left : (processors : List Processor) (memory : List ℕ) (host : Progress) (o : Option Acted) → Leaves None o processors memory host → option_map after_action o ≡ None
+none_left processors memory host None h = refl
+none_left processors memory host (Some d) h = absurd h
+
+at_state : (M : State) (host : Progress) (a : HostAction) → M.host ≡ host → slice_get host.script host.done ≡ Some a → slice_get M.host.script M.host.done ≡ Some a
+at_state M host a same next = subst (λ (h : Progress). slice_get h.script h.done ≡ Some a) (sym same) next
+
+pub host-over : (M : State) (host : Progress) → M.host ≡ host → slice_get host.script host.done ≡ None → host_step M ≡ None
+unfolding host_step
+host-over M host same none = rw (same, none) refl
+
+pub host-done : (processors : List Processor) (memory : List ℕ) (host : Progress) (M : State) (a : HostAction) (t : Taken)
+    → M.host ≡ host → slice_get host.script host.done ≡ Some a → Leaves (Some t) (acted M a) processors memory host
+    → IsSomeAnd (host_step M) (Shows processors memory (advanced host t.value))
+unfolding host_step
+host-done processors memory host M a t same next h = rw (at_state M host a same next) (after processors memory host t (acted M a) h)
+
+pub host-refused : (processors : List Processor) (memory : List ℕ) (host : Progress) (M : State) (a : HostAction)
+    → M.host ≡ host → slice_get host.script host.done ≡ Some a → Leaves None (acted M a) processors memory host → host_step M ≡ None
+unfolding host_step
+host-refused processors memory host M a same next h = rw (at_state M host a same next) (none_left processors memory host (acted M a) h)
+
+-- whether the next action is allowed
+pub host-allowed : (M : State) (host : Progress) (a : HostAction) (b : Bool) → M.host ≡ host → slice_get host.script host.done ≡ Some a → b ≡ is_some (acted M a) → b ≡ is_some (host_step M)
+unfolding host_step
+host-allowed M host a b same next h = h ∙ sym (rw (at_state M host a same next) (is_some_map after_action (acted M a)))
+
+pub at-allowed : (processors : List Processor) (memory : List ℕ) (host : Progress) (M : State) (p : ℕ) (f : Spe → Option Given) (x : Processor) (b : Bool)
+    → Shows processors memory host M → p < length processors → x ≡ slice_index_or processors p x → ((P : Spe) → ShowsSpe x P → b ≡ is_some (f P))
+    → b ≡ is_some (at_spe M p f)
+at-allowed processors memory host M p f x b shows h at test =
+    let two = two_at ShowsSpe processors M.spes p x shows.spes h in
+    sym (rw two.1 (is_some_map (λ g. record { state = with_spe M p g.spe; took = g.took }) (f two.0)
+    ∙ sym (test two.0 (subst (λ y. ShowsSpe y two.0) (sym at) two.2))))
+
+pub at-absent : (processors : List Processor) (memory : List ℕ) (host : Progress) (M : State) (p : ℕ) (f : Spe → Option Given)
+    → Shows processors memory host M → length processors ≤ p → is_some (at_spe M p f) ≡ false
+at-absent processors memory host M p f shows h = rw (two_none ShowsSpe processors M.spes p shows.spes h) refl
+
+-- what the actions are to their processors
+pub acted-send : (M : State) (p value : ℕ) → acted M (Send p value) ≡ at_spe M p (given (Send p value))
+unfolding acted
+acted-send M p value = refl
+
+pub acted-take : (M : State) (p : ℕ) → acted M (Take p) ≡ at_spe M p (given (Take p))
+unfolding acted
+acted-take M p = refl
+
+pub acted-take_intr : (M : State) (p : ℕ) → acted M (TakeIntr p) ≡ at_spe M p (given (TakeIntr p))
+unfolding acted
+acted-take_intr M p = refl
+
+pub acted-await : (M : State) (p : ℕ) → acted M (Await p) ≡ at_spe M p (given (Await p))
+unfolding acted
+acted-await M p = refl
+
+pub acted-store : (M : State) (ea len : ℕ) (bytes : List ℕ) → is_some (acted M (Store ea len bytes)) ≡ true
+unfolding acted
+acted-store M ea len bytes = refl
+
+pub store-leaves : (processors : List Processor) (old new : List ℕ) (host : Progress) (M : State) (ea len : ℕ) (bytes : List ℕ) (t : Taken)
+    → Shows processors old host M → new ≡ put old ea (take len bytes) → t.value ≡ None → Leaves (Some t) (acted M (Store ea len bytes)) processors new host
+unfolding acted
+store-leaves processors old new host M ea len bytes t shows stored took =
+    (record { spes = shows.spes; memory_is = ap (λ m. put m ea (take len bytes)) shows.memory_is ∙ sym stored; host_is = shows.host_is }, sym took)
+
+-- the next action, where there is one
+pub got : {X : Type 0} (xs : List X) (i : ℕ) (x : X) → slice_get xs i ≡ Some x → (i < length xs) × (slice_index_or xs i x ≡ x)
+got [] i x h = absurd (cc)
+got (y ∷ ys) zero x h = (omega arith, (cc))
+got (y ∷ ys) (suc i) x h = let r = got ys i x h in let l = r.0 in (omega arith, r.1)
+
+pub all-got : {X : Type 0} (Q : X → Type 0) (xs : List X) (i : ℕ) (x : X) → All Q xs → slice_get xs i ≡ Some x → Q x
+all-got Q xs i x all h = let r = got xs i x h in subst Q r.1 (all i x r.0)
+
+pub next-takes : (host : Progress) (a : HostAction) → slice_get host.script host.done ≡ Some a → next_takes host ≡ takes a
+next-takes host a h = rw h refl
+
+pub advanced-script : (host : Progress) (o : Option ℕ) → (advanced host o).script ≡ host.script
+advanced-script host None = refl
+advanced-script host (Some value) = refl

@@ -1,0 +1,14 @@
+use Rattle.std.proofs.Common.{length, sym, ap, ◌∙◌, true≢false}
+use Rattle.std.specs.Prelude.{is_ok}
+use Rattle.cell_machine.proofs.ChannelSteps.{count-ok, counts-are, listed-some}
+use Rattle.cell_machine.proofs.processor.Processor.count.Goals as goal
+
+pub returns-in-Ok : goal.returns-in-Ok
+returns-in-Ok c = λ P shows here.
+    count-ok P c.args.ch c.in-Ok.count _ _ c.new.ensures
+    (counts-are P c.len.result c.len-2.result c.len-3.result (c.len.ensures.count ∙ ap length (sym shows.inbound)) (c.len-2.ensures.count ∙ ap length (sym shows.outbound)) (c.len-3.ensures.count ∙ ap length (sym shows.interrupt)))
+    (rw c.in-Ok.is at c.count.ensures.count)
+
+pub returns-in-Err : goal.returns-in-Err
+returns-in-Err c = λ P shows here.
+    absurd (true≢false (sym (listed-some c.args.ch here) ∙ sym c.count.ensures.listed ∙ ap is_ok c.in-Err.is))
