@@ -11,12 +11,10 @@ use Rattle.cell_machine.specs.declared.setup.Show.{Show}
 use Rattle.cell_machine.specs.declared.setup.Show.TheVariants.{Memory, Local}
 use Rattle.cell_machine.specs.Spe.{Spe}
 use Rattle.cell_machine.specs.State.{State}
-use Rattle.std.proofs.lemmas.List.{append-nil, nil_from_length, length-drop, replicate-append-replicate, take_more}
+use Rattle.std.proofs.lemmas.List.{append-nil, nil_from_length, length-drop, take_more}
 use Rattle.std.proofs.lemmas.Grind.{flat_map-append}
-use Rattle.std.specs.Prelude.{replicate, take}
-use Rattle.cell_base.specs.Bytes.{zeros}
-use Rattle.cell_base.specs.Hex.{byte_hex}
-use Rattle.cell_report.specs.States.{register_line, register_lines, spe_lines, spe_text, spes_text, end_line, host_line, show_line, memory_line, local_line, local_bytes, states_of}
+use Rattle.std.specs.Prelude.{take}
+use Rattle.cell_report.specs.States.{register_line, register_lines, spe_lines, spe_text, spes_text, end_line, host_text, show_line, memory_line, local_line, local_bytes, states_of}
 
 pub one_register : (out whole d : List ℕ) (r i : ℕ) (qs : List (List ℕ)) → i < length qs → out ++ register_lines r (drop i qs) ≡ whole → (out ++ register_line r (get_or qs i d)) ++ register_lines (r + 1) (drop (i + 1) qs) ≡ whole
 unfolding register_lines
@@ -41,12 +39,12 @@ spe_written (Some P) status pc registers out new p a b c wrote = rw (a, b, c) wr
 
 -- the end word, the processors, the host and the ranges
 pub states_written : (o : Option State) (budget : ℕ) (end : Option End) (shows : List Show) (first second third new : List ℕ)
-    → IsSomeAnd o (λ M. IsEnd M budget end) → first ≡ [] ++ end_line end → IsSomeAnd o (λ M. second ≡ first ++ spes_text 0 M.spes) → third ≡ second ++ host_line
+    → IsSomeAnd o (λ M. IsEnd M budget end) → first ≡ [] ++ end_line end → IsSomeAnd o (λ M. second ≡ first ++ spes_text 0 M.spes) → ((M : State) → o ≡ Some M → third ≡ second ++ host_text M.host)
     → ((M : State) → o ≡ Some M → new ≡ third ++ flat_map (show_line M) shows)
     → IsSomeAnd o (λ M. (e : Option End) × IsEnd M budget e × (new ≡ states_of M shows e))
 states_written None budget end shows first second third new is a b c d = absurd is
 states_written (Some M) budget end shows first second third new is a b c d =
-    (end, is, d M refl ∙ ap (λ t. t ++ flat_map (show_line M) shows) (c ∙ ap (λ t. t ++ host_line) (b ∙ ap (λ t. t ++ spes_text 0 M.spes) a)))
+    (end, is, d M refl ∙ ap (λ t. t ++ flat_map (show_line M) shows) (c M refl ∙ ap (λ t. t ++ host_text M.host) (b ∙ ap (λ t. t ++ spes_text 0 M.spes) a)))
 
 -- the bytes of a processor's store
 pub local_there : (o : Option State) (p at len : ℕ) (store : List ℕ) (M : State) → o ≡ Some M → IsSomeAnd (option_and_then (λ N. slice_get N.spes p) o) (λ P. P.store ≡ store)
@@ -57,16 +55,6 @@ local_there o p at len store M e h = of_spe (slice_get M.spes p) (rw e at h)
     of_spe None g = absurd g
     of_spe (Some P) g = ap (λ s. slice_range s at (at + len)) (sym g)
 
-pub zeros-none : (out : List ℕ) → out ≡ out ++ flat_map byte_hex (zeros 0)
-unfolding zeros
-zeros-none out = sym (append-nil out)
-
-pub zeros-more : (out made new : List ℕ) (n : ℕ) → made ≡ out ++ flat_map byte_hex (zeros n) → new ≡ made ++ flat_map byte_hex (0 ∷ []) → new ≡ out ++ flat_map byte_hex (zeros (n + 1))
-unfolding zeros
-zeros-more out made new n before wrote =
-    wrote ∙ ap (λ t. t ++ flat_map byte_hex (0 ∷ [])) before ∙ append_assoc out (flat_map byte_hex (replicate n 0)) (flat_map byte_hex (0 ∷ []))
-    ∙ ap (λ t. out ++ t) (sym (flat_map-append byte_hex (replicate n 0) (0 ∷ [])) ∙ ap (flat_map byte_hex) (replicate-append-replicate n 1 0))
-
 -- one line more
 pub shows-more : (f : Show → List ℕ) (out made new : List ℕ) (own shows : List Show) (i : ℕ) (d : Show) → i < length own → own ≡ shows
     → made ≡ out ++ flat_map f (take i shows) → new ≡ made ++ f (get_or own i d) → new ≡ out ++ flat_map f (take (i + 1) shows)
@@ -76,10 +64,16 @@ shows-more f out made new own shows i d inside same before wrote =
     wrote ∙ ap (λ t. t ++ f s) before ∙ append_assoc out (flat_map f (take i shows)) (f s)
     ∙ ap (λ t. out ++ t) (ap (λ t. flat_map f (take i shows) ++ t) (sym (append-nil (f s))) ∙ sym (flat_map-append f (take i shows) (s ∷ [])) ∙ ap (flat_map f) (sym more))
 
-pub memory_shown : {T E : Type 0} (r : Result T E) (o : Option State) (out new : List ℕ) (at len : ℕ) (show : Show) → show ≡ Memory at len
-    → OnOk r (new ≡ out ++ memory_line at (zeros len)) → OnOk r ((M : State) → o ≡ Some M → new ≡ out ++ show_line M show)
-memory_shown (Ok x) o out new at len show is wrote = λ M stands. rw is wrote
-memory_shown (Err e) o out new at len show is wrote = wrote
+-- the bytes of main memory
+pub memory_there : (o : Option State) (memory : List ℕ) (M : State) → o ≡ Some M → IsSomeAnd o (λ N. N.memory ≡ memory) → M.memory ≡ memory
+memory_there o memory M e h = rw e at h
+
+pub memory_shown : {T E : Type 0} (r : Result T E) (o : Option State) (out new : List ℕ) (at len : ℕ) (memory bytes : List ℕ) (show : Show) → show ≡ Memory at len
+    → IsSomeAnd o (λ M. M.memory ≡ memory) → bytes ≡ slice_range memory at (at + len)
+    → OnOk r (new ≡ out ++ memory_line at bytes) → OnOk r ((M : State) → o ≡ Some M → new ≡ out ++ show_line M show)
+memory_shown (Ok x) o out new at len memory bytes show is own read wrote = λ M stands.
+    rw is (wrote ∙ ap (λ t. out ++ memory_line at t) (read ∙ ap (λ s. slice_range s at (at + len)) (sym (memory_there o memory M stands own))))
+memory_shown (Err e) o out new at len memory bytes show is own read wrote = wrote
 
 pub local_shown : {T E : Type 0} (r : Result T E) (o : Option State) (out new : List ℕ) (p at len : ℕ) (store bytes : List ℕ) (show : Show) → show ≡ Local p at len
     → IsSomeAnd (option_and_then (λ N. slice_get N.spes p) o) (λ P. P.store ≡ store) → bytes ≡ slice_range store at (at + len)

@@ -2,11 +2,12 @@
 use Rattle.std.specs.Prelude.{ℕ, suc, ◌+◌, ◌++◌, slice_get, slice_range, ◌==◌, Bool, List, [], ◌∷◌, length, codes, if◌then◌else◌, Option, Some, None}
 use Rattle.std.specs.List.{flat_map, list_all}
 use Rattle.std.specs.Fmt.{decimal}
-use Rattle.cell_base.specs.Bytes.{zeros}
 use Rattle.cell_base.specs.Hex.{hex, byte_hex}
 use Rattle.cell_base.specs.Records.{line_feed}
 use Rattle.mfc_command.specs.declared.command.DmaFault.{DmaFault}
 use Rattle.mfc_command.specs.declared.command.DmaFault.TheVariants.{Opcode, Tag, Size, Alignment, StoreRange, MemoryRange, High}
+use Rattle.cell_host.specs.declared.Took.{Took}
+use Rattle.cell_host.specs.Script.{Progress}
 use Rattle.cell_machine.specs.declared.status.Status.{Status}
 use Rattle.cell_machine.specs.declared.status.Status.TheVariants.{Running, Stopped, Halted, BadWord, BadChannel, DmaFault as Fault}
 use Rattle.cell_machine.specs.declared.status.End.{End}
@@ -72,9 +73,21 @@ unfoldable pub spes_text : ℕ → List Spe → List ℕ
 spes_text p [] = []
 spes_text p (P ∷ spes) = spe_text p P ++ spes_text (suc p) spes
 
--- how many host actions are done, of how many: there is no script
-abbrev pub host_line : List ℕ
-host_line = codes "host 0 of 0" ++ line_feed
+-- how many actions of the host script are done, of how many
+abbrev pub host_line : ℕ → ℕ → List ℕ
+host_line done all = codes "host " ++ decimal done ++ codes " of " ++ decimal all ++ line_feed
+
+-- the value that an action took, and the action's number, from 0
+abbrev pub took_line : Took → List ℕ
+took_line t = codes "took " ++ decimal t.action ++ codes " 0x" ++ hex 8 t.value ++ line_feed
+
+-- the values taken, the earliest first
+abbrev pub took_lines : List Took → List ℕ
+took_lines took = flat_map took_line took
+
+-- how far the host script has come, and what it took
+abbrev pub host_text : Progress → List ℕ
+host_text host = host_line host.done (length host.script) ++ took_lines host.took
 
 -- the bytes of a store from an address on
 abbrev pub local_bytes : ℕ → ℕ → Option Spe → List ℕ
@@ -87,11 +100,11 @@ memory_line at bytes = codes "mem 0x" ++ hex 8 at ++ codes " " ++ flat_map byte_
 abbrev pub local_line : ℕ → ℕ → List ℕ → List ℕ
 local_line p at bytes = codes "ls " ++ decimal p ++ codes " 0x" ++ hex 5 at ++ codes " " ++ flat_map byte_hex bytes ++ line_feed
 
--- a range of memory, which is zero since nothing stores to it yet, or of a local store
+-- a range of main memory or of a local store
 abbrev pub show_line : State → Show → List ℕ
-show_line M (Memory at len) = memory_line at (zeros len)
+show_line M (Memory at len) = memory_line at (slice_range M.memory at (at + len))
 show_line M (Local p at len) = local_line p at (local_bytes at len (slice_get M.spes p))
 
 -- the states of M, whose end word this is, and the ranges that are shown
 abbrev pub states_of : State → List Show → Option End → List ℕ
-states_of M shows end = end_line end ++ spes_text 0 M.spes ++ host_line ++ flat_map (show_line M) shows
+states_of M shows end = end_line end ++ spes_text 0 M.spes ++ host_text M.host ++ flat_map (show_line M) shows

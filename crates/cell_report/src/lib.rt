@@ -2,6 +2,7 @@
 #![tactic(auto)]
 
 mod error;
+mod host;
 mod image;
 mod record;
 mod shows;

@@ -2,8 +2,6 @@
 
 ghost use Rattle.std.specs.Prelude.{◌≡◌, ◌+◌, ◌<◌, ◌≤◌, ◌++◌, length, Some, OnOk};
 ghost use Rattle.std.specs.List.{flat_map};
-ghost use Rattle.cell_base.specs.Bytes.{zeros};
-ghost use Rattle.cell_base.specs.Hex.{byte_hex};
 ghost use Rattle.cell_machine.specs.Limits.{FitsShow};
 ghost use Rattle.cell_machine.specs.State.{State};
 ghost use Rattle.cell_machine.specs.Run.{state_of};
@@ -27,24 +25,14 @@ fn put_local(out: &mut Vec<u8>, spe: u8, at: u32, bytes: &[u8]) -> Result<(), Al
     Ok(())
 }
 
-/// Writes so many zero bytes in hexadecimal.
-fn put_zeros(out: &mut Vec<u8>, count: u32) -> Result<(), AllocError>
-    ensures { OnOk result (out.new.items ≡ out.old.items ++ flat_map byte_hex (zeros count)) }
-{
-    for _ in 0..count {
-        put_hex_bytes(out, &[0])?;
-    }
-    Ok(())
-}
-
-/// Writes a range of the memory.
-fn put_memory(out: &mut Vec<u8>, at: u32, len: u32) -> Result<(), AllocError>
-    ensures { OnOk result (out.new.items ≡ out.old.items ++ memory_line at (zeros len)) }
+/// Writes a range of main memory.
+fn put_memory(out: &mut Vec<u8>, at: u32, bytes: &[u8]) -> Result<(), AllocError>
+    ensures { OnOk result (out.new.items ≡ out.old.items ++ memory_line at bytes.now) }
 {
     out.extend_from_slice(b"mem 0x")?;
     put_hex(out, 8, at)?;
     out.push(b' ')?;
-    put_zeros(out, len)?;
+    put_hex_bytes(out, bytes)?;
     out.push(b'\n')?;
     Ok(())
 }
@@ -55,7 +43,11 @@ fn put_show(out: &mut Vec<u8>, m: &Machine, show: Show) -> Result<(), AllocError
     ensures { OnOk result ((M : State) → state_of m.now ≡ Some M → out.new.items ≡ out.old.items ++ show_line M show) }
 {
     match show {
-        Show::Memory { at, len } => put_memory(out, at, len),
+        Show::Memory { at, len } => {
+            let memory = m.memory().bytes();
+            let (from, to) = (at as usize, at as usize + len as usize);
+            put_memory(out, at, &memory[from..to])
+        }
         Show::Local { spe, at, len } => {
             let store = m.local(spe).bytes();
             let (from, to) = (at as usize, at as usize + len as usize);

@@ -5,9 +5,10 @@ ghost use Rattle.std.specs.List.{flat_map};
 ghost use Rattle.std.specs.Fmt.{decimal};
 ghost use Rattle.cell_machine.specs.declared.status.End.{End};
 ghost use Rattle.cell_machine.specs.Run.{IsEnd, state_of, spe_of};
-ghost use Rattle.cell_report.specs.States.{end_line, end_word, kind_text, status_text, is_zero, register_line, register_lines, place_text, spe_lines, spe_text, spes_text, states_of, host_line};
+ghost use Rattle.cell_report.specs.States.{end_line, end_word, kind_text, status_text, is_zero, register_line, register_lines, place_text, spe_lines, spe_text, spes_text, states_of};
 
 use crate::error::TextError;
+use crate::host::put_host;
 use crate::shows::put_shows;
 use cell_base::Quad;
 use cell_base::line_text::{put_decimal, put_hex, put_hex_bytes};
@@ -146,7 +147,7 @@ pub fn states_text(alloc: Global, m: &Machine) -> Result<Vec<u8>, TextError>
     let mut out = Vec::new(alloc);
     put_end(&mut out, m.end())?;
     put_spes(&mut out, m)?;
-    out.extend_from_slice(b"host 0 of 0\n")?;
+    put_host(&mut out, m)?;
     put_shows(&mut out, m)?;
     Ok(out)
 }

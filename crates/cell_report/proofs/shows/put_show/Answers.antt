@@ -5,7 +5,9 @@ use Rattle.cell_report.proofs.Texts.{memory_shown, local_shown}
 use Rattle.cell_report.proofs.shows.put_show.Goals as goal
 
 pub returns-in-Memory : goal.returns-in-Memory
-returns-in-Memory c = memory_shown c.put_memory.result (state_of c.args.m.now) c.args.out.now.items _ c.in-Memory.at c.in-Memory.len c.args.show c.in-Memory.is c.put_memory.ensures
+returns-in-Memory c =
+    memory_shown c.put_memory.result (state_of c.args.m.now) c.args.out.now.items _ c.in-Memory.at c.in-Memory.len c.memory.result.now _ c.args.show c.in-Memory.is c.memory.ensures.memory
+    (ap (λ memory. slice_range memory c.in-Memory.at (c.in-Memory.at + c.in-Memory.len)) c.bytes-memory.ensures) c.put_memory.ensures
 
 pub returns-in-Local : goal.returns-in-Local
 returns-in-Local c =

@@ -1,0 +1,8 @@
+use Rattle.std.proofs.Common.{◌≡◌, ◌++◌, take}
+use Rattle.std.specs.List.{flat_map}
+use Rattle.cell_report.specs.States.{took_line}
+use Rattle.cell_report.proofs.host.put_all_took.Given as goal
+
+-- the lines so far
+abbrev pub invariant-loop-value : goal.invariant-loop-value
+invariant-loop-value l = l.out.items ≡ l.fn.out.items ++ flat_map took_line (take l.value-index l.took)
