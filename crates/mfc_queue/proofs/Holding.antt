@@ -1,6 +1,6 @@
 -- What a queue holds after one more call.
 use Rattle.std.proofs.Common.{◌≡◌, ◌≢◌, ℕ, zero, suc, ◌+◌, ◌*◌, ◌%◌, ◌<◌, ◌≤◌, ◌==◌, ◌||◌, ◌&&◌, not, Bool, true, false, List, [], ◌∷◌, ◌++◌, length, map, slice_index_or, slice_set, arith, refl, sym, ◌∙◌, ap, subst, length-append, append-nil, true≢false}
-use Rattle.std.specs.Prelude.{bit_or, ◌^◌, Option, Some, None, is_some, nat_lt, fold, filter, cond, All, slice_get, replicate, IfSome, IfNone}
+use Rattle.std.specs.Prelude.{bit_or, ◌^◌, Option, Some, None, is_some, nat_lt, fold, filter, cond, All, slice_get, IfSome, IfNone}
 use Rattle.std.specs.List.{list_any, list_all, range_with_len}
 use Rattle.std.proofs.lemmas.Bool.Decides.{nat_tests}
 use mathlib.Core.Path.{fun_ext}
@@ -9,9 +9,10 @@ use Rattle.mfc_command.specs.declared.command.Command.{Command}
 use Rattle.mfc_command.specs.Order.{goes_before, outstanding as outstanding_of}
 use Rattle.mfc_queue.specs.declared.Held.{Held}
 use Rattle.mfc_queue.specs.declared.Queue.{Queue}
+use Rattle.mfc_queue.specs.Sets.{has_part}
 use Rattle.mfc_queue.specs.Calls.{Call, Issue, SetParts, Mark, Retire, issued, is_retired, is_outstanding, outstanding, parts, is_marked, all_marked, may_begin, is_of_tag}
 use Rattle.mfc_queue.specs.Stands.{StandsFor, Holds, IsUnknown, IsOneOf, HasPart}
-use Rattle.std.proofs.lemmas.List.{get_or-set_same, get_or-set_other, get_or-replicate, length-set}
+use Rattle.std.proofs.lemmas.List.{get_or-set_same, get_or-set_other, length-set}
 use Rattle.std.proofs.lemmas.List.Elements.{All-append, All-filter, filter-append}
 use Rattle.std.proofs.Math.Seq.{map-set_same}
 use Rattle.std.proofs.Math.ListN.{get_or-map, length-map}
@@ -125,10 +126,10 @@ part-small q cmd part i h has within at same few =
     (let l = has.within in omega arith)
 
 pub done-at : (q : Queue) (calls : List Call) (i cmd k : ℕ) (h : Held) → StandsFor q calls → i < length q.held.items → h ≡ slice_index_or q.held.items i h
-    → ((d : Held) → (slice_index_or q.held.items i d).cmd ≡ cmd) → k < 129 → is_marked calls cmd k ≡ slice_index_or h.done k false
+    → ((d : Held) → (slice_index_or q.held.items i d).cmd ≡ cmd) → k < 129 → is_marked calls cmd k ≡ has_part h.done.words k
 done-at q calls i cmd k h stands within at same small =
     let e : h.cmd ≡ cmd = ap (λ (x : Held). x.cmd) at ∙ same h in
-    subst (λ n. is_marked calls n k ≡ slice_index_or h.done k false) e ((held-at q calls i h stands within at).done k small)
+    subst (λ n. is_marked calls n k ≡ has_part h.done.words k) e ((held-at q calls i h stands within at).done k small)
 
 -- the numbers of a range that pass a test rise
 least : (t : ℕ → Bool) (a n i : ℕ) → i < length (filter t (range_with_len a n)) → a ≤ slice_index_or (filter t (range_with_len a n)) i 0
@@ -239,7 +240,7 @@ same_same a = grind (arith, nat_tests)
 
 pub stands-parts : (q new : Queue) (calls : List Call) (cmd n i : ℕ) (old h : Held) → StandsFor q calls → IsOneOf q cmd → new.issued ≡ q.issued → new.held.items ≡ slice_set q.held.items i h
     → i < length q.held.items → ((d : Held) → (slice_index_or q.held.items i d).cmd ≡ cmd) → old ≡ slice_index_or q.held.items i old
-    → h.cmd ≡ cmd → h.command ≡ old.command → h.parts ≡ n → h.done ≡ replicate 129 false
+    → h.cmd ≡ cmd → h.command ≡ old.command → h.parts ≡ n → ((k : ℕ) → has_part h.done.words k ≡ false)
     → StandsFor new (calls ++ SetParts cmd n ∷ [])
 stands-parts q new calls cmd n i old h stands one same items within at old_at is_cmd is_command is_parts none =
     stands-set q new calls (calls ++ SetParts cmd n ∷ []) i h stands same items within (λ d. at d ∙ sym is_cmd) (issued-same calls cmd n) (retired-same calls cmd n)
@@ -247,8 +248,8 @@ stands-parts q new calls cmd n i old h stands one same items within at old_at is
       command = subst (λ k. slice_get (issued (calls ++ SetParts cmd n ∷ [])) k ≡ Some h.command) (sym is_cmd)
           (ap (λ cs. slice_get cs cmd) (issued-same calls cmd n) ∙ command-at q calls i cmd old stands within old_at at ∙ ap Some (sym is_command));
       parts = subst (λ k. parts (calls ++ SetParts cmd n ∷ []) k ≡ h.parts) (sym is_cmd) (parts-more calls (SetParts cmd n) cmd ∙ rw (same_same cmd) (sym is_parts));
-      done = λ k small. subst (λ j. is_marked (calls ++ SetParts cmd n ∷ []) j k ≡ slice_index_or h.done k false) (sym is_cmd)
-          (marked-more calls (SetParts cmd n) cmd k ∙ rw (same_same cmd) (sym (ap (λ xs. slice_index_or xs k false) none ∙ get_or-replicate 129 k false false small)));
+      done = λ k small. subst (λ j. is_marked (calls ++ SetParts cmd n ∷ []) j k ≡ has_part h.done.words k) (sym is_cmd)
+          (marked-more calls (SetParts cmd n) cmd k ∙ rw (same_same cmd) (sym (none k)));
     })
     (λ g differs holds. let off : (cmd == g.cmd) ≡ false = not_same g.cmd cmd (λ e. differs (e ∙ sym is_cmd)) in record {
       command = ap (λ cs. slice_get cs g.cmd) (issued-same calls cmd n) ∙ holds.command;
@@ -265,22 +266,11 @@ stands-parts q new calls cmd n i old h stands one same items within at old_at is
     one-below : (q : Queue) (calls : List Call) (cmd : ℕ) → StandsFor q calls → IsOneOf q cmd → cmd < length (issued calls)
     one-below q calls cmd stands one = let l = below-issued one.calls cmd one.outstanding in let e = one.stands.number in let f = stands.number in omega arith
 
-set-done : (xs : List Bool) (part k : ℕ) (x : Bool) → part < length xs → x ≡ slice_index_or xs k false → (x || (part == k)) ≡ slice_index_or (slice_set xs part true) k false
-set-done xs part k x within at = on (part == k) refl
-  where
-    on : (b : Bool) → (part == k) ≡ b → (x || b) ≡ slice_index_or (slice_set xs part true) k false
-    on true e = let same : part ≡ k = grind (arith, nat_tests) in or_true x ∙ sym (subst (λ j. slice_index_or (slice_set xs part true) j false ≡ true) same (get_or-set_same xs part true false within))
-      where
-        or_true : (b : Bool) → (b || true) ≡ true
-        or_true true = refl
-        or_true false = refl
-    on false e = let apart : k ≢ part = grind (arith, nat_tests) in or_false x ∙ at ∙ sym (get_or-set_other xs part k true false apart)
-
 pub stands-mark : (q new : Queue) (calls : List Call) (cmd part i : ℕ) (old h : Held) → StandsFor q calls → HasPart q cmd part → new.issued ≡ q.issued → new.held.items ≡ slice_set q.held.items i h
     → i < length q.held.items → ((d : Held) → (slice_index_or q.held.items i d).cmd ≡ cmd) → old ≡ slice_index_or q.held.items i old
-    → h.cmd ≡ old.cmd → h.command ≡ old.command → h.parts ≡ old.parts → h.done ≡ slice_set old.done part true → part < length old.done
+    → h.cmd ≡ old.cmd → h.command ≡ old.command → h.parts ≡ old.parts → ((k : ℕ) → has_part h.done.words k ≡ (has_part old.done.words k || part == k))
     → StandsFor new (calls ++ Mark cmd part ∷ [])
-stands-mark q new calls cmd part i old h stands has same items within at old_at as_cmd is_command is_parts marks small =
+stands-mark q new calls cmd part i old h stands has same items within at old_at as_cmd is_command is_parts marks =
     let is_cmd : h.cmd ≡ cmd = as_cmd ∙ ap (λ (x : Held). x.cmd) old_at ∙ at old in
     let was_cmd : old.cmd ≡ cmd = ap (λ (x : Held). x.cmd) old_at ∙ at old in
     let was : Holds calls old = held-at q calls i old stands within old_at in
@@ -289,9 +279,9 @@ stands-mark q new calls cmd part i old h stands has same items within at old_at 
       command = subst (λ k. slice_get (issued (calls ++ Mark cmd part ∷ [])) k ≡ Some h.command) (sym is_cmd)
           (ap (λ cs. slice_get cs cmd) (issued-marked calls cmd part) ∙ command-at q calls i cmd old stands within old_at at ∙ ap Some (sym is_command));
       parts = parts-more calls (Mark cmd part) h.cmd ∙ ap (parts calls) as_cmd ∙ was.parts ∙ sym is_parts;
-      done = λ k low. subst (λ j. is_marked (calls ++ Mark cmd part ∷ []) j k ≡ slice_index_or h.done k false) (sym is_cmd)
+      done = λ k low. subst (λ j. is_marked (calls ++ Mark cmd part ∷ []) j k ≡ has_part h.done.words k) (sym is_cmd)
           (marked-more calls (Mark cmd part) cmd k ∙ rw (same_same cmd)
-          (set-done old.done part k (is_marked calls cmd k) small (subst (λ j. is_marked calls j k ≡ slice_index_or old.done k false) was_cmd (was.done k low)) ∙ ap (λ xs. slice_index_or xs k false) (sym marks)));
+          (ap (λ b. b || part == k) (subst (λ j. is_marked calls j k ≡ has_part old.done.words k) was_cmd (was.done k low)) ∙ sym (marks k)));
     })
     (λ g differs holds. let off : (cmd == g.cmd) ≡ false = not_same g.cmd cmd (λ e. differs (e ∙ sym is_cmd)) in record {
       command = ap (λ cs. slice_get cs g.cmd) (issued-marked calls cmd part) ∙ holds.command;
@@ -310,11 +300,11 @@ all-agree p r a zero h = refl
 all-agree p r a (suc n) h = rw (h a (omega arith)) (ap (λ b. r a && b) (all-agree p r (a + 1) n (λ k l. h k (omega arith))))
 
 pub all-marked : (q : Queue) (calls : List Call) (cmd i : ℕ) (h : Held) → StandsFor q calls → i < length q.held.items → h ≡ slice_index_or q.held.items i h → ((d : Held) → (slice_index_or q.held.items i d).cmd ≡ cmd)
-    → h.parts ≤ 129 → list_all (λ k. slice_index_or h.done k false) (range_with_len 0 h.parts) ≡ all_marked calls cmd
+    → h.parts ≤ 129 → list_all (λ k. has_part h.done.words k) (range_with_len 0 h.parts) ≡ all_marked calls cmd
 all-marked q calls cmd i h stands within at same few =
     let e : h.cmd ≡ cmd = ap (λ (x : Held). x.cmd) at ∙ same h in
     let holds : Holds calls h = held-at q calls i h stands within at in
-    all-agree (λ k. slice_index_or h.done k false) (is_marked calls cmd) 0 h.parts (λ k l. subst (λ j. slice_index_or h.done k false ≡ is_marked calls j k) e (sym (holds.done k (omega arith))))
+    all-agree (λ k. has_part h.done.words k) (is_marked calls cmd) 0 h.parts (λ k l. subst (λ j. has_part h.done.words k ≡ is_marked calls j k) e (sym (holds.done k (omega arith))))
     ∙ ap (λ n. list_all (is_marked calls cmd) (range_with_len 0 n)) (sym holds.parts ∙ ap (parts calls) e)
 
 -- a filter after a filter, and of what f makes of each
@@ -422,7 +412,7 @@ all-one P x p zero d l = p
 all-one P x p (suc k) d l = absurd (omega arith)
 
 pub stands-issue : (q new : Queue) (calls : List Call) (c : Command) (h : Held) → StandsFor q calls → new.issued ≡ q.issued + 1 → new.held.items ≡ q.held.items ++ h ∷ [] → length q.held.items < 16
-    → h.cmd ≡ q.issued → h.command ≡ c → h.parts ≡ 0 → h.done ≡ replicate 129 false → StandsFor new (calls ++ Issue c ∷ [])
+    → h.cmd ≡ q.issued → h.command ≡ c → h.parts ≡ 0 → ((k : ℕ) → has_part h.done.words k ≡ false) → StandsFor new (calls ++ Issue c ∷ [])
 stands-issue q new calls c h stands more items less is_cmd is_command is_parts none =
     let unknown : IsUnknown calls (length (issued calls)) = stands.fresh (length (issued calls)) (omega arith) in
     let is_last : h.cmd ≡ length (issued calls) = is_cmd ∙ sym stands.number in
@@ -435,7 +425,7 @@ stands-issue q new calls c h stands more items less is_cmd is_command is_parts n
           (all-one (Holds (calls ++ Issue c ∷ [])) h (record {
             command = rw is_last (ap (λ cs. slice_get cs (length (issued calls))) (issued-issued calls c) ∙ get-last (issued calls) c ∙ ap Some (sym is_command));
             parts = parts-more calls (Issue c) h.cmd ∙ ap (parts calls) is_last ∙ unknown.parts ∙ sym is_parts;
-            done = λ k low. marked-more calls (Issue c) h.cmd k ∙ ap (λ n. is_marked calls n k) is_last ∙ unknown.marked k ∙ sym (ap (λ xs. slice_index_or xs k false) none ∙ get_or-replicate 129 k false false low);
+            done = λ k low. marked-more calls (Issue c) h.cmd k ∙ ap (λ n. is_marked calls n k) is_last ∙ unknown.marked k ∙ sym (none k);
           })));
       fresh = λ k past.
           let old : IsUnknown calls k = stands.fresh k (let l = ap length (issued-issued calls c) in let m = length-append (issued calls) (c ∷ []) in omega arith) in

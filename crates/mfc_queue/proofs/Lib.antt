@@ -1,4 +1,5 @@
 mod CallLaws
 mod Walks
+mod SetLemmas
 mod Holding
 mod PlaceLemmas

@@ -1,15 +1,16 @@
 -- What a queue stands for.
-use Rattle.std.specs.Prelude.{◌≡◌, ◌≢◌, ℕ, ◌<◌, ◌≤◌, true, false, List, Option, Some, find, ◌==◌, All, map, length, slice_get, slice_index_or}
+use Rattle.std.specs.Prelude.{◌≡◌, ◌≢◌, ℕ, ◌<◌, ◌≤◌, true, false, List, Option, Some, find, ◌==◌, All, map, length, slice_get}
 use Rattle.std.specs.Option.{option_map}
 use Rattle.mfc_queue.specs.declared.Queue.{Queue}
 use Rattle.mfc_queue.specs.declared.Held.{Held}
+use Rattle.mfc_queue.specs.Sets.{has_part}
 use Rattle.mfc_queue.specs.Calls.{Call, issued, is_retired, is_outstanding, outstanding, parts, is_marked}
 
 -- the command of this number, its parts, and those done
 pub record Holds (calls : List Call) (h : Held) : Type 0 where
   pub command : slice_get (issued calls) h.cmd ≡ Some h.command
   pub parts : parts calls h.cmd ≡ h.parts
-  pub done : (k : ℕ) → k < 129 → is_marked calls h.cmd k ≡ slice_index_or h.done k false
+  pub done : (k : ℕ) → k < 129 → is_marked calls h.cmd k ≡ has_part h.done.words k
 
 -- no call spoke of a command of this number
 pub record IsUnknown (calls : List Call) (cmd : ℕ) : Type 0 where

@@ -8,14 +8,14 @@ ghost use Rattle.mfc_command.specs.Order.{goes_before, precedes};
 ghost use Rattle.mfc_queue.specs.Places.{ArePlaces};
 ghost use Rattle.mfc_queue.specs.Calls.{Call, Issue, SetParts, Mark, Retire, issued, is_retired, is_outstanding, outstanding, parts, is_marked, all_marked, may_begin, busy, has_outstanding};
 
+mod part_set;
+
+use crate::part_set::PartSet;
 use arrayvec::ArrayVec;
 use mfc_command::{Command, Kind, Mark as OrderMark, precedes};
 
 /// How many places a queue has.
 pub const PLACES: usize = 16;
-
-/// The most parts that a transfer can have.
-const MAX_PARTS: usize = 129;
 
 /// Sixteen commands are outstanding.
 #[derive(Clone, Copy, Debug, PartialEq, Eq)]
@@ -28,10 +28,9 @@ struct Held {
     place: u8,
     command: Command,
     parts: u32,
-    done: [bool; 129],
+    done: PartSet,
     ghost tag: { command.tag < 32 },
     ghost few: { parts ≤ 129 },
-    ghost whole: { length done ≡ 129 },
 }
 
 impl Default for Held {
@@ -48,7 +47,7 @@ impl Default for Held {
                 size: 0,
             },
             parts: 0,
-            done: [false; MAX_PARTS],
+            done: PartSet::new(),
         }
     }
 }
@@ -113,7 +112,7 @@ impl Queue {
             place,
             command: c,
             parts: 0,
-            done: [false; MAX_PARTS],
+            done: PartSet::new(),
         });
         Ok(cmd)
     }
@@ -209,7 +208,7 @@ impl Queue {
                     place: h.place,
                     command: h.command,
                     parts: n,
-                    done: [false; MAX_PARTS],
+                    done: PartSet::new(),
                 };
                 put(&mut self.held, i, begun);
             }
@@ -223,7 +222,7 @@ impl Queue {
         ensures { (calls : List Call) → StandsFor self.now calls → result ≡ is_marked calls cmd part }
     {
         match self.index_of(cmd) {
-            Some(i) => self.held_at(i).done[part as usize],
+            Some(i) => self.held_at(i).done.has(part),
             None => unreachable!(),
         }
     }
@@ -237,7 +236,7 @@ impl Queue {
         match self.index_of(cmd) {
             Some(i) => {
                 let mut h = *self.held_at(i);
-                h.done[part as usize] = true;
+                h.done.insert(part);
                 put(&mut self.held, i, h);
             }
             None => unreachable!(),
@@ -263,7 +262,7 @@ impl Queue {
         match self.index_of(cmd) {
             Some(i) => {
                 let h = self.held_at(i);
-                are_all(&h.done, h.parts as usize)
+                h.done.has_all_below(h.parts)
             }
             None => unreachable!(),
         }
@@ -335,19 +334,6 @@ fn holds_up(c: &Held, cmd: u32, d: &Command) -> bool
     ensures { result ≡ (nat_lt c.now.cmd cmd && precedes c.now.command d.now) }
 {
     c.cmd < cmd && precedes(&c.command, d)
-}
-
-/// Whether the first n are all true.
-fn are_all(done: &[bool], n: usize) -> bool
-    requires { n ≤ length done.now }
-    ensures { result ≡ list_all (λ k. slice_index_or done.now k false) (range_with_len 0 n) }
-{
-    for k in 0..n {
-        if !done[k] {
-            return false;
-        }
-    }
-    true
 }
 
 #[cfg(test)]

@@ -9,7 +9,7 @@ use Rattle.mfc_queue.proofs.Queue.issue.Goals as goal
 pub returns-clause-issued : goal.returns-clause-issued
 returns-clause-issued c = λ calls stands.
     stands-issue _ _ calls c.args.c _ stands refl c.push.ensures.items
-    (room _ _ c.pop.new.self.items c.in-Some.place c.args.self.now.places c.in-Some.ensures.items) refl refl refl refl
+    (room _ _ c.pop.new.self.items c.in-Some.place c.args.self.now.places c.in-Some.ensures.items) refl refl refl c.new.ensures
 
 pub invariant_of-self-2 : goal.invariant_of-self-2
 invariant_of-self-2 c = record { places = places-issued _ _ _ _ _ c.args.self.now.places c.push.ensures.items c.in-Some.ensures.items }
