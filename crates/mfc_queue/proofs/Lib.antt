@@ -3,3 +3,4 @@ mod Walks
 mod SetLemmas
 mod Holding
 mod PlaceLemmas
+mod Before

@@ -1,12 +1,12 @@
 -- Sets of numbers, as bits.
-use Rattle.std.proofs.Common.{◌≡◌, ◌≢◌, ℕ, zero, suc, ◌+◌, ◌-◌, ◌*◌, ◌/◌, ◌%◌, ◌^◌, ◌<◌, ◌≤◌, ◌==◌, Bool, true, false, ◌||◌, ◌&&◌, List, [], ◌∷◌, length, slice_index_or, slice_set, bit_and, bit_or, w64, arith, refl, sym, ◌∙◌, ap, subst}
-use Rattle.std.specs.Prelude.{nat_le, nat_lt}
-use Rattle.std.specs.Int.{Width, bit_at}
-use Rattle.std.specs.List.{list_all, range_with_len}
+use Rattle.std.proofs.Common.{◌≡◌, ◌≢◌, ℕ, zero, suc, ◌+◌, ◌-◌, ◌*◌, ◌/◌, ◌%◌, ◌^◌, ◌<◌, ◌≤◌, ◌==◌, Bool, true, false, ◌||◌, ◌&&◌, List, [], ◌∷◌, length, slice_index_or, slice_set, bit_and, bit_or, w16, w64, arith, refl, sym, ◌∙◌, ap, subst}
+use Rattle.std.specs.Prelude.{nat_le, nat_lt, not}
+use Rattle.std.specs.Int.{Width, bit_at, bit_not, trailing_zeros}
+use Rattle.std.specs.List.{list_all, list_any, range_with_len}
 use mir.Val.{bits}
 use Rattle.std.proofs.lemmas.List.{get_or-set_same, get_or-set_other}
 use Rattle.std.proofs.lemmas.Bool.Decides.{nat_tests}
-use Rattle.std.proofs.lemmas.Nat.Bits.{bit_at-zero, bit_at_set_same, bit_at_set_other, bit_at_ones, shr_and_one}
+use Rattle.std.proofs.lemmas.Nat.Bits.{bit_at-zero, bit_at_set_same, bit_at_set_other, bit_at_clear_same, bit_at_clear_other, bit_at-trailing_zeros, shr_and_one}
 use Rattle.mfc_queue.specs.Sets.{has_bit, has_part}
 
 or_true : (b : Bool) → (b || true) ≡ true
@@ -35,10 +35,26 @@ bit-set w n j k within = on (j == k) refl
         let apart : k ≢ j = grind (arith, nat_tests) in
         ap (λ b. b == 1) (bit_at_set_other w n j within k apart) ∙ sym (or_false (bit_at n k == 1))
 
--- all 64 bits are set in a word of ones
-pub bit-all : (k : ℕ) → k < 64 → has_bit 18446744073709551615 k ≡ true
+and_true : (b : Bool) → (b && true) ≡ b
+and_true true = refl
+and_true false = refl
+
+and_false : (b : Bool) → (b && false) ≡ false
+and_false true = refl
+and_false false = refl
+
+-- one bit less, of sixteen
+pub bit-clear : (n j k : ℕ) → j < 16 → k < 16 → has_bit (bit_and n (bit_not w16 (1 * 2 ^ j % 2 ^ 16))) k ≡ (has_bit n k && not (j == k))
 unfolding has_bit
-bit-all k within = ap (λ b. b == 1) (bit_at_ones 64 k within)
+bit-clear n j k within low = on (j == k) refl
+  where
+    on : (b : Bool) → (j == k) ≡ b → (bit_at (bit_and n (bit_not w16 (1 * 2 ^ j % 2 ^ 16))) k == 1) ≡ (bit_at n k == 1 && not b)
+    on true e =
+        let same : j ≡ k = grind (arith, nat_tests) in
+        ap (λ b. b == 1) (subst (λ i. bit_at (bit_and n (bit_not w16 (1 * 2 ^ j % 2 ^ 16))) i ≡ 0) same (bit_at_clear_same w16 n j within)) ∙ sym (and_false (bit_at n k == 1))
+    on false e =
+        let apart : k ≢ j = grind (arith, nat_tests) in
+        ap (λ b. b == 1) (bit_at_clear_other w16 n j within k low apart) ∙ sym (and_true (bit_at n k == 1))
 
 -- the test of one bit
 pub bit-test : (n k : ℕ) → (bit_and (n / 2 ^ k) 1 == 1) ≡ has_bit n k
@@ -112,10 +128,6 @@ one-out : (p : ℕ → Bool) (a n k : ℕ) → a ≤ k → k < a + n → p k ≡
 one-out p a zero k low high off = absurd (omega arith)
 one-out p a (suc n) k low high off = on (a == k) refl (λ l. one-out p (a + 1) n k l (omega arith) off)
   where
-    and_false : (b : Bool) → (b && false) ≡ false
-    and_false true = refl
-    and_false false = refl
-
     on : (b : Bool) → (a == k) ≡ b → (a + 1 ≤ k → list_all p (range_with_len (a + 1) n) ≡ false) → list_all p (range_with_len a (suc n)) ≡ false
     on true e rest = let same : k ≡ a = grind (arith, nat_tests) in rw (subst (λ j. p j ≡ false) same off) refl
     on false e rest = let apart : a ≢ k = grind (arith, nat_tests) in ap (λ b. p a && b) (rest (grind (arith, apart))) ∙ and_false (p a)
@@ -127,3 +139,38 @@ all-below p n first most missing before = on (nat_le n first) refl
     on : (b : Bool) → nat_le n first ≡ b → b ≡ list_all p (range_with_len 0 n)
     on true e = let fits : n ≤ first = grind (arith, nat_tests) in sym (all-in p 0 n (λ k l. before k (omega arith)))
     on false e = let past : first < n = grind (arith, nat_tests) in sym (one-out p 0 n first (omega arith) (omega arith) (missing (omega arith)))
+
+-- tests of a range
+pub any-none : (p : ℕ → Bool) (a n : ℕ) → ((k : ℕ) → k < a + n → p k ≡ false) → list_any p (range_with_len a n) ≡ false
+any-none p a zero h = refl
+any-none p a (suc n) h = rw (h a (omega arith)) (any-none p (a + 1) n (λ k l. h k (omega arith)))
+
+pub any-one : (p : ℕ → Bool) (a n k : ℕ) → a ≤ k → k < a + n → p k ≡ true → list_any p (range_with_len a n) ≡ true
+any-one p a zero k low high on = absurd (omega arith)
+any-one p a (suc n) k low high is = on (a == k) refl (λ l. any-one p (a + 1) n k l (omega arith) is)
+  where
+    on : (b : Bool) → (a == k) ≡ b → (a + 1 ≤ k → list_any p (range_with_len (a + 1) n) ≡ true) → list_any p (range_with_len a (suc n)) ≡ true
+    on true e rest = let same : k ≡ a = grind (arith, nat_tests) in rw (subst (λ j. p j ≡ true) same is) refl
+    on false e rest = let apart : a ≢ k = grind (arith, nat_tests) in ap (λ b. p a || b) (rest (grind (arith, apart))) ∙ or_true (p a)
+
+pub any-agree : (p r : ℕ → Bool) (a n : ℕ) → ((k : ℕ) → k < a + n → p k ≡ r k) → list_any p (range_with_len a n) ≡ list_any r (range_with_len a n)
+any-agree p r a zero h = refl
+any-agree p r a (suc n) h = rw (h a (omega arith)) (ap (λ b. r a || b) (any-agree p r (a + 1) n (λ k l. h k (omega arith))))
+
+-- a set of sixteen is empty where no bit is set
+lowest-found : (n : ℕ) → n < 65536 → 0 < n → list_any (has_bit n) (range_with_len 0 16) ≡ true
+unfolding has_bit
+lowest-found n fits some =
+    let lowest = bit_at-trailing_zeros w16 n some fits in
+    any-one (has_bit n) 0 16 (trailing_zeros w16 n) (omega arith) lowest.0 (ap (λ b. b == 1) lowest.1)
+
+pub is-empty : (n : ℕ) → n < 65536 → (n == 0) ≡ not (list_any (has_bit n) (range_with_len 0 16))
+is-empty n fits = on (n == 0) refl
+  where
+    on : (b : Bool) → (n == 0) ≡ b → b ≡ not (list_any (has_bit n) (range_with_len 0 16))
+    on true e =
+        let zeroth : n ≡ 0 = grind (arith, nat_tests) in
+        sym (ap not (any-none (has_bit n) 0 16 (λ k l. ap (λ m. has_bit m k) zeroth ∙ bit-none k)))
+    on false e =
+        let some : 0 < n = grind (arith, nat_tests) in
+        sym (ap not (lowest-found n fits some))

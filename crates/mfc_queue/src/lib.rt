@@ -1,16 +1,19 @@
 //! The queue of one processor's commands: sixteen places, the parts done of each command, and which may start.
 #![tactic(auto)]
 
-ghost use Rattle.std.specs.Prelude.{◌≡◌, ◌≢◌, ℕ, ◌+◌, ◌-◌, ◌<◌, ◌≤◌, ◌↔◌, List, [], ◌∷◌, ◌++◌, length, IfOk, OnOk, OnErr, IsOk, IfSome, IfNone, Some, slice_get, slice_index_or, slice_set, find, nat_le, nat_lt, ◌==◌, ◌&&◌, false, map, is_some};
+ghost use Rattle.std.specs.Prelude.{◌≡◌, ◌≢◌, ℕ, ◌+◌, ◌-◌, ◌<◌, ◌≤◌, ◌↔◌, List, [], ◌∷◌, ◌++◌, length, IfOk, OnOk, OnErr, IsOk, IfSome, IfNone, Some, slice_get, slice_index_or, slice_set, find, nat_le, nat_lt, ◌==◌, ◌&&◌, not, false, map, is_some};
 ghost use Rattle.std.specs.List.{list_any, list_all, range_with_len};
 ghost use Rattle.std.specs.Option.{option_and_then};
 ghost use Rattle.mfc_command.specs.Order.{goes_before, precedes};
 ghost use Rattle.mfc_queue.specs.Places.{ArePlaces};
+ghost use Rattle.mfc_queue.specs.Sets.{has_bit};
 ghost use Rattle.mfc_queue.specs.Calls.{Call, Issue, SetParts, Mark, Retire, issued, is_retired, is_outstanding, outstanding, parts, is_marked, all_marked, may_begin, busy, has_outstanding};
 
 mod part_set;
+mod place_set;
 
 use crate::part_set::PartSet;
+use crate::place_set::PlaceSet;
 use arrayvec::ArrayVec;
 use mfc_command::{Command, Kind, Mark as OrderMark, precedes};
 
@@ -53,12 +56,16 @@ impl Default for Held {
 }
 
 /// The outstanding commands in the order of their numbers, the places that none of them has, and how many commands were issued.
+///
+/// For a command at place p, `before[p]` has the places of the earlier outstanding commands that go before it.
 #[derive(Drop)]
 pub struct Queue {
     issued: u32,
     held: ArrayVec<Held, 16>,
     vacant: ArrayVec<u8, 16>,
+    before: [PlaceSet; 16],
     ghost places: { ArePlaces (map (λ h. h.place) held.items) vacant.items },
+    ghost sets: { length before ≡ 16 },
 }
 
 impl Queue {
@@ -73,6 +80,7 @@ impl Queue {
             issued: 0,
             held: ArrayVec::new(),
             vacant: ArrayVec::from_array_in((), vacant),
+            before: [PlaceSet::new(); PLACES],
         }
     }
 
@@ -102,9 +110,11 @@ impl Queue {
         ensures err { OnErr result (self.new ≡ self.old) }
         ensures places { IfOk result (KeepsOtherPlaces self.old self.new) }
     {
+        let before = self.places_before(&c);
         let Some(place) = self.vacant.pop() else {
             return Err(QueueFull);
         };
+        self.before[usize::from(place)] = before;
         let cmd = self.issued;
         self.issued = cmd + 1;
         self.held.push(Held {
@@ -115,6 +125,20 @@ impl Queue {
             done: PartSet::new(),
         });
         Ok(cmd)
+    }
+
+    /// The places of the outstanding commands that go before a later one.
+    fn places_before(&self, later: &Command) -> PlaceSet
+        ensures { (place : ℕ) → has_bit result.bits place ≡ list_any (λ h. h.place == place && precedes h.command later.now) self.now.held.items }
+    {
+        let mut places = PlaceSet::new();
+        for i in 0..self.held.len() {
+            let h = self.held_at(i);
+            if precedes(&h.command, later) {
+                places.insert(h.place);
+            }
+        }
+        places
     }
 
     /// The command at this index.
@@ -184,13 +208,10 @@ impl Queue {
         requires { IsOneOf self.now cmd }
         ensures { (calls : List Call) → StandsFor self.now calls → result ≡ may_begin calls cmd }
     {
-        let d = self.command(cmd);
-        for i in 0..self.held.len() {
-            if holds_up(self.held_at(i), cmd, &d) {
-                return false;
-            }
+        match self.index_of(cmd) {
+            Some(i) => self.before[usize::from(self.held_at(i).place)].is_empty(),
+            None => unreachable!(),
         }
-        true
     }
 
     /// Begins the pieces of a command or element, at most 129, with none done.
@@ -289,6 +310,7 @@ impl Queue {
             Some(i) => {
                 let h = self.held.remove(i);
                 self.vacant.push(h.place);
+                remove_from_all(&mut self.before, h.place);
             }
             None => unreachable!(),
         }
@@ -329,11 +351,18 @@ fn put(held: &mut ArrayVec<Held, 16>, i: usize, h: Held)
     held[i] = h;
 }
 
-/// Whether the command goes before the one with this number.
-fn holds_up(c: &Held, cmd: u32, d: &Command) -> bool
-    ensures { result ≡ (nat_lt c.now.cmd cmd && precedes c.now.command d.now) }
+/// Takes the place out of all sets.
+fn remove_from_all(sets: &mut [PlaceSet; 16], place: u8)
+    requires many { length sets.old ≡ 16 }
+    requires small { place < 16 }
+    ensures many { length sets.new ≡ 16 }
+    ensures each { (k p : ℕ) (d : PlaceSet) → k < 16 → p < 16 → has_bit (slice_index_or sets.new k d).bits p ≡ (has_bit (slice_index_or sets.old k d).bits p && not (place == p)) }
 {
-    c.cmd < cmd && precedes(&c.command, d)
+    for k in 0..PLACES {
+        let mut set = sets[k];
+        set.remove(place);
+        sets[k] = set;
+    }
 }
 
 #[cfg(test)]
