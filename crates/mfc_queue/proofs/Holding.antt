@@ -55,10 +55,6 @@ second_of_both : (a b : Bool) → (a && b) ≡ true → b ≡ true
 second_of_both true b h = h
 second_of_both false b h = absurd (true≢false (sym h))
 
-not_of_not : (b : Bool) → not b ≡ true → b ≡ false
-not_of_not true h = absurd (true≢false (sym h))
-not_of_not false h = refl
-
 pub below-issued : (calls : List Call) (cmd : ℕ) → is_outstanding calls cmd ≡ true → cmd < length (issued calls)
 below-issued calls cmd h = let t : nat_lt cmd (length (issued calls)) ≡ true = first_of_both _ _ h in grind (arith, nat_tests)
 
@@ -116,20 +112,6 @@ pub command-at : (q : Queue) (calls : List Call) (i cmd : ℕ) (h : Held) → St
 command-at q calls i cmd h stands within at same =
     let e : h.cmd ≡ cmd = ap (λ (x : Held). x.cmd) at ∙ same h in
     subst (λ k. slice_get (issued calls) k ≡ Some h.command) e (held-at q calls i h stands within at).command
-
-pub part-small : (q : Queue) (cmd part i : ℕ) (h : Held) → HasPart q cmd part → i < length q.held.items → h ≡ slice_index_or q.held.items i h
-    → ((d : Held) → (slice_index_or q.held.items i d).cmd ≡ cmd) → h.parts ≤ 129 → part < 129
-part-small q cmd part i h has within at same few =
-    let e : h.cmd ≡ cmd = ap (λ (x : Held). x.cmd) at ∙ same h in
-    let holds = held-at q has.calls i h has.stands within at in
-    let p : parts has.calls cmd ≡ h.parts = subst (λ k. parts has.calls k ≡ h.parts) e holds.parts in
-    (let l = has.within in omega arith)
-
-pub done-at : (q : Queue) (calls : List Call) (i cmd k : ℕ) (h : Held) → StandsFor q calls → i < length q.held.items → h ≡ slice_index_or q.held.items i h
-    → ((d : Held) → (slice_index_or q.held.items i d).cmd ≡ cmd) → k < 129 → is_marked calls cmd k ≡ has_part h.done.words k
-done-at q calls i cmd k h stands within at same small =
-    let e : h.cmd ≡ cmd = ap (λ (x : Held). x.cmd) at ∙ same h in
-    subst (λ n. is_marked calls n k ≡ has_part h.done.words k) e ((held-at q calls i h stands within at).done k small)
 
 -- the numbers of a range that pass a test rise
 least : (t : ℕ → Bool) (a n i : ℕ) → i < length (filter t (range_with_len a n)) → a ≤ slice_index_or (filter t (range_with_len a n)) i 0

@@ -54,12 +54,15 @@ times-within p a (suc n) low high = on (a == p) refl (λ l h. times-within p (a 
         omega arith
 
 -- all places are vacant at the start
-pub all-vacant : ArePlaces [] (range_with_len 0 16)
+all-vacant : ArePlaces [] (range_with_len 0 16)
 all-vacant = record { each = λ p. on p (nat_lt p 16) refl; many = refl }
   where
     on : (p : ℕ) (b : Bool) → nat_lt p 16 ≡ b → times p [] + times p (range_with_len 0 16) ≡ one_if b
     on p true e = let low : p < 16 = grind (arith, nat_tests) in let t = times-within p 0 16 (omega arith) (omega arith) in omega arith
     on p false e = let high : 16 ≤ p = grind (arith, nat_tests) in let t = times-above p 0 16 (omega arith) in omega arith
+
+pub places-new : (held : List Held) (vacant : List ℕ) → held ≡ [] → vacant ≡ range_with_len 0 16 → ArePlaces (map (λ x. x.place) held) vacant
+places-new held vacant none all = subst (λ ps. ArePlaces (map (λ (x : Held). x.place) held) ps) (sym all) (subst (λ xs. ArePlaces (map (λ (x : Held). x.place) xs) (range_with_len 0 16)) (sym none) all-vacant)
 
 -- a vacant place is taken
 pub places-taken : (taken old new : List ℕ) (p : ℕ) → ArePlaces taken old → old ≡ new ++ p ∷ [] → ArePlaces (taken ++ p ∷ []) new
