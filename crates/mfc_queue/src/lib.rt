@@ -1,13 +1,13 @@
 //! The queue of one processor's commands: sixteen places, the parts done of each command, and which may start.
 #![tactic(auto)]
 
-ghost use Rattle.std.specs.Prelude.{◌≡◌, ◌≢◌, ℕ, ◌+◌, ◌-◌, ◌<◌, ◌≤◌, ◌↔◌, List, [], ◌∷◌, ◌++◌, length, IfOk, OnOk, OnErr, IsOk, IfSome, IfNone, Some, slice_get, slice_index_or, slice_set, find, nat_le, nat_lt, ◌==◌, ◌&&◌, not, false, map, is_some};
-ghost use Rattle.std.specs.List.{list_any, list_all, range_with_len};
+ghost use Rattle.std.specs.Prelude.{◌≡◌, ℕ, ◌+◌, ◌-◌, ◌<◌, ◌≤◌, ◌↔◌, List, [], ◌∷◌, ◌++◌, length, IfOk, OnOk, OnErr, IsOk, IfSome, IfNone, Some, slice_get, slice_index_or, slice_set, find, nat_le, ◌==◌, ◌&&◌, not, false, map, is_some};
+ghost use Rattle.std.specs.List.{list_any};
 ghost use Rattle.std.specs.Option.{option_and_then};
-ghost use Rattle.mfc_command.specs.Order.{goes_before, precedes};
+ghost use Rattle.mfc_command.specs.Order.{precedes};
 ghost use Rattle.mfc_queue.specs.Places.{ArePlaces};
 ghost use Rattle.mfc_queue.specs.Sets.{has_bit};
-ghost use Rattle.mfc_queue.specs.Calls.{Call, Issue, SetParts, Mark, Retire, issued, is_retired, is_outstanding, outstanding, parts, is_marked, all_marked, may_begin, busy, has_outstanding};
+ghost use Rattle.mfc_queue.specs.Calls.{Call, Issue, SetParts, Mark, Retire, issued, is_outstanding, outstanding, parts, is_marked, all_marked, may_begin, busy, has_outstanding};
 
 mod part_set;
 mod place_set;
