@@ -1,9 +1,10 @@
 #!/usr/bin/env python3
 """Measures `cell`: python3 bench/run.py, from the repository's root, after `./cell` was built.
 
-Prints instructions per second of two loops of a million steps, and the time and the greatest memory
-that assembling two sources of 4 MB takes. Each figure is the best of five runs; the time of a run of
-one step is taken off that of the loops, so that starting the program isn't counted.
+Prints instructions per second of two loops of a million steps; steps per second of a whole run, file in
+and text out, with one and with eight processors; the greatest memory of the widest machine; and the time
+and the greatest memory that assembling three sources of 4 MB takes. Each figure is the best of five runs;
+the time of a run of one step is taken off that of the loops, so that starting the program isn't counted.
 """
 import os
 import subprocess
@@ -33,10 +34,10 @@ def measured(words):
     return best, most
 
 
-def machine_file(folder, source, budget):
-    name = os.path.join(folder, f"{os.path.basename(source)}.{budget}.cell")
+def machine_file(folder, source, budget, spes=1, lines=1):
+    name = os.path.join(folder, f"{os.path.basename(source)}.{budget}.{spes}.{lines}.cell")
     with open(name, "w") as file:
-        file.write(f"cell-machine 1\nlines 1\nbudget {budget}\nspe\nsource {source}\n")
+        file.write(f"cell-machine 1\nlines {lines}\nbudget {budget}\n" + f"spe\nsource {source}\n" * spes)
     return name
 
 
@@ -46,6 +47,13 @@ def loop(folder, source):
     busy, most = measured(["run", machine_file(folder, source, STEPS)])
     print(f"{source}: {STEPS / (busy - idle) / 1e6:.1f} million instructions a second; "
           f"{busy:.2f} s and {most / 1024:.0f} MiB for a million steps, {idle * 1000:.0f} ms for one")
+
+
+def whole_run(folder, source, spes, lines):
+    """Steps per second of a whole run of a million steps, and its memory."""
+    took, most = measured(["run", machine_file(folder, source, STEPS, spes, lines)])
+    print(f"{source} on {spes} processors with {lines} lines: {STEPS / took / 1e6:.1f} million steps a second; "
+          f"{took:.2f} s and {most / 1024:.1f} MiB")
 
 
 def assembling(folder, title, lines):
@@ -76,12 +84,22 @@ def short():
         number += 1
 
 
+def empty():
+    """Empty lines."""
+    while True:
+        yield "\n"
+
+
 def main():
     with tempfile.TemporaryDirectory() as folder:
         loop(folder, "bench/arithmetic.s")
         loop(folder, "bench/memory.s")
+        whole_run(folder, "bench/arithmetic.s", 1, 1)
+        whole_run(folder, "bench/arithmetic.s", 8, 1)
+        whole_run(folder, "bench/memory.s", 8, 32_768)
         assembling(folder, "65,536 instructions with labels and comments", commented())
         assembling(folder, "labels alone", short())
+        assembling(folder, "line feeds alone", empty())
 
 
 if __name__ == "__main__":

@@ -2,6 +2,8 @@
 #![tactic(auto)]
 
 mod causes;
+#[cfg(test)]
+mod examples;
 mod fault;
 mod job;
 mod program;

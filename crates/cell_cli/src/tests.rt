@@ -1,4 +1,5 @@
 // What the program answers, and what went out.
+use crate::examples::examples;
 use crate::fault::{Fault, FileId, Status};
 use crate::program::cell;
 use cell_io::{Cut, MemFile, MemSink, MemStore};
@@ -7,7 +8,7 @@ use std::alloc::{AllocError, Global};
 use std::test::Fail;
 
 /// A machine file, the source that it names, and what its run prints.
-type Run = (&'static str, &'static str, &'static str);
+pub(crate) type Run = (&'static str, &'static str, &'static str);
 
 const FIRST: &str =
     "cell-machine 1\nlines 1\nbudget 1000\nspe\ncode 0x0 408002831cfe818300001234\n";
@@ -26,7 +27,7 @@ const SUM_IMAGE: &str =
     "code 0x00000 33000100000000004200400240800003\ncode 0x00010 40800204002000003400010518014183\ncode 0x00020 1c0401021cffc204217ffe0424ff0103\ncode 0x00030 35000000\nbytes 0x00080 00000001000000020000000300000004\nbytes 0x00090 00000005000000060000000700000008\nbytes 0x000a0 000000090000000a0000000b0000000c\nbytes 0x000b0 0000000d0000000e0000000f00000010\nentry 0x00000\n";
 
 #[rattlefmt::skip]
-static RUNS: [Run; 8] = [
+static RUNS: [Run; 16] = [
     (FIRST, "", FIRST_PRINTED),
     // Code that another line's bytes replace, from an entry of its own.
     ("cell-machine 1\nlines 1\nbudget 9\nspe\nentry 0x8 # the second stop\ncode 0x0 408002831c00418300000001\nbytes 0xa 0002\nshow ls 0 0x8 4\n", "",
@@ -45,7 +46,43 @@ static RUNS: [Run; 8] = [
     (OF_SOURCE, "il $3,0\nil $4,3\nagain: a $3,$3,$4\nai $4,$4,-1\nbrnz $4,again\nstop 0x3fff",
      "cell-record 1\nx 0\nx 0\nx 0\nx 0\nx 0\nx 0\nx 0\nx 0\nx 0\nx 0\nx 0\nx 0\nsteps 12\nend AllStopped\nspe 0 stopped 0x3fff pc 0x00018 queued 0\nr3 00000006000000060000000600000006\nhost 0 of 0\n"),
     (OF_SOURCE, "", "cell-record 1\nx 0\nsteps 1\nend AllStopped\nspe 0 stopped 0x0000 pc 0x00004 queued 0\nhost 0 of 0\n"),
+    // A processor that waits for a value which nobody sends.
+    ("cell-machine 1\nlines 1\nbudget 1000\nspe\ncode 0x0 01a00e8300000000\n", "",
+     "cell-record 1\nsteps 0\nend Stuck\nspe 0 running pc 0x00000 queued 0\nhost 0 of 0\n"),
+    ("cell-machine 1\nlines 1\nbudget 1000\nspe\ncode 0x0 01a00e8300000000\nhost send 0 7\n", "",
+     "cell-record 1\nh\nx 0\nx 0\nsteps 3\nend AllStopped\nspe 0 stopped 0x0000 pc 0x00008 queued 0\nr3 00000007000000000000000000000000\nhost 1 of 1\n"),
+    // The inbound mailbox takes four values: the fifth send isn't allowed, and then nothing is.
+    ("cell-machine 1\nlines 1\nbudget 1000\nspe\ncode 0x0 00000000\nhost send 0 1\nhost send 0 2\nhost send 0 3\nhost send 0 4\nhost send 0 5\n", "",
+     "cell-record 1\nx 0\nh\nh\nh\nh\nsteps 5\nend AllStopped\nspe 0 stopped 0x0000 pc 0x00004 queued 0\nhost 4 of 5\n"),
+    // An await of a processor that runs isn't allowed.
+    ("cell-machine 1\nlines 1\nbudget 1000\nspe\ncode 0x0 01a00e8300000000\nhost await 0\n", "",
+     "cell-record 1\nsteps 0\nend Stuck\nspe 0 running pc 0x00000 queued 0\nhost 0 of 1\n"),
+    // Bytes of main memory, placed and then stored over.
+    ("cell-machine 1\nlines 2\nbudget 1000\nspe\nmem 0x7c 0102030405060708\nmem 0x80 aa\nhost store 0x82 bbcc\nshow mem 0x7c 8\nshow mem 0xff 1\n", "",
+     "cell-record 1\nx 0\nh\nsteps 2\nend AllStopped\nspe 0 stopped 0x0000 pc 0x00004 queued 0\nhost 1 of 1\nmem 0x0000007c 01020304aa06bbcc\nmem 0x000000ff 00\n"),
+    // One processor's value comes to another by the host.
+    ("cell-machine 1\nlines 1\nbudget 100\nspe\ncode 0x0 4080150321a00e0300000000\nspe\ncode 0x0 01a00e8400000000\nhost take 0\nhost send 1 42\n", "",
+     "cell-record 1\nx 0\nx 0\nx 0\nh\nh\nx 1\nx 1\nsteps 7\nend AllStopped\nspe 0 stopped 0x0000 pc 0x0000c queued 0\nr3 0000002a0000002a0000002a0000002a\nspe 1 stopped 0x0000 pc 0x00008 queued 0\nr4 0000002a000000000000000000000000\nhost 2 of 2\ntook 0 0x0000002a\n"),
+    // The counts of the three mailboxes, before and after a write; the interrupt mailbox; and a channel in the wrong way.
+    (OF_HOST, "rchcnt $3,$ch28\nrchcnt $4,$ch29\nrchcnt $5,$ch30\nwrch $ch30,$4\nrchcnt $6,$ch30\nrchcnt $7,$ch29\nwrch $ch29,$3",
+     OF_HOST_PRINTED),
+    // Eight processors with stores of their own.
+    (EIGHT, "", EIGHT_PRINTED),
 ];
+
+/// A machine whose host sends two values, and takes one of the interrupt mailbox.
+#[rattlefmt::skip]
+const OF_HOST: &str = "cell-machine 1\nlines 1\nbudget 100\nspe\nsource s\nhost send 0 9\nhost send 0 8\nhost takeintr 0\n";
+
+#[rattlefmt::skip]
+const OF_HOST_PRINTED: &str = "cell-record 1\nx 0\nx 0\nh\nx 0\nx 0\nh\nx 0\nx 0\nh\nx 0\nsteps 10\nend AllStopped\nspe 0 badchannel pc 0x00018 queued 0\nr3 00000001000000000000000000000000\nr5 00000001000000000000000000000000\nr7 00000002000000000000000000000000\nhost 3 of 3\ntook 2 0x00000000\n";
+
+/// Eight processors: each puts its number, counted from 1, into its store, and stops with it counted from 0.
+#[rattlefmt::skip]
+const EIGHT: &str = "cell-machine 1\nlines 1\nbudget 100\nspe\ncode 0x0 408000832404000300000000\nshow ls 0 0x100 16\nspe\ncode 0x0 408001032404000300000001\nshow ls 1 0x100 16\nspe\ncode 0x0 408001832404000300000002\nshow ls 2 0x100 16\nspe\ncode 0x0 408002032404000300000003\nshow ls 3 0x100 16\nspe\ncode 0x0 408002832404000300000004\nshow ls 4 0x100 16\nspe\ncode 0x0 408003032404000300000005\nshow ls 5 0x100 16\nspe\ncode 0x0 408003832404000300000006\nshow ls 6 0x100 16\nspe\ncode 0x0 408004032404000300000007\nshow ls 7 0x100 16\n";
+
+#[rattlefmt::skip]
+const EIGHT_PRINTED: &str = "cell-record 1\nx 0\nx 1\nx 2\nx 3\nx 4\nx 5\nx 6\nx 7\nx 0\nx 0\nx 1\nx 1\nx 2\nx 2\nx 3\nx 3\nx 4\nx 4\nx 5\nx 5\nx 6\nx 6\nx 7\nx 7\nsteps 24\nend AllStopped\nspe 0 stopped 0x0000 pc 0x0000c queued 0\nr3 00000001000000010000000100000001\nspe 1 stopped 0x0001 pc 0x0000c queued 0\nr3 00000002000000020000000200000002\nspe 2 stopped 0x0002 pc 0x0000c queued 0\nr3 00000003000000030000000300000003\nspe 3 stopped 0x0003 pc 0x0000c queued 0\nr3 00000004000000040000000400000004\nspe 4 stopped 0x0004 pc 0x0000c queued 0\nr3 00000005000000050000000500000005\nspe 5 stopped 0x0005 pc 0x0000c queued 0\nr3 00000006000000060000000600000006\nspe 6 stopped 0x0006 pc 0x0000c queued 0\nr3 00000007000000070000000700000007\nspe 7 stopped 0x0007 pc 0x0000c queued 0\nr3 00000008000000080000000800000008\nhost 0 of 0\nls 0 0x00100 00000001000000010000000100000001\nls 1 0x00100 00000002000000020000000200000002\nls 2 0x00100 00000003000000030000000300000003\nls 3 0x00100 00000004000000040000000400000004\nls 4 0x00100 00000005000000050000000500000005\nls 5 0x00100 00000006000000060000000600000006\nls 6 0x00100 00000007000000070000000700000007\nls 7 0x00100 00000008000000080000000800000008\n";
 
 const SUM_MACHINE: &str =
     "cell-machine 1\nlines 1\nbudget 1000\nspe\nsource s\nshow ls 0 0x80 16\n";
@@ -154,6 +191,18 @@ fn a_run_prints_its_record_and_states(rt: HostRuntime) -> Result<(), Fail> {
         assert_eq!(rt; out.bytes(), printed.as_bytes());
     }
     assert_eq!(rt; FIRST_PRINTED.len(), 138);
+    Ok(())
+}
+
+#[test]
+fn the_examples_print_what_stands_beside_them(rt: HostRuntime) -> Result<(), Fail> {
+    let alloc = rt.alloc();
+    for &(machine, source, printed) in examples() {
+        let machine = machine.as_bytes().to_vec(alloc)?;
+        let (status, out) = told(alloc, "run m", machine, source, Failing::Nothing)?;
+        assert_eq!(rt; status, Status::Done);
+        assert_eq!(rt; out.bytes(), printed.as_bytes());
+    }
     Ok(())
 }
 
