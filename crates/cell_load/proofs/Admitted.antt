@@ -7,7 +7,7 @@ use Rattle.cell_load.specs.declared.line.Refusal.{Refusal}
 use Rattle.cell_load.specs.declared.line.Counts.{Counts}
 use Rattle.cell_load.specs.declared.line.Stage.{Stage}
 use Rattle.cell_load.specs.declared.line.Stage.TheVariants.{Start, Headed, Sized, Body}
-use Rattle.cell_load.specs.Entries.{Entry, Head, Lines, Budget, Spe, Entrance, Code, Bytes, Source, ShowLocal}
+use Rattle.cell_load.specs.Entries.{Entry, Head, Lines, Budget, Spe, Entrance, Code, Bytes, Source, MemoryBytes, Host, ShowLocal, ShowMemory}
 use Rattle.cell_load.specs.Form.{◌>>=◌, line_says}
 use Rattle.cell_load.specs.Order.{nothing, admit, admit_all, counted, in_body, ends_well, lacks, limited, line_step, only_if, words_step, machine_at, IsMachine}
 use Rattle.cell_load.specs.Sources.{source_of, sources_from, sources_of, spes_after, spes_in}
@@ -83,16 +83,19 @@ pub counted-spes : (c : Counts) (e : Entry) (d : Counts) → counted c e ≡ Ok 
 unfolding counted
 counted-spes c Spe d is =
     let next : Counts = record c { spes = c.spes + 1; entry = false } in
-    let h : ((c.spes == 0) ≡ true) × (◌≡◌ {A = Result Counts Refusal} (Ok next) (Ok d)) = only_if-ok _ _ d is in
-    let more : c.spes + 1 ≡ d.spes = ap (λ (x : Counts). x.spes) (ok_same next d h.1) in
-    let test : (c.spes == 0) ≡ true = h.0 in
-    let none : c.spes ≡ 0 = grind (arith, nat_tests) in
-    record { counts = sym more; few = λ few. omega (arith, more, none) }
+    let h = limited-ok (nat_lt c.spes 8) next d is in
+    let more : c.spes + 1 ≡ d.spes = ap (λ (x : Counts). x.spes) h.1 in
+    let test : nat_lt c.spes 8 ≡ true = h.0 in
+    let less : c.spes < 8 = grind (arith, nat_tests) in
+    record { counts = sym more; few = λ few. omega (arith, more, less) }
 counted-spes c (Entrance at) d is = same_spes c d (Entrance at) (ap (λ (x : Counts). x.spes) (ok_same _ d (only_if-ok _ _ d is).1)) refl
 counted-spes c (Code at bytes) d is = same_spes c d (Code at bytes) (ap (λ (x : Counts). x.spes) (ok_same _ d (only_if-ok _ _ d is).1)) refl
 counted-spes c (Bytes at bytes) d is = same_spes c d (Bytes at bytes) (ap (λ (x : Counts). x.spes) (ok_same _ d (only_if-ok _ _ d is).1)) refl
 counted-spes c (Source name) d is = same_spes c d (Source name) (ap (λ (x : Counts). x.spes) (limited-ok _ _ d (only_if-ok _ _ d is).1).1) refl
+counted-spes c (MemoryBytes at bytes) d is = same_spes c d (MemoryBytes at bytes) (ap (λ (x : Counts). x.spes) (ok_same _ d (only_if-ok _ _ d is).1)) refl
+counted-spes c (Host action) d is = same_spes c d (Host action) (ap (λ (x : Counts). x.spes) (limited-ok _ _ d (only_if-ok _ _ d is).1).1) refl
 counted-spes c (ShowLocal spe at len) d is = same_spes c d (ShowLocal spe at len) (ap (λ (x : Counts). x.spes) (limited-ok _ _ d (only_if-ok _ _ d is).1).1) refl
+counted-spes c (ShowMemory at len) d is = same_spes c d (ShowMemory at len) (ap (λ (x : Counts). x.spes) (limited-ok _ _ d (only_if-ok _ _ d is).1).1) refl
 counted-spes c Head d is = absurd cc
 counted-spes c (Lines n) d is = absurd cc
 counted-spes c (Budget n) d is = absurd cc
@@ -110,10 +113,10 @@ admit-spes : (s : Stage) (e : Entry) (t : Stage) → admit s e ≡ Ok t → Coun
 unfolding admit
 admit-spes Start Head t is = no_spe Head Headed t refl refl cc
 admit-spes Start other t is = absurd cc
-admit-spes Headed (Lines n) t is = no_spe (Lines n) Sized t refl refl (limited-ok _ Sized t is).1
+admit-spes Headed (Lines n) t is = no_spe (Lines n) (Sized n) t refl refl (limited-ok _ (Sized n) t is).1
 admit-spes Headed other t is = absurd cc
-admit-spes Sized (Budget n) t is = no_spe (Budget n) (Body nothing) t refl refl (limited-ok _ (Body nothing) t is).1
-admit-spes Sized other t is = absurd cc
+admit-spes (Sized lines) (Budget n) t is = no_spe (Budget n) (Body (nothing lines)) t refl refl (limited-ok _ (Body (nothing lines)) t is).1
+admit-spes (Sized lines) other t is = absurd cc
 admit-spes (Body c) e t is = by_counts (counted c e) refl is
   where
     by_counts : (o : Result Counts Refusal) → counted c e ≡ o → in_body o ≡ Ok t → CountsSpe c.spes (spes_of t) e
@@ -148,18 +151,21 @@ same_sources spes c d e same none = record { counts = omega (arith, same, none);
 
 counted-sources : (spes : ℕ) (c : Counts) (e : Entry) (d : Counts) → counted c e ≡ Ok d → CountsSource spes c.sources d.sources e
 unfolding counted
-counted-sources spes c Spe d is = same_sources spes c d Spe (ap (λ (x : Counts). x.sources) (ok_same _ d (only_if-ok _ _ d is).1)) refl
+counted-sources spes c Spe d is = same_sources spes c d Spe (ap (λ (x : Counts). x.sources) (limited-ok _ _ d is).1) refl
 counted-sources spes c (Entrance at) d is = same_sources spes c d (Entrance at) (ap (λ (x : Counts). x.sources) (ok_same _ d (only_if-ok _ _ d is).1)) refl
 counted-sources spes c (Code at bytes) d is = same_sources spes c d (Code at bytes) (ap (λ (x : Counts). x.sources) (ok_same _ d (only_if-ok _ _ d is).1)) refl
 counted-sources spes c (Bytes at bytes) d is = same_sources spes c d (Bytes at bytes) (ap (λ (x : Counts). x.sources) (ok_same _ d (only_if-ok _ _ d is).1)) refl
 counted-sources spes c (Source name) d is =
     let next : Counts = record c { sources = c.sources + 1 } in
-    let h = limited-ok (nat_lt c.sources 32) next d (only_if-ok _ _ d is).1 in
+    let h : (nat_lt c.sources 32 ≡ true) × (next ≡ d) = limited-ok (nat_lt c.sources 32) next d (only_if-ok (nat_lt 0 c.spes) (limited (nat_lt c.sources 32) next) d is).1 in
     let more : c.sources + 1 ≡ d.sources = ap (λ (x : Counts). x.sources) h.1 in
     let test : nat_lt c.sources 32 ≡ true = h.0 in
     let less : c.sources < 32 = grind (arith, nat_tests) in
     record { counts = sym more; few = λ few. omega (arith, more, less) }
+counted-sources spes c (MemoryBytes at bytes) d is = same_sources spes c d (MemoryBytes at bytes) (ap (λ (x : Counts). x.sources) (ok_same _ d (only_if-ok _ _ d is).1)) refl
+counted-sources spes c (Host action) d is = same_sources spes c d (Host action) (ap (λ (x : Counts). x.sources) (limited-ok _ _ d (only_if-ok _ _ d is).1).1) refl
 counted-sources spes c (ShowLocal spe at len) d is = same_sources spes c d (ShowLocal spe at len) (ap (λ (x : Counts). x.sources) (limited-ok _ _ d (only_if-ok _ _ d is).1).1) refl
+counted-sources spes c (ShowMemory at len) d is = same_sources spes c d (ShowMemory at len) (ap (λ (x : Counts). x.sources) (limited-ok _ _ d (only_if-ok _ _ d is).1).1) refl
 counted-sources spes c Head d is = absurd cc
 counted-sources spes c (Lines n) d is = absurd cc
 counted-sources spes c (Budget n) d is = absurd cc
@@ -177,10 +183,10 @@ admit-sources : (spes : ℕ) (s : Stage) (e : Entry) (t : Stage) → admit s e �
 unfolding admit
 admit-sources spes Start Head t is = no_source spes Head Headed t refl refl cc
 admit-sources spes Start other t is = absurd cc
-admit-sources spes Headed (Lines n) t is = no_source spes (Lines n) Sized t refl refl (limited-ok _ Sized t is).1
+admit-sources spes Headed (Lines n) t is = no_source spes (Lines n) (Sized n) t refl refl (limited-ok _ (Sized n) t is).1
 admit-sources spes Headed other t is = absurd cc
-admit-sources spes Sized (Budget n) t is = no_source spes (Budget n) (Body nothing) t refl refl (limited-ok _ (Body nothing) t is).1
-admit-sources spes Sized other t is = absurd cc
+admit-sources spes (Sized lines) (Budget n) t is = no_source spes (Budget n) (Body (nothing lines)) t refl refl (limited-ok _ (Body (nothing lines)) t is).1
+admit-sources spes (Sized lines) other t is = absurd cc
 admit-sources spes (Body c) e t is = by_counts (counted c e) refl is
   where
     by_counts : (o : Result Counts Refusal) → counted c e ≡ o → in_body o ≡ Ok t → CountsSource spes c.sources (named_by t) e

@@ -1,23 +1,26 @@
 -- What lines that all have their place stand for is within the limits of a setup.
-use Rattle.std.proofs.Common.{◌≡◌, ◌≤◌, ◌<◌, ◌+◌, ◌-◌, ◌%◌, ◌==◌, ◌&&◌, not, nat_le, nat_lt, ℕ, zero, suc, Bool, true, false, List, [], ◌∷◌, ◌++◌, length, slice_get, Option, Some, None, is_none, unwrap_or, cond, Result, Ok, Err, refl, sym, ap, subst, ◌∙◌, arith, lit≤}
+use Rattle.std.proofs.Common.{◌≡◌, ◌≤◌, ◌<◌, ◌+◌, ◌-◌, ◌*◌, ◌%◌, ◌==◌, ◌&&◌, not, nat_le, nat_lt, ℕ, zero, suc, Bool, true, false, List, [], ◌∷◌, ◌++◌, length, slice_get, Option, Some, None, is_none, unwrap_or, cond, Result, Ok, Err, refl, sym, ap, subst, ◌∙◌, arith, lit≤}
 use Rattle.std.specs.Prelude.{All, IfSome}
 use Rattle.std.specs.List.{cons_option, filter_map}
-use Rattle.std.specs.Option.{option_or}
+use Rattle.std.specs.Option.{option_or, option_to_list}
 use Rattle.std.proofs.lemmas.Bool.Decides.{nat_tests}
 use Rattle.std.proofs.lemmas.List.FromFn.{get_or-map-range_with_len, length-map-range_with_len}
 use Rattle.spu_asm.specs.Images.{Image}
+use Rattle.cell_host.specs.declared.HostAction.{HostAction}
+use Rattle.cell_host.specs.declared.HostAction.TheVariants.{Send, Take, TakeIntr, Store, Await}
+use Rattle.cell_machine.specs.Opening.{InMemory}
 use Rattle.cell_machine.specs.declared.setup.Show.{Show}
-use Rattle.cell_machine.specs.Limits.{AreMachineLimits, FitsShow, FitsStore, IsOpening}
+use Rattle.cell_machine.specs.Limits.{AreMachineLimits, FitsAction, FitsMemory, FitsShow, FitsStore, IsOpening}
 use Rattle.cell_load.specs.declared.line.Refusal.{Refusal}
 use Rattle.cell_load.specs.declared.line.Refusal.TheVariants.{Form}
 use Rattle.cell_load.specs.declared.line.Counts.{Counts}
 use Rattle.cell_load.specs.declared.line.Stage.TheVariants.{Start, Headed, Sized, Body}
-use Rattle.cell_load.specs.Entries.{Entry, Head, Lines, Budget, Spe, Entrance, Code, Bytes, Source, ShowLocal}
+use Rattle.cell_load.specs.Entries.{Entry, Head, Lines, Budget, Spe, Entrance, Code, Bytes, Source, MemoryBytes, Host, ShowLocal, ShowMemory}
 use Rattle.cell_load.specs.Form.{◌>>=◌}
-use Rattle.cell_load.specs.Order.{nothing, admit, admit_all, counted, in_body, ends_well, in_local, has_spe, limited, IsMachine}
+use Rattle.cell_load.specs.Order.{nothing, admit, admit_all, counted, fits_action, in_body, in_memory, ends_well, in_local, has_spe, is_shown, limited, IsMachine}
 use Rattle.cell_load.specs.Sources.{spes_after, spes_in}
 use Rattle.cell_load.specs.Loaded as loaded
-use Rattle.cell_load.specs.Loaded.{Load, Part, first_of, for_spe, given_to, image_start, images_after, line_start, loads_from, loads_of, machine_of, lines_number, budget_number, parts_of, parts_of_image, placed_of, placed_part, shown_range, start_of, starts_of}
+use Rattle.cell_load.specs.Loaded.{Load, Part, first_of, for_spe, given_to, image_start, images_after, line_start, loads_from, loads_of, machine_of, lines_number, budget_number, host_action, memory_piece, parts_of, parts_of_image, placed_of, placed_part, shown_range, start_of, starts_of}
 use Rattle.cell_load.specs.LoadViews.{AllTakeFit, TakesFit}
 use Rattle.cell_load.proofs.SetupLemmas.{starts-length}
 use Rattle.cell_load.proofs.SourceLemmas.{spes_after-add}
@@ -56,7 +59,25 @@ Within c (Code at bytes) = (0 < c.spes) × (at + length bytes ≤ 262144)
 Within c (Bytes at bytes) = (0 < c.spes) × (at + length bytes ≤ 262144)
 Within c (Source name) = 0 < c.spes
 Within c (ShowLocal spe at len) = (spe < c.spes) × (0 < len) × (len ≤ 4096) × (at + len ≤ 262144) × (c.shows < 64)
+Within c (MemoryBytes at bytes) = at + length bytes ≤ 128 * c.lines
+Within c (Host action) = FitsAction c.lines c.spes action × (c.actions < 4096)
+Within c (ShowMemory at len) = (0 < len) × (len ≤ 4096) × (at + len ≤ 128 * c.lines) × (c.shows < 64)
 Within c other = Unit {0}
+
+action_within : (c : Counts) (a : HostAction) → fits_action c a ≡ true → FitsAction c.lines c.spes a
+action_within c (Send spe value) is = let there : nat_lt spe c.spes ≡ true = is in grind (arith, nat_tests)
+action_within c (Take spe) is = let there : nat_lt spe c.spes ≡ true = is in grind (arith, nat_tests)
+action_within c (TakeIntr spe) is = let there : nat_lt spe c.spes ≡ true = is in grind (arith, nat_tests)
+action_within c (Await spe) is = let there : nat_lt spe c.spes ≡ true = is in grind (arith, nat_tests)
+action_within c (Store ea len bytes) is =
+    let m = both (nat_le 1 len && nat_le len 16 && nat_le (ea % 128 + len) 128) (in_memory c.lines ea len) is in
+    let l = both (nat_le 1 len && nat_le len 16) (nat_le (ea % 128 + len) 128) m.0 in
+    let n = both (nat_le 1 len) (nat_le len 16) l.0 in
+    let some : nat_le 1 len ≡ true = n.0 in
+    let few : nat_le len 16 ≡ true = n.1 in
+    let line : nat_le (ea % 128 + len) 128 ≡ true = l.1 in
+    let low : nat_le (ea + len) (128 * c.lines) ≡ true = m.1 in
+    (grind (arith, nat_tests), grind (arith, nat_tests), grind (arith, nat_tests), grind (arith, nat_tests))
 
 counted-within : (c : Counts) (e : Entry) (d : Counts) → counted c e ≡ Ok d → Within c e
 unfolding counted
@@ -87,10 +108,26 @@ counted-within c (Bytes at bytes) d is =
 counted-within c (Source name) d is =
     let spe : nat_lt 0 c.spes ≡ true = (only_if-ok _ _ d is).0 in
     grind (arith, nat_tests)
+counted-within c (MemoryBytes at bytes) d is =
+    let low : nat_le (at + length bytes) (128 * c.lines) ≡ true = (only_if-ok _ _ d is).0 in
+    grind (arith, nat_tests)
+counted-within c (Host action) d is =
+    let o = only_if-ok _ _ d is in
+    let room : nat_lt c.actions 4096 ≡ true = (limited-ok _ _ d o.1).0 in
+    (action_within c action o.0, grind (arith, nat_tests))
+counted-within c (ShowMemory at len) d is =
+    let o = only_if-ok _ _ d is in
+    let l = both (is_shown len) (nat_lt c.shows 64) (limited-ok _ _ d o.1).0 in
+    let m = both (nat_le 1 len) (nat_le len 4096) l.0 in
+    let low : nat_le (at + len) (128 * c.lines) ≡ true = o.0 in
+    let some : nat_le 1 len ≡ true = m.0 in
+    let few : nat_le len 4096 ≡ true = m.1 in
+    let room : nat_lt c.shows 64 ≡ true = l.1 in
+    (grind (arith, nat_tests), grind (arith, nat_tests), grind (arith, nat_tests), grind (arith, nat_tests))
 counted-within c (ShowLocal spe at len) d is =
     let o = only_if-ok _ _ d is in
     let s = both (nat_lt spe c.spes) (in_local at len) o.0 in
-    let l = both (nat_le 1 len && nat_le len 4096) (nat_lt c.shows 64) (limited-ok _ _ d o.1).0 in
+    let l = both (is_shown len) (nat_lt c.shows 64) (limited-ok _ _ d o.1).0 in
     let m = both (nat_le 1 len) (nat_le len 4096) l.0 in
     let there : nat_lt spe c.spes ≡ true = s.0 in
     let low : nat_le (at + len) 262144 ≡ true = s.1 in
@@ -99,21 +136,64 @@ counted-within c (ShowLocal spe at len) d is =
     let room : nat_lt c.shows 64 ≡ true = l.1 in
     (grind (arith, nat_tests), grind (arith, nat_tests), grind (arith, nat_tests), grind (arith, nat_tests), grind (arith, nat_tests))
 
-abbrev shows_after : ℕ → Entry → ℕ
-shows_after n (ShowLocal spe at len) = n + 1
-shows_after n other = n
+-- the counts after a line that has its place
+abbrev after : Counts → Entry → Counts
+after c Spe = record c { spes = c.spes + 1; entry = false }
+after c (Entrance at) = record c { entry = true }
+after c (Source name) = record c { sources = c.sources + 1 }
+after c (Host action) = record c { actions = c.actions + 1 }
+after c (ShowLocal spe at len) = record c { shows = c.shows + 1 }
+after c (ShowMemory at len) = record c { shows = c.shows + 1 }
+after c other = c
 
-counted-shows : (c : Counts) (e : Entry) (d : Counts) → counted c e ≡ Ok d → d.shows ≡ shows_after c.shows e
+counted-after : (c : Counts) (e : Entry) (d : Counts) → counted c e ≡ Ok d → after c e ≡ d
 unfolding counted
-counted-shows c Head d is = absurd cc
-counted-shows c (Lines n) d is = absurd cc
-counted-shows c (Budget n) d is = absurd cc
-counted-shows c Spe d is = sym (ap (λ (x : Counts). x.shows) (ok_same _ d (only_if-ok _ _ d is).1))
-counted-shows c (Entrance at) d is = sym (ap (λ (x : Counts). x.shows) (ok_same _ d (only_if-ok _ _ d is).1))
-counted-shows c (Code at bytes) d is = sym (ap (λ (x : Counts). x.shows) (ok_same _ d (only_if-ok _ _ d is).1))
-counted-shows c (Bytes at bytes) d is = sym (ap (λ (x : Counts). x.shows) (ok_same _ d (only_if-ok _ _ d is).1))
-counted-shows c (Source name) d is = sym (ap (λ (x : Counts). x.shows) (limited-ok _ _ d (only_if-ok _ _ d is).1).1)
-counted-shows c (ShowLocal spe at len) d is = sym (ap (λ (x : Counts). x.shows) (limited-ok _ _ d (only_if-ok _ _ d is).1).1)
+counted-after c Head d is = absurd cc
+counted-after c (Lines n) d is = absurd cc
+counted-after c (Budget n) d is = absurd cc
+counted-after c Spe d is = (limited-ok _ _ d is).1
+counted-after c (Entrance at) d is = ok_same _ d (only_if-ok _ _ d is).1
+counted-after c (Code at bytes) d is = ok_same _ d (only_if-ok _ _ d is).1
+counted-after c (Bytes at bytes) d is = ok_same _ d (only_if-ok _ _ d is).1
+counted-after c (Source name) d is = (limited-ok _ _ d (only_if-ok _ _ d is).1).1
+counted-after c (MemoryBytes at bytes) d is = ok_same _ d (only_if-ok _ _ d is).1
+counted-after c (Host action) d is = (limited-ok _ _ d (only_if-ok _ _ d is).1).1
+counted-after c (ShowLocal spe at len) d is = (limited-ok _ _ d (only_if-ok _ _ d is).1).1
+counted-after c (ShowMemory at len) d is = (limited-ok _ _ d (only_if-ok _ _ d is).1).1
+
+-- a line keeps the number of memory lines, and counts the action or the range that it names up to the most of these
+record Moves (c d : Counts) (e : Entry) : Type 0 where
+  lines : d.lines ≡ c.lines
+  actions : d.actions ≡ c.actions + length (option_to_list (host_action e))
+  few_actions : c.actions ≤ 4096 → d.actions ≤ 4096
+  shows : d.shows ≡ c.shows + length (option_to_list (shown_range e))
+  few_shows : c.shows ≤ 64 → d.shows ≤ 64
+
+still : (c d : Counts) (e : Entry) → d.lines ≡ c.lines → d.actions ≡ c.actions → d.shows ≡ c.shows → length (option_to_list (host_action e)) ≡ 0 → length (option_to_list (shown_range e)) ≡ 0 → Moves c d e
+still c d e lines actions shows no_action no_range = record {
+  lines = lines;
+  actions = omega (arith, actions, no_action);
+  few_actions = λ few. omega (arith, actions, few);
+  shows = omega (arith, shows, no_range);
+  few_shows = λ few. omega (arith, shows, few);
+}
+
+moves : (c : Counts) (e : Entry) → Within c e → Moves c (after c e) e
+moves c Head within = still c (after c Head) Head refl refl refl refl refl
+moves c (Lines n) within = still c (after c (Lines n)) (Lines n) refl refl refl refl refl
+moves c (Budget n) within = still c (after c (Budget n)) (Budget n) refl refl refl refl refl
+moves c Spe within = still c (after c Spe) Spe refl refl refl refl refl
+moves c (Entrance at) within = still c (after c (Entrance at)) (Entrance at) refl refl refl refl refl
+moves c (Code at bytes) within = still c (after c (Code at bytes)) (Code at bytes) refl refl refl refl refl
+moves c (Bytes at bytes) within = still c (after c (Bytes at bytes)) (Bytes at bytes) refl refl refl refl refl
+moves c (Source name) within = still c (after c (Source name)) (Source name) refl refl refl refl refl
+moves c (MemoryBytes at bytes) within = still c (after c (MemoryBytes at bytes)) (MemoryBytes at bytes) refl refl refl refl refl
+moves c (Host action) within = record { lines = refl; actions = omega arith; few_actions = λ few. let room = within.1 in omega (arith, room); shows = omega arith; few_shows = λ few. few }
+moves c (ShowLocal spe at len) within = record { lines = refl; actions = omega arith; few_actions = λ few. few; shows = omega arith; few_shows = λ few. let room = within.4 in omega (arith, room) }
+moves c (ShowMemory at len) within = record { lines = refl; actions = omega arith; few_actions = λ few. few; shows = omega arith; few_shows = λ few. let room = within.3 in omega (arith, room) }
+
+counted-moves : (c : Counts) (e : Entry) (d : Counts) → counted c e ≡ Ok d → Moves c d e
+counted-moves c e d is = subst (λ (x : Counts). Moves c x e) (counted-after c e d is) (moves c e (counted-within c e d is))
 
 -- a first line with its place, and the lines behind it
 record Step (c : Counts) (e : Entry) (es : List Entry) : Type 0 where
@@ -166,6 +246,21 @@ parts_fit c (ShowLocal spe at len) images within takes = none (slice_get images 
     none : (o : Option Image) → Each FitsPart (parts_of o (ShowLocal spe at len))
     none None = tt
     none (Some i) = tt
+parts_fit c (MemoryBytes at bytes) images within takes = none (slice_get images 0)
+  where
+    none : (o : Option Image) → Each FitsPart (parts_of o (MemoryBytes at bytes))
+    none None = tt
+    none (Some i) = tt
+parts_fit c (Host action) images within takes = none (slice_get images 0)
+  where
+    none : (o : Option Image) → Each FitsPart (parts_of o (Host action))
+    none None = tt
+    none (Some i) = tt
+parts_fit c (ShowMemory at len) images within takes = none (slice_get images 0)
+  where
+    none : (o : Option Image) → Each FitsPart (parts_of o (ShowMemory at len))
+    none None = tt
+    none (Some i) = tt
 parts_fit c (Entrance at) images within takes = (within.1, tt)
 parts_fit c (Code at bytes) images within takes = (within.1, tt)
 parts_fit c (Bytes at bytes) images within takes = (within.1, tt)
@@ -199,6 +294,21 @@ has_processor c Spe images within some = absurd (none (slice_get images 0) some)
     none None h = omega arith
     none (Some i) h = omega arith
 has_processor c (ShowLocal spe at len) images within some = omega (arith, within.0)
+has_processor c (MemoryBytes at bytes) images within some = absurd (none (slice_get images 0) some)
+  where
+    none : (o : Option Image) → 0 < length (parts_of o (MemoryBytes at bytes)) → ⊥
+    none None h = omega arith
+    none (Some i) h = omega arith
+has_processor c (Host action) images within some = absurd (none (slice_get images 0) some)
+  where
+    none : (o : Option Image) → 0 < length (parts_of o (Host action)) → ⊥
+    none None h = omega arith
+    none (Some i) h = omega arith
+has_processor c (ShowMemory at len) images within some = absurd (none (slice_get images 0) some)
+  where
+    none : (o : Option Image) → 0 < length (parts_of o (ShowMemory at len)) → ⊥
+    none None h = omega arith
+    none (Some i) h = omega arith
 has_processor c (Entrance at) images within some = within.0
 has_processor c (Code at bytes) images within some = within.0
 has_processor c (Bytes at bytes) images within some = within.0
@@ -269,44 +379,92 @@ starts_fit n loads m fit k d within =
     let below : k < m = omega (arith, within, length-map-range_with_len (start_of loads) 0 m) in
     subst IsStart (sym (get_or-map-range_with_len (start_of loads) 0 m k k d below (omega arith))) (start_fits n loads k fit)
 
--- ---- the ranges that are shown fit
+-- ---- what is placed in memory, the host actions and the ranges that are shown fit
 
-shows_fit : (lines n : ℕ) (c : Counts) (entries : List Entry) → ends_well (admit_all (Body c) entries) ≡ true → c.spes + spes_in entries ≤ n → Each (FitsShow lines n) (filter_map shown_range entries)
+-- what holds of what h gives of each line that has its place
+each_fits : {X : Type 0} (h : Entry → Option X) (P : X → Type 0) (lines n : ℕ) → ((c : Counts) (e : Entry) → c.lines ≡ lines → c.spes ≤ n → Within c e → IfSome (h e) P)
+    → (c : Counts) (entries : List Entry) → c.lines ≡ lines → ends_well (admit_all (Body c) entries) ≡ true → c.spes + spes_in entries ≤ n → Each P (filter_map h entries)
 unfolding spes_in
-shows_fit lines n c [] ends few = tt
-shows_fit lines n c (e ∷ es) ends few =
+each_fits h P lines n one c [] same ends few = tt
+each_fits {X = X} h P lines n one c (e ∷ es) same ends few =
     let step = body_step c e es ends in
     let more : step.next.spes ≡ spes_after c.spes e = (counted-spes c e step.next step.is).counts in
     let all : spes_after c.spes e + spes_in es ≡ c.spes + spes_after (spes_in es) e = spes_after-add c.spes (spes_in es) e in
-    by_entry e (counted-within c e step.next step.is) few (shows_fit lines n step.next es step.later (omega (arith, more, all, few)))
+    let kept : step.next.lines ≡ lines = (counted-moves c e step.next step.is).lines ∙ same in
+    with_first (h e) (one c e same (omega (arith, few)) (counted-within c e step.next step.is)) (each_fits h P lines n one step.next es kept step.later (omega (arith, more, all, few)))
   where
-    by_entry : (e : Entry) → Within c e → c.spes + spes_after (spes_in es) e ≤ n → Each (FitsShow lines n) (filter_map shown_range es) → Each (FitsShow lines n) (cons_option (shown_range e) (filter_map shown_range es))
-    by_entry (ShowLocal spe at len) within few rest = ((omega (arith, within.0, few), within.1, within.2, within.3), rest)
-    by_entry Head within few rest = rest
-    by_entry (Lines k) within few rest = rest
-    by_entry (Budget k) within few rest = rest
-    by_entry Spe within few rest = rest
-    by_entry (Entrance at) within few rest = rest
-    by_entry (Code at bytes) within few rest = rest
-    by_entry (Bytes at bytes) within few rest = rest
-    by_entry (Source name) within few rest = rest
+    with_first : (o : Option X) → IfSome o P → Each P (filter_map h es) → Each P (cons_option o (filter_map h es))
+    with_first None here rest = rest
+    with_first (Some x) here rest = (here, rest)
+
+memory_fits : (lines n : ℕ) (c : Counts) (e : Entry) → c.lines ≡ lines → c.spes ≤ n → Within c e → IfSome (memory_piece e) (FitsMemory lines)
+memory_fits lines n c (MemoryBytes at bytes) same few within = omega (arith, same, within)
+memory_fits lines n c Head same few within = tt
+memory_fits lines n c (Lines k) same few within = tt
+memory_fits lines n c (Budget k) same few within = tt
+memory_fits lines n c Spe same few within = tt
+memory_fits lines n c (Entrance at) same few within = tt
+memory_fits lines n c (Code at bytes) same few within = tt
+memory_fits lines n c (Bytes at bytes) same few within = tt
+memory_fits lines n c (Source name) same few within = tt
+memory_fits lines n c (Host action) same few within = tt
+memory_fits lines n c (ShowLocal spe at len) same few within = tt
+memory_fits lines n c (ShowMemory at len) same few within = tt
+
+later_action : (lines few many : ℕ) (a : HostAction) → few ≤ many → FitsAction lines few a → FitsAction lines many a
+later_action lines few many (Send spe value) more fits = omega (arith, more, fits)
+later_action lines few many (Take spe) more fits = omega (arith, more, fits)
+later_action lines few many (TakeIntr spe) more fits = omega (arith, more, fits)
+later_action lines few many (Await spe) more fits = omega (arith, more, fits)
+later_action lines few many (Store ea len bytes) more fits = fits
+
+action_fits : (lines n : ℕ) (c : Counts) (e : Entry) → c.lines ≡ lines → c.spes ≤ n → Within c e → IfSome (host_action e) (FitsAction lines n)
+action_fits lines n c (Host action) same few within = subst (λ k. FitsAction k n action) same (later_action c.lines c.spes n action few within.0)
+action_fits lines n c Head same few within = tt
+action_fits lines n c (Lines k) same few within = tt
+action_fits lines n c (Budget k) same few within = tt
+action_fits lines n c Spe same few within = tt
+action_fits lines n c (Entrance at) same few within = tt
+action_fits lines n c (Code at bytes) same few within = tt
+action_fits lines n c (Bytes at bytes) same few within = tt
+action_fits lines n c (Source name) same few within = tt
+action_fits lines n c (MemoryBytes at bytes) same few within = tt
+action_fits lines n c (ShowLocal spe at len) same few within = tt
+action_fits lines n c (ShowMemory at len) same few within = tt
+
+show_fits : (lines n : ℕ) (c : Counts) (e : Entry) → c.lines ≡ lines → c.spes ≤ n → Within c e → IfSome (shown_range e) (FitsShow lines n)
+show_fits lines n c (ShowLocal spe at len) same few within = (omega (arith, within.0, few), within.1, within.2, within.3)
+show_fits lines n c (ShowMemory at len) same few within = (within.0, within.1, omega (arith, same, within.2))
+show_fits lines n c Head same few within = tt
+show_fits lines n c (Lines k) same few within = tt
+show_fits lines n c (Budget k) same few within = tt
+show_fits lines n c Spe same few within = tt
+show_fits lines n c (Entrance at) same few within = tt
+show_fits lines n c (Code at bytes) same few within = tt
+show_fits lines n c (Bytes at bytes) same few within = tt
+show_fits lines n c (Source name) same few within = tt
+show_fits lines n c (MemoryBytes at bytes) same few within = tt
+show_fits lines n c (Host action) same few within = tt
+
+cons-long : {X : Type 0} (o : Option X) (xs : List X) → length (cons_option o xs) ≡ length (option_to_list o) + length xs
+cons-long None xs = omega arith
+cons-long (Some x) xs = omega arith
+
+-- lines that are counted up to the most of them are no more than that
+few_given : {X : Type 0} (h : Entry → Option X) (count : Counts → ℕ) (most : ℕ) → ((c : Counts) (e : Entry) (d : Counts) → counted c e ≡ Ok d → count d ≡ count c + length (option_to_list (h e)))
+    → ((c : Counts) (e : Entry) (d : Counts) → counted c e ≡ Ok d → count c ≤ most → count d ≤ most)
+    → (c : Counts) (entries : List Entry) → ends_well (admit_all (Body c) entries) ≡ true → count c ≤ most → count c + length (filter_map h entries) ≤ most
+few_given h count most adds stays c [] ends few = omega (arith, few)
+few_given h count most adds stays c (e ∷ es) ends few =
+    let step = body_step c e es ends in
+    let rest = few_given h count most adds stays step.next es step.later (stays c e step.next step.is few) in
+    omega (arith, rest, adds c e step.next step.is, cons-long (h e) (filter_map h es))
+
+actions_few : (c : Counts) (entries : List Entry) → ends_well (admit_all (Body c) entries) ≡ true → c.actions ≤ 4096 → c.actions + length (filter_map host_action entries) ≤ 4096
+actions_few = few_given host_action (λ (c : Counts). c.actions) 4096 (λ c e d is. (counted-moves c e d is).actions) (λ c e d is. (counted-moves c e d is).few_actions)
 
 shows_few : (c : Counts) (entries : List Entry) → ends_well (admit_all (Body c) entries) ≡ true → c.shows ≤ 64 → c.shows + length (filter_map shown_range entries) ≤ 64
-shows_few c [] ends few = omega (arith, few)
-shows_few c (e ∷ es) ends few =
-    let step = body_step c e es ends in
-    by_entry e (counted-within c e step.next step.is) (counted-shows c e step.next step.is) (λ less. shows_few step.next es step.later less)
-  where
-    by_entry : (e : Entry) → Within c e → {k : ℕ} → k ≡ shows_after c.shows e → (k ≤ 64 → k + length (filter_map shown_range es) ≤ 64) → c.shows + length (cons_option (shown_range e) (filter_map shown_range es)) ≤ 64
-    by_entry (ShowLocal spe at len) within same rest = let room = within.4 in omega (arith, same, room, rest (omega (arith, same, room)))
-    by_entry Head within same rest = omega (arith, same, rest (omega (arith, same, few)))
-    by_entry (Lines k) within same rest = omega (arith, same, rest (omega (arith, same, few)))
-    by_entry (Budget k) within same rest = omega (arith, same, rest (omega (arith, same, few)))
-    by_entry Spe within same rest = omega (arith, same, rest (omega (arith, same, few)))
-    by_entry (Entrance at) within same rest = omega (arith, same, rest (omega (arith, same, few)))
-    by_entry (Code at bytes) within same rest = omega (arith, same, rest (omega (arith, same, few)))
-    by_entry (Bytes at bytes) within same rest = omega (arith, same, rest (omega (arith, same, few)))
-    by_entry (Source name) within same rest = omega (arith, same, rest (omega (arith, same, few)))
+shows_few = few_given shown_range (λ (c : Counts). c.shows) 64 (λ c e d is. (counted-moves c e d is).shows) (λ c e d is. (counted-moves c e d is).few_shows)
 
 -- ---- there is a processor
 
@@ -331,28 +489,28 @@ record Whole (entries : List Entry) : Type 0 where
   body : List Entry
   is : entries ≡ Head ∷ Lines lines ∷ Budget budget ∷ body
   limits : AreMachineLimits lines budget
-  ends : ends_well (admit_all (Body nothing) body) ≡ true
+  ends : ends_well (admit_all (Body (nothing lines)) body) ≡ true
 
 record Sizes (entries : List Entry) : Type 0 where
   lines : ℕ
   rest : List Entry
   is : entries ≡ Lines lines ∷ rest
   limits : (0 < lines) × (lines ≤ 32768)
-  ends : ends_well (admit_all Sized rest) ≡ true
+  ends : ends_well (admit_all (Sized lines) rest) ≡ true
 
-record Budgets (entries : List Entry) : Type 0 where
+record Budgets (lines : ℕ) (entries : List Entry) : Type 0 where
   budget : ℕ
   rest : List Entry
   is : entries ≡ Budget budget ∷ rest
   limits : (0 < budget) × (budget ≤ 1000000)
-  ends : ends_well (admit_all (Body nothing) rest) ≡ true
+  ends : ends_well (admit_all (Body (nothing lines)) rest) ≡ true
 
 sizes : (entries : List Entry) → ends_well (admit_all Headed entries) ≡ true → Sizes entries
 unfolding admit_all admit
 sizes [] ends = absurd cc
 sizes (Lines n ∷ es) ends = by_limits (nat_le 1 n && nat_le n 32768) refl ends
   where
-    by_limits : (b : Bool) → (nat_le 1 n && nat_le n 32768) ≡ b → ends_well (limited b Sized >>= λ s. admit_all s es) ≡ true → Sizes (Lines n ∷ es)
+    by_limits : (b : Bool) → (nat_le 1 n && nat_le n 32768) ≡ b → ends_well (limited b (Sized n) >>= λ s. admit_all s es) ≡ true → Sizes (Lines n ∷ es)
     by_limits false e ends = absurd cc
     by_limits true e ends =
         let t = both (nat_le 1 n) (nat_le n 32768) e in
@@ -361,26 +519,26 @@ sizes (Lines n ∷ es) ends = by_limits (nat_le 1 n && nat_le n 32768) refl ends
         record { lines = n; rest = es; is = refl; limits = (grind (arith, nat_tests), grind (arith, nat_tests)); ends = ends }
 sizes (other ∷ es) ends = absurd cc
 
-budgets : (entries : List Entry) → ends_well (admit_all Sized entries) ≡ true → Budgets entries
+budgets : (lines : ℕ) (entries : List Entry) → ends_well (admit_all (Sized lines) entries) ≡ true → Budgets lines entries
 unfolding admit_all admit
-budgets [] ends = absurd cc
-budgets (Budget n ∷ es) ends = by_limits (nat_le 1 n && nat_le n 1000000) refl ends
+budgets lines [] ends = absurd cc
+budgets lines (Budget n ∷ es) ends = by_limits (nat_le 1 n && nat_le n 1000000) refl ends
   where
-    by_limits : (b : Bool) → (nat_le 1 n && nat_le n 1000000) ≡ b → ends_well (limited b (Body nothing) >>= λ s. admit_all s es) ≡ true → Budgets (Budget n ∷ es)
+    by_limits : (b : Bool) → (nat_le 1 n && nat_le n 1000000) ≡ b → ends_well (limited b (Body (nothing lines)) >>= λ s. admit_all s es) ≡ true → Budgets lines (Budget n ∷ es)
     by_limits false e ends = absurd cc
     by_limits true e ends =
         let t = both (nat_le 1 n) (nat_le n 1000000) e in
         let low : nat_le 1 n ≡ true = t.0 in
         let high : nat_le n 1000000 ≡ true = t.1 in
         record { budget = n; rest = es; is = refl; limits = (grind (arith, nat_tests), grind (arith, nat_tests)); ends = ends }
-budgets (other ∷ es) ends = absurd cc
+budgets lines (other ∷ es) ends = absurd cc
 
 whole_file : (entries : List Entry) → ends_well (admit_all Start entries) ≡ true → Whole entries
 unfolding admit_all admit
 whole_file [] ends = absurd cc
 whole_file (Head ∷ es) ends =
     let s = sizes es ends in
-    let b = budgets s.rest s.ends in
+    let b = budgets s.lines s.rest s.ends in
     record {
       lines = s.lines;
       budget = b.budget;
@@ -393,17 +551,21 @@ whole_file (other ∷ es) ends = absurd cc
 
 -- ---- the whole
 
-opening_of : (lines budget n : ℕ) (loads : List Load) (shows : List Show) → AreMachineLimits lines budget → n ≤ 8 → Each (FitsLoad n) loads → Each (FitsShow lines n) shows → length shows ≤ 64
-    → IsOpening (record { lines = lines; budget = budget; entries = starts_of loads n; placed = placed_of loads; shows = shows })
-opening_of lines budget n loads shows limits few loads_fit shows_fit shown =
+opening_of : (lines budget n : ℕ) (loads : List Load) (memory : List InMemory) (actions : List HostAction) (shows : List Show) → AreMachineLimits lines budget → n ≤ 8 → Each (FitsLoad n) loads
+    → Each (FitsMemory lines) memory → Each (FitsAction lines n) actions → length actions ≤ 4096 → Each (FitsShow lines n) shows → length shows ≤ 64
+    → IsOpening (record { lines = lines; budget = budget; entries = starts_of loads n; placed = placed_of loads; memory = memory; actions = actions; shows = shows })
+opening_of lines budget n loads memory actions shows limits few placed filled acts acted ranges shown =
     let long : length (starts_of loads n) ≡ n = starts-length loads n in
     record {
       limits = limits;
       spes = omega (arith, long, few);
-      entries = starts_fit n loads n loads_fit;
-      placed = subst (λ k. All (FitsStore k) (placed_of loads)) (sym long) (all_each (FitsStore n) (placed_of loads) (placed_fit n loads loads_fit));
+      entries = starts_fit n loads n placed;
+      placed = subst (λ k. All (FitsStore k) (placed_of loads)) (sym long) (all_each (FitsStore n) (placed_of loads) (placed_fit n loads placed));
+      memory = all_each (FitsMemory lines) memory filled;
+      few = acted;
+      actions = subst (λ k. All (FitsAction lines k) actions) (sym long) (all_each (FitsAction lines n) actions acts);
       shown = shown;
-      shows = subst (λ k. All (FitsShow lines k) shows) (sym long) (all_each (FitsShow lines n) shows shows_fit);
+      shows = subst (λ k. All (FitsShow lines k) shows) (sym long) (all_each (FitsShow lines n) shows ranges);
     }
 
 -- a line that gives nothing
@@ -456,18 +618,22 @@ idle_budget n = record { parts = parts; images = images; spes = λ k. refl }
     images [] = refl
     images (i ∷ is) = refl
 
-body_opening : (lines budget : ℕ) (body : List Entry) (images : List Image) → AreMachineLimits lines budget → ends_well (admit_all (Body nothing) body) ≡ true → spes_in body ≤ 8
+body_opening : (lines budget : ℕ) (body : List Entry) (images : List Image) → AreMachineLimits lines budget → ends_well (admit_all (Body (nothing lines)) body) ≡ true → spes_in body ≤ 8
     → AllTakeFit body images → IsOpening (machine_of (Head ∷ Lines lines ∷ Budget budget ∷ body) (loads_from 0 body images))
 unfolding first_of spes_in
 body_opening lines budget body images limits ends few takes =
     let n : 0 + spes_in body ≡ spes_in body = omega arith in
-    let shown : length (filter_map shown_range body) ≤ 64 = omega (arith, shows_few nothing body ends (lit≤ tt)) in
-    opening_of lines budget (spes_in body) (loads_from 0 body images) (filter_map shown_range body) limits few
-    (loads_fit (spes_in body) nothing body images ends takes (omega (arith, n)))
-    (shows_fit lines (spes_in body) nothing body ends (omega (arith, n)))
+    let acted : length (filter_map host_action body) ≤ 4096 = omega (arith, actions_few (nothing lines) body ends (lit≤ tt)) in
+    let shown : length (filter_map shown_range body) ≤ 64 = omega (arith, shows_few (nothing lines) body ends (lit≤ tt)) in
+    opening_of lines budget (spes_in body) (loads_from 0 body images) (filter_map memory_piece body) (filter_map host_action body) (filter_map shown_range body) limits few
+    (loads_fit (spes_in body) (nothing lines) body images ends takes (omega (arith, n)))
+    (each_fits memory_piece (FitsMemory lines) lines (spes_in body) (memory_fits lines (spes_in body)) (nothing lines) body refl ends (omega (arith, n)))
+    (each_fits host_action (FitsAction lines (spes_in body)) lines (spes_in body) (action_fits lines (spes_in body)) (nothing lines) body refl ends (omega (arith, n)))
+    acted
+    (each_fits shown_range (FitsShow lines (spes_in body)) lines (spes_in body) (show_fits lines (spes_in body)) (nothing lines) body refl ends (omega (arith, n)))
     shown
 
-file_opening : (lines budget : ℕ) (body : List Entry) (images : List Image) → AreMachineLimits lines budget → ends_well (admit_all (Body nothing) body) ≡ true → spes_in body ≤ 8
+file_opening : (lines budget : ℕ) (body : List Entry) (images : List Image) → AreMachineLimits lines budget → ends_well (admit_all (Body (nothing lines)) body) ≡ true → spes_in body ≤ 8
     → AllTakeFit (Head ∷ Lines lines ∷ Budget budget ∷ body) images → IsOpening (machine_of (Head ∷ Lines lines ∷ Budget budget ∷ body) (loads_of (Head ∷ Lines lines ∷ Budget budget ∷ body) images))
 file_opening lines budget body images limits ends few takes =
     let same : loads_from 0 (Head ∷ Lines lines ∷ Budget budget ∷ body) images ≡ loads_from 0 body images =
@@ -491,4 +657,4 @@ is_opening entries images whole takes =
 pub some_spes : (entries : List Entry) → IsMachine entries → 0 < spes_in entries
 some_spes entries whole =
     let w = whole_file entries whole in
-    omega (arith, ap spes_in w.is, body_spes w.lines w.budget w.body, some_from nothing w.body w.ends)
+    omega (arith, ap spes_in w.is, body_spes w.lines w.budget w.body, some_from (nothing w.lines) w.body w.ends)

@@ -5,9 +5,10 @@ use Rattle.std.specs.Option.{option_to_list}
 use Rattle.std.proofs.lemmas.List.{append_assoc, length-append}
 use Rattle.std.proofs.lemmas.List.FromFn.{get_or-map-range_with_len, length-map-range_with_len, map-range_with_len_more}
 use Rattle.std.proofs.Math.Seq.{set-append_seam}
-use Rattle.cell_machine.specs.Opening.{Opening, Placed}
+use Rattle.cell_host.specs.declared.HostAction.{HostAction}
+use Rattle.cell_machine.specs.Opening.{InMemory, Opening, Placed}
 use Rattle.cell_machine.specs.declared.setup.Show.{Show}
-use Rattle.cell_machine.specs.Limits.{FitsShow, MayShow}
+use Rattle.cell_machine.specs.Limits.{FitsAction, FitsShow, MayAct, MayShow}
 use Rattle.cell_load.specs.Loaded.{Load, start_of, starts_of}
 
 pub added_spe : (S T U : Opening) (n at : ℕ) → n ≡ length S.entries → T ≡ record S { entries = S.entries ++ 0 ∷ [] } → U ≡ record T { entries = slice_set T.entries n at } → U ≡ record S { entries = S.entries ++ at ∷ [] }
@@ -33,6 +34,16 @@ next_placed S T U front more all so_far next is =
     next ∙ ap (λ (V : Opening). record V { placed = V.placed ++ more }) so_far
     ∙ ap (λ ps. record S { placed = ps }) (append_assoc S.placed front more ∙ ap (λ ps. S.placed ++ ps) (sym is))
 
+pub next_filled : (S T U : Opening) (front more all : List InMemory) → T ≡ record S { memory = S.memory ++ front } → U ≡ record T { memory = T.memory ++ more } → all ≡ front ++ more → U ≡ record S { memory = S.memory ++ all }
+next_filled S T U front more all so_far next is =
+    next ∙ ap (λ (V : Opening). record V { memory = V.memory ++ more }) so_far
+    ∙ ap (λ ps. record S { memory = ps }) (append_assoc S.memory front more ∙ ap (λ ps. S.memory ++ ps) (sym is))
+
+pub next_acted : (S T U : Opening) (front more all : List HostAction) → T ≡ record S { actions = S.actions ++ front } → U ≡ record T { actions = T.actions ++ more } → all ≡ front ++ more → U ≡ record S { actions = S.actions ++ all }
+next_acted S T U front more all so_far next is =
+    next ∙ ap (λ (V : Opening). record V { actions = V.actions ++ more }) so_far
+    ∙ ap (λ ps. record S { actions = ps }) (append_assoc S.actions front more ∙ ap (λ ps. S.actions ++ ps) (sym is))
+
 pub next_shown : (S T U : Opening) (front more all : List Show) → T ≡ record S { shows = S.shows ++ front } → U ≡ record T { shows = T.shows ++ more } → all ≡ front ++ more → U ≡ record S { shows = S.shows ++ all }
 next_shown S T U front more all so_far next is =
     next ∙ ap (λ (V : Opening). record V { shows = V.shows ++ more }) so_far
@@ -45,3 +56,11 @@ may_show S T front (Some s) most is few room fits =
     let long : length (front ++ s ∷ []) ≡ length front + 1 = length-append front (s ∷ []) in
     let all : length (S.shows ++ front) ≡ length S.shows + length front = length-append S.shows front in
     subst (λ (V : Opening). MayShow V s) (sym is) (omega (arith, few, long, all), fits)
+
+-- one more action may be done
+pub may_act : (S T : Opening) (front : List HostAction) (o : Option HostAction) (most : ℕ) → T ≡ record S { actions = S.actions ++ front } → length (front ++ option_to_list o) ≤ most → length S.actions + most ≤ 4096 → IfSome o (FitsAction S.lines (length S.entries)) → IfSome o (MayAct T)
+may_act S T front None most is few room fits = tt
+may_act S T front (Some a) most is few room fits =
+    let long : length (front ++ a ∷ []) ≡ length front + 1 = length-append front (a ∷ []) in
+    let all : length (S.actions ++ front) ≡ length S.actions + length front = length-append S.actions front in
+    subst (λ (V : Opening). MayAct V a) (sym is) (omega (arith, few, long, all), fits)

@@ -3,10 +3,13 @@ use Rattle.std.specs.Prelude.{◌≡◌, ℕ, ◌==◌, ◌&&◌, not, nat_lt, n
 use Rattle.std.specs.Str.{bytes_eq}
 use Rattle.std.specs.List.{list_all}
 use Rattle.hex.specs.Hex.{decode_of}
+use Rattle.cell_base.specs.Bytes.{put, zeros}
 use Rattle.cell_base.specs.Numbers.{word_number}
+use Rattle.cell_host.specs.declared.HostAction.{HostAction}
+use Rattle.cell_host.specs.declared.HostAction.TheVariants.{Send, Take, TakeIntr, Store, Await}
 use Rattle.cell_load.specs.declared.line.Refusal.{Refusal}
 use Rattle.cell_load.specs.declared.line.Refusal.TheVariants.{Form, Limit, Memory}
-use Rattle.cell_load.specs.Entries.{Entry, Head, Lines, Budget, Spe, Entrance, Code, Bytes, Source, ShowLocal}
+use Rattle.cell_load.specs.Entries.{Entry, Head, Lines, Budget, Spe, Entrance, Code, Bytes, Source, MemoryBytes, Host, ShowLocal, ShowMemory}
 
 infixl 10 ◌>>=◌
 abbrev pub ◌>>=◌ : {A B : Type 0} → Result A Refusal → (A → Result B Refusal) → Result B Refusal
@@ -30,6 +33,12 @@ in_form (Some a) rest = Ok (a, rest)
 unfoldable pub number_in : List (List ℕ) → Result (ℕ × List (List ℕ)) Refusal
 number_in [] = Err Form
 number_in (w ∷ ws) = in_form (word_number w) ws
+
+-- the number of a processor, which has one byte, and the words after it
+unfoldable pub processor_in : List (List ℕ) → Result (ℕ × List (List ℕ)) Refusal
+processor_in ws = do
+  spe ← number_in ws
+  if nat_lt spe.0 256 then Ok spe else Err Form
 
 abbrev pub decoded : {E : Type 0} → Result (List ℕ) E → Result (List ℕ) Refusal
 decoded (Ok bytes) = Ok bytes
@@ -117,6 +126,13 @@ source_line ws = do
   end ← ended name.1
   Ok (Source name.0)
 
+unfoldable pub memory_line : List (List ℕ) → Result Entry Refusal
+memory_line ws = do
+  at ← number_in ws
+  bytes ← hex_in at.1
+  end ← ended bytes.1
+  Ok (MemoryBytes at.0 bytes.0)
+
 unfoldable pub show_local_line : List (List ℕ) → Result Entry Refusal
 show_local_line ws = do
   spe ← number_in ws
@@ -125,11 +141,78 @@ show_local_line ws = do
   end ← ended len.1
   Ok (ShowLocal spe.0 at.0 len.0)
 
+unfoldable pub show_memory_line : List (List ℕ) → Result Entry Refusal
+show_memory_line ws = do
+  at ← number_in ws
+  len ← number_in at.1
+  end ← ended len.1
+  Ok (ShowMemory at.0 len.0)
+
 unfoldable pub show_line : List (List ℕ) → Result Entry Refusal
 show_line [] = Err Form
 show_line (w ∷ ws) =
     if bytes_eq w (codes "ls") then show_local_line ws
+    else if bytes_eq w (codes "mem") then show_memory_line ws
     else Err Form
+
+-- ---- host actions, each by the words behind its name
+
+-- the number of a processor, and nothing more
+unfoldable pub only_processor : List (List ℕ) → Result ℕ Refusal
+only_processor ws = do
+  spe ← processor_in ws
+  end ← ended spe.1
+  Ok spe.0
+
+unfoldable pub send_says : List (List ℕ) → Result HostAction Refusal
+send_says ws = do
+  spe ← processor_in ws
+  value ← number_in spe.1
+  end ← ended value.1
+  Ok (Send spe.0 value.0)
+
+unfoldable pub take_says : List (List ℕ) → Result HostAction Refusal
+take_says ws = do
+  spe ← only_processor ws
+  Ok (Take spe)
+
+unfoldable pub take_intr_says : List (List ℕ) → Result HostAction Refusal
+take_intr_says ws = do
+  spe ← only_processor ws
+  Ok (TakeIntr spe)
+
+unfoldable pub await_says : List (List ℕ) → Result HostAction Refusal
+await_says ws = do
+  spe ← only_processor ws
+  Ok (Await spe)
+
+-- an action holds 16 bytes: those that it stores, and zeros
+abbrev pub store_of : ℕ → List ℕ → Result HostAction Refusal
+store_of at bytes = if nat_le (length bytes) 16 then Ok (Store at (length bytes) (put (zeros 16) 0 bytes)) else Err Form
+
+unfoldable pub store_says : List (List ℕ) → Result HostAction Refusal
+store_says ws = do
+  at ← number_in ws
+  bytes ← hex_in at.1
+  end ← ended bytes.1
+  store_of at.0 bytes.0
+
+unfoldable pub action_says : List (List ℕ) → Result HostAction Refusal
+action_says [] = Err Form
+action_says (w ∷ ws) =
+    if bytes_eq w (codes "send") then send_says ws
+    else if bytes_eq w (codes "take") then take_says ws
+    else if bytes_eq w (codes "takeintr") then take_intr_says ws
+    else if bytes_eq w (codes "await") then await_says ws
+    else if bytes_eq w (codes "store") then store_says ws
+    else Err Form
+
+unfoldable pub host_line : List (List ℕ) → Result Entry Refusal
+host_line ws = do
+  action ← action_says ws
+  Ok (Host action)
+
+-- ---- all lines
 
 -- what a line says whose first word is `word`
 unfoldable pub line_says : List ℕ → List (List ℕ) → Result Entry Refusal
@@ -142,5 +225,7 @@ line_says word ws =
     else if bytes_eq word (codes "code") then code_line ws
     else if bytes_eq word (codes "bytes") then bytes_line ws
     else if bytes_eq word (codes "source") then source_line ws
+    else if bytes_eq word (codes "mem") then memory_line ws
+    else if bytes_eq word (codes "host") then host_line ws
     else if bytes_eq word (codes "show") then show_line ws
     else Err Form

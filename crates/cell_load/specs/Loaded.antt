@@ -6,12 +6,13 @@ use Rattle.local_store.specs.Store.{word_at}
 use Rattle.spu_decode.specs.Spelling.{instr_of}
 use Rattle.spu_asm.specs.Images.{Image}
 use Rattle.cell_base.specs.Bytes.{zeros}
-use Rattle.cell_machine.specs.Opening.{Opening, Placed, placed_in}
+use Rattle.cell_host.specs.declared.HostAction.{HostAction}
+use Rattle.cell_machine.specs.Opening.{Opening, Placed, InMemory, placed_in}
 use Rattle.cell_machine.specs.declared.setup.Show.{Show}
-use Rattle.cell_machine.specs.declared.setup.Show.TheVariants.{Local}
+use Rattle.cell_machine.specs.declared.setup.Show.TheVariants as show
 use Rattle.cell_load.specs.declared.loading.LoadError.{LoadError}
 use Rattle.cell_load.specs.declared.loading.LoadError.TheVariants.{NotInTable, Memory}
-use Rattle.cell_load.specs.Entries.{Entry, Lines, Budget, Entrance, Code, Bytes, Source, ShowLocal}
+use Rattle.cell_load.specs.Entries.{Entry, Lines, Budget, Entrance, Code, Bytes, Source, MemoryBytes, Host, ShowLocal, ShowMemory}
 use Rattle.cell_load.specs.Sources.{spes_after, spes_in}
 
 -- what is given to a processor: bytes whose words are instructions, other bytes,
@@ -104,8 +105,17 @@ abbrev pub budget_number : Entry → Option ℕ
 budget_number (Budget n) = Some n
 budget_number other = None
 
+abbrev pub memory_piece : Entry → Option InMemory
+memory_piece (MemoryBytes at bytes) = Some (record { at = at; bytes = bytes })
+memory_piece other = None
+
+abbrev pub host_action : Entry → Option HostAction
+host_action (Host action) = Some action
+host_action other = None
+
 abbrev pub shown_range : Entry → Option Show
-shown_range (ShowLocal spe at len) = Some (Local spe at len)
+shown_range (ShowLocal spe at len) = Some (show.Local spe at len)
+shown_range (ShowMemory at len) = Some (show.Memory at len)
 shown_range other = None
 
 abbrev pub machine_of : List Entry → List Load → Opening
@@ -114,6 +124,8 @@ machine_of entries loads = record {
   budget = unwrap_or (first_of budget_number entries) 0;
   entries = starts_of loads (spes_in entries);
   placed = placed_of loads;
+  memory = filter_map memory_piece entries;
+  actions = filter_map host_action entries;
   shows = filter_map shown_range entries;
 }
 

@@ -1,18 +1,62 @@
 // Where a line may stand, and the limits of its numbers and counts.
-ghost use Rattle.std.specs.Prelude.{◌≡◌, ◌<◌, ◌^◌, List, ℕ, length};
-ghost use Rattle.cell_load.specs.Entries.{entry_of, Spe, Entrance, Code, Bytes, Source, ShowLocal};
-ghost use Rattle.cell_load.specs.Order.{admit, counted, in_local, limited, only_if};
+ghost use Rattle.std.specs.Prelude.{◌≡◌, ◌<◌, ◌+◌, ◌&&◌, ◌^◌, List, ℕ, length, nat_lt};
+ghost use Rattle.cell_load.specs.Entries.{entry_of, Spe, Entrance, Code, Bytes, Source, MemoryBytes, Host, ShowLocal, ShowMemory};
+ghost use Rattle.cell_load.specs.Order.{admit, counted, fits_action, in_line, in_local, in_memory, is_shown, limited, nothing, only_if};
 ghost use Rattle.cell_load.specs.declared.line.Stage.TheVariants.{Start, Headed, Sized, Body};
 
 use crate::line::{Counts, Line, Refusal, Stage};
+use cell_host::{HostAction, MAX_ACTIONS};
 
 const LOCAL_BYTES: usize = 262_144;
+
+/// How many bytes a line of main memory has.
+const LINE_BYTES: usize = 128;
+
+/// How many bytes a host action may store.
+const MAX_STORED: usize = 16;
 
 fn in_local(at: u32, len: usize) -> bool
     requires { len < 2 ^ 63 }
     ensures { result ≡ in_local at len }
 {
     at as usize + len <= LOCAL_BYTES
+}
+
+fn in_memory(lines: u32, at: u32, len: usize) -> bool
+    requires { len < 2 ^ 63 }
+    ensures { result ≡ in_memory lines at len }
+{
+    at as usize + len <= LINE_BYTES * lines as usize
+}
+
+/// Whether so many bytes are 1 to 16 within one line of main memory.
+fn in_line(lines: u32, at: u32, len: u8) -> bool
+    ensures { result ≡ in_line lines at len }
+{
+    let len = len as usize;
+    1 <= len
+        && len <= MAX_STORED
+        && at as usize % LINE_BYTES + len <= LINE_BYTES
+        && in_memory(lines, at, len)
+}
+
+fn is_shown(len: u32) -> bool
+    ensures { result ≡ is_shown len }
+{
+    1 <= len && len <= 4096
+}
+
+/// Whether an action's processor came before, or its bytes lie within one line of main memory.
+fn fits_action(counts: Counts, action: HostAction) -> bool
+    ensures { result ≡ fits_action counts action }
+{
+    match action {
+        HostAction::Send { spe, .. } => u32::from(spe) < counts.spes,
+        HostAction::Take { spe } => u32::from(spe) < counts.spes,
+        HostAction::TakeIntr { spe } => u32::from(spe) < counts.spes,
+        HostAction::Await { spe } => u32::from(spe) < counts.spes,
+        HostAction::Store { ea, len, .. } => in_line(counts.lines, ea, len),
+    }
 }
 
 fn only_if(holds: bool, counts: Counts) -> Result<Counts, Refusal>
@@ -29,12 +73,13 @@ fn only_if(holds: bool, counts: Counts) -> Result<Counts, Refusal>
 fn count_spe(counts: Counts) -> Result<Counts, Refusal>
     ensures { result ≡ counted counts Spe }
 {
-    let mut next = counts;
-    if counts.spes == 0 {
-        next.spes += 1;
-        next.entry = false;
+    if counts.spes >= 8 {
+        return Err(Refusal::Limit);
     }
-    only_if(counts.spes == 0, next)
+    let mut next = counts;
+    next.spes += 1;
+    next.entry = false;
+    Ok(next)
 }
 
 #[tactic(auto, unfolding(crate::specs::Order::counted))]
@@ -84,18 +129,58 @@ fn count_source(counts: Counts) -> Result<Counts, Refusal>
 }
 
 #[tactic(auto, unfolding(crate::specs::Order::counted))]
-fn count_show(counts: Counts, spe: u32, at: u32, len: u32) -> Result<Counts, Refusal>
-    ensures { result ≡ counted counts (ShowLocal spe at len) }
+fn count_memory_bytes(counts: Counts, at: u32, len: usize) -> Result<Counts, Refusal>
+    requires { len < 2 ^ 63 }
+    ensures { (bytes : List ℕ) → length bytes ≡ len → result ≡ counted counts (MemoryBytes at bytes) }
 {
-    if spe >= counts.spes || !in_local(at, len as usize) {
+    only_if(in_memory(counts.lines, at, len), counts)
+}
+
+#[tactic(auto, unfolding(crate::specs::Order::counted))]
+fn count_action(counts: Counts, action: HostAction) -> Result<Counts, Refusal>
+    ensures { result ≡ counted counts (Host action) }
+{
+    if !fits_action(counts, action) {
         return Err(Refusal::Form);
     }
-    if len == 0 || len > 4096 || counts.shows >= 64 {
+    if counts.actions as usize >= MAX_ACTIONS {
+        return Err(Refusal::Limit);
+    }
+    let mut next = counts;
+    next.actions += 1;
+    Ok(next)
+}
+
+/// The counts after one more range of so many bytes, which lies where it is shown.
+fn one_more_show(counts: Counts, len: u32) -> Result<Counts, Refusal>
+    ensures { result ≡ limited (is_shown len && nat_lt counts.shows 64) (record counts { shows = counts.shows + 1 }) }
+{
+    if !is_shown(len) || counts.shows >= 64 {
         return Err(Refusal::Limit);
     }
     let mut next = counts;
     next.shows += 1;
     Ok(next)
+}
+
+#[tactic(auto, unfolding(crate::specs::Order::counted))]
+fn count_show_local(counts: Counts, spe: u32, at: u32, len: u32) -> Result<Counts, Refusal>
+    ensures { result ≡ counted counts (ShowLocal spe at len) }
+{
+    if spe >= counts.spes || !in_local(at, len as usize) {
+        return Err(Refusal::Form);
+    }
+    one_more_show(counts, len)
+}
+
+#[tactic(auto, unfolding(crate::specs::Order::counted))]
+fn count_show_memory(counts: Counts, at: u32, len: u32) -> Result<Counts, Refusal>
+    ensures { result ≡ counted counts (ShowMemory at len) }
+{
+    if !in_memory(counts.lines, at, len as usize) {
+        return Err(Refusal::Form);
+    }
+    one_more_show(counts, len)
 }
 
 /// The counts after a line that stands behind the first three.
@@ -109,10 +194,27 @@ fn counted(counts: Counts, line: &Line) -> Result<Counts, Refusal>
         Line::Code { at, bytes } => count_code(counts, *at, bytes.len()),
         Line::Bytes { at, bytes } => count_bytes(counts, *at, bytes.len()),
         Line::Source { name: _ } => count_source(counts),
-        Line::ShowLocal { spe, at, len } => count_show(counts, *spe, *at, *len),
+        Line::MemoryBytes { at, bytes } => count_memory_bytes(counts, *at, bytes.len()),
+        Line::Host { action } => count_action(counts, *action),
+        Line::ShowLocal { spe, at, len } => count_show_local(counts, *spe, *at, *len),
+        Line::ShowMemory { at, len } => count_show_memory(counts, *at, *len),
         Line::Head => Err(Refusal::Form),
         Line::Lines { n: _ } => Err(Refusal::Form),
         Line::Budget { n: _ } => Err(Refusal::Form),
+    }
+}
+
+/// No line behind the first three, where the memory has so many lines.
+fn nothing(lines: u32) -> Counts
+    ensures { result ≡ nothing lines }
+{
+    Counts {
+        lines,
+        spes: 0,
+        entry: false,
+        sources: 0,
+        actions: 0,
+        shows: 0,
     }
 }
 
@@ -133,7 +235,7 @@ fn admit_lines(line: &Line) -> Result<Stage, Refusal>
     match line {
         Line::Lines { n } => {
             if 1 <= *n && *n <= 32_768 {
-                Ok(Stage::Sized)
+                Ok(Stage::Sized { lines: *n })
             } else {
                 Err(Refusal::Limit)
             }
@@ -143,14 +245,14 @@ fn admit_lines(line: &Line) -> Result<Stage, Refusal>
 }
 
 #[tactic(auto, unfolding(crate::specs::Order::admit))]
-fn admit_budget(line: &Line) -> Result<Stage, Refusal>
-    ensures { result ≡ admit Sized (entry_of line.now) }
+fn admit_budget(lines: u32, line: &Line) -> Result<Stage, Refusal>
+    ensures { result ≡ admit (Sized lines) (entry_of line.now) }
 {
     match line {
         Line::Budget { n } => {
             if 1 <= *n && *n <= 1_000_000 {
                 Ok(Stage::Body {
-                    counts: Counts::NOTHING,
+                    counts: nothing(lines),
                 })
             } else {
                 Err(Refusal::Limit)
@@ -168,7 +270,7 @@ pub(crate) fn admit(stage: Stage, line: &Line) -> Result<Stage, Refusal>
     match stage {
         Stage::Start => admit_head(line),
         Stage::Headed => admit_lines(line),
-        Stage::Sized => admit_budget(line),
+        Stage::Sized { lines } => admit_budget(lines, line),
         Stage::Body { counts } => match counted(counts, line) {
             Ok(counts) => Ok(Stage::Body { counts }),
             Err(refusal) => Err(refusal),

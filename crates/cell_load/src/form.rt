@@ -4,9 +4,10 @@ ghost use Rattle.std.specs.List.{list_all};
 ghost use Rattle.std.specs.Option.{option_map};
 ghost use Rattle.cell_base.specs.Words.{words_in};
 ghost use Rattle.cell_load.specs.Entries.{entry_of};
-ghost use Rattle.cell_load.specs.Form.{Gives, is_visible, number_in, hex_of, hex_in, ended, is_name, name_of, name_in, head_line, lines_line, budget_line, spe_line, entry_line, code_line, bytes_line, source_line, show_local_line, show_line, line_says};
+ghost use Rattle.cell_load.specs.Form.{Gives, is_visible, number_in, hex_of, hex_in, ended, is_name, name_of, name_in, head_line, lines_line, budget_line, spe_line, entry_line, code_line, bytes_line, source_line, memory_line, show_local_line, show_memory_line, show_line, line_says};
 ghost use Rattle.std.specs.Prelude.{string_bytes};
 
+use crate::host_form::host_line;
 use crate::line::{Line, Refusal};
 use cell_base::line_text::{next_word, word_number};
 use hex::FromHexError;
@@ -15,7 +16,7 @@ use std::str;
 
 /// A number, and what stands behind it.
 #[tactic(auto, unfolding(crate::specs::Form::number_in))]
-fn number_in(words: &[u8]) -> Result<(u32, &[u8]), Refusal>
+pub(crate) fn number_in(words: &[u8]) -> Result<(u32, &[u8]), Refusal>
     ensures { Gives (λ x. (x.0, words_in x.1.now)) result (number_in (words_in words.now)) }
 {
     let Some((word, rest)) = next_word(words) else {
@@ -41,8 +42,9 @@ fn hex_of(alloc: Global, word: &[u8]) -> Result<Vec<u8>, Refusal>
     }
 }
 
+/// The bytes of a word of hexadecimal digits, and what stands behind it.
 #[tactic(auto, unfolding(crate::specs::Form::hex_in))]
-fn hex_in(alloc: Global, words: &[u8]) -> Result<(Vec<u8>, &[u8]), Refusal>
+pub(crate) fn hex_in(alloc: Global, words: &[u8]) -> Result<(Vec<u8>, &[u8]), Refusal>
     ensures { Gives (λ x. (x.0.items, words_in x.1.now)) result (hex_in (words_in words.now)) }
 {
     let Some((word, rest)) = next_word(words) else {
@@ -92,7 +94,7 @@ fn name_in(alloc: Global, words: &[u8]) -> Result<(String, &[u8]), Refusal>
 
 /// Nothing but blanks is left of the line.
 #[tactic(auto, unfolding(crate::specs::Form::ended))]
-fn ended(words: &[u8]) -> Result<(), Refusal>
+pub(crate) fn ended(words: &[u8]) -> Result<(), Refusal>
     ensures { Gives (λ x. x) result (ended (words_in words.now)) }
 {
     match next_word(words) {
@@ -180,6 +182,16 @@ fn source_line(alloc: Global, words: &[u8]) -> Result<Line, Refusal>
     Ok(Line::Source { name })
 }
 
+#[tactic(auto, unfolding(crate::specs::Form::memory_line))]
+fn memory_line(alloc: Global, words: &[u8]) -> Result<Line, Refusal>
+    ensures { Gives entry_of result (memory_line (words_in words.now)) }
+{
+    let (at, rest) = number_in(words)?;
+    let (bytes, rest) = hex_in(alloc, rest)?;
+    ended(rest)?;
+    Ok(Line::MemoryBytes { at, bytes })
+}
+
 #[tactic(auto, unfolding(crate::specs::Form::show_local_line))]
 fn show_local_line(words: &[u8]) -> Result<Line, Refusal>
     ensures { Gives entry_of result (show_local_line (words_in words.now)) }
@@ -191,6 +203,16 @@ fn show_local_line(words: &[u8]) -> Result<Line, Refusal>
     Ok(Line::ShowLocal { spe, at, len })
 }
 
+#[tactic(auto, unfolding(crate::specs::Form::show_memory_line))]
+fn show_memory_line(words: &[u8]) -> Result<Line, Refusal>
+    ensures { Gives entry_of result (show_memory_line (words_in words.now)) }
+{
+    let (at, rest) = number_in(words)?;
+    let (len, rest) = number_in(rest)?;
+    ended(rest)?;
+    Ok(Line::ShowMemory { at, len })
+}
+
 #[tactic(auto, unfolding(crate::specs::Form::show_line))]
 fn show_line(words: &[u8]) -> Result<Line, Refusal>
     ensures { Gives entry_of result (show_line (words_in words.now)) }
@@ -200,6 +222,8 @@ fn show_line(words: &[u8]) -> Result<Line, Refusal>
     };
     if word == b"ls".as_slice() {
         show_local_line(rest)
+    } else if word == b"mem".as_slice() {
+        show_memory_line(rest)
     } else {
         Err(Refusal::Form)
     }
@@ -226,6 +250,10 @@ pub(crate) fn line_says(alloc: Global, word: &[u8], words: &[u8]) -> Result<Line
         bytes_line(alloc, words)
     } else if word == b"source".as_slice() {
         source_line(alloc, words)
+    } else if word == b"mem".as_slice() {
+        memory_line(alloc, words)
+    } else if word == b"host".as_slice() {
+        host_line(alloc, words)
     } else if word == b"show".as_slice() {
         show_line(words)
     } else {

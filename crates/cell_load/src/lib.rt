@@ -4,6 +4,7 @@
 
 mod admit;
 mod form;
+mod host_form;
 mod line;
 #[cfg(test)]
 mod load_tests;

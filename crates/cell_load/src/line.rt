@@ -1,5 +1,7 @@
 // What a line of a machine file says, and what the lines before it allow.
 
+use cell_host::HostAction;
+
 /// A line with words.
 #[derive(Drop)]
 pub(crate) enum Line {
@@ -11,7 +13,10 @@ pub(crate) enum Line {
     Code { at: u32, bytes: Vec<u8> },
     Bytes { at: u32, bytes: Vec<u8> },
     Source { name: String },
+    MemoryBytes { at: u32, bytes: Vec<u8> },
+    Host { action: HostAction },
     ShowLocal { spe: u32, at: u32, len: u32 },
+    ShowMemory { at: u32, len: u32 },
 }
 
 /// Why a line has no place.
@@ -32,27 +37,21 @@ pub(crate) enum Stage {
     /// The line `cell-machine 1` came.
     Headed,
     /// The number of memory lines came too.
-    Sized,
+    Sized { lines: u32 },
     /// The first three lines came, and these are counted of the others.
     Body { counts: Counts },
 }
 
-/// What is counted of the lines behind the first three.
+/// How many lines the memory has, and what is counted of the lines behind the first three.
 #[derive(Clone, Copy)]
 pub(crate) struct Counts {
+    /// Of main memory, 128 bytes each.
+    pub(crate) lines: u32,
     pub(crate) spes: u32,
     /// Whether the latest processor has its entry line.
     pub(crate) entry: bool,
     pub(crate) sources: u32,
+    /// Host actions.
+    pub(crate) actions: u32,
     pub(crate) shows: u32,
-}
-
-impl Counts {
-    /// No line behind the first three.
-    pub(crate) const NOTHING: Counts = Counts {
-        spes: 0,
-        entry: false,
-        sources: 0,
-        shows: 0,
-    };
 }

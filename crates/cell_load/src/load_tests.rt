@@ -2,7 +2,8 @@
 ghost use Rattle.std.specs.Prelude.{◌<◌, length, IfOk};
 
 use crate::{LoadError, load, read_machine};
-use cell_machine::{Machine, Setup};
+use cell_host::HostAction;
+use cell_machine::{Machine, Setup, Show};
 use spu_asm::{Image, assemble};
 use std::alloc::Global;
 use std::test::Fail;
@@ -26,12 +27,12 @@ fn loaded(alloc: Global, lines: &str, images: &[Image]) -> Result<Setup, LoadErr
     load(alloc, plan, images)
 }
 
+fn missing_of(spe: u8, address: u32, word: u32) -> Option<LoadError> {
+    Some(LoadError::NotInTable { spe, address, word })
+}
+
 fn missing(address: u32, word: u32) -> Option<LoadError> {
-    Some(LoadError::NotInTable {
-        spe: 0,
-        address,
-        word,
-    })
+    missing_of(0, address, word)
 }
 
 #[test]
@@ -46,6 +47,15 @@ fn text_words_have_rows(rt: HostRuntime) {
         ("code 0 58800000\nbytes 0 00000000", None),
         ("code 0 00000000\nbytes 0 588000", missing(0, 0x5880_0000)),
         ("bytes 0 58800000\ncode 0 00000000", None),
+        (
+            "code 0 00000000\nspe\ncode 8 58800000",
+            missing_of(1, 8, 0x5880_0000),
+        ),
+        (
+            "code 8 58800001\nspe\ncode 4 58800000",
+            missing_of(0, 8, 0x5880_0001),
+        ),
+        ("code 0 00000000\nspe\nbytes 0 58800000", None),
     ];
     for (lines, error) in table {
         assert_eq!(rt; loaded(rt.alloc(), lines, &[]).err(), error, "{lines}");
@@ -76,5 +86,85 @@ fn images_are_placed_with_the_lines(rt: HostRuntime) -> Result<(), Fail> {
     assert_eq!(rt; error, missing(4, 0x5880_0000));
     let plain = Machine::new(alloc, loaded(alloc, "", &[])?)?;
     assert_eq!(rt; plain.pc(0), 0);
+    Ok(())
+}
+
+/// One file with every line; the setup has all of them in their order.
+const WHOLE: &str = "\
+mem 0 aabbcc
+show mem 0 3
+host store 0x7e 0102
+entry 8
+code 0 4020000000200000
+host send 0 0xffffffff
+host store 16 000102030405060708090a0b0c0d0e0f
+spe
+bytes 0 cc
+host take 1
+mem 1 dd
+host takeintr 0
+show ls 1 16 4
+spe
+entry 12
+host await 2
+show mem 0x7f 1
+";
+
+#[test]
+fn a_setup_has_every_line(rt: HostRuntime) -> Result<(), Fail> {
+    let setup = loaded(rt.alloc(), WHOLE, &[])?;
+    assert_eq!(rt; setup.spes(), 3);
+    assert_eq!(rt; setup.lines(), 1);
+    let mut two = [0; 16];
+    two[0] = 1;
+    two[1] = 2;
+    let actions = [
+        HostAction::Store {
+            ea: 0x7e,
+            len: 2,
+            bytes: two,
+        },
+        HostAction::Send {
+            spe: 0,
+            value: 0xffff_ffff,
+        },
+        HostAction::Store {
+            ea: 16,
+            len: 16,
+            bytes: [0, 1, 2, 3, 4, 5, 6, 7, 8, 9, 10, 11, 12, 13, 14, 15],
+        },
+        HostAction::Take { spe: 1 },
+        HostAction::TakeIntr { spe: 0 },
+        HostAction::Await { spe: 2 },
+    ];
+    assert_eq!(rt; setup.actions(), actions.as_slice());
+    let shows = [
+        Show::Memory { at: 0, len: 3 },
+        Show::Local {
+            spe: 1,
+            at: 16,
+            len: 4,
+        },
+        Show::Memory { at: 0x7f, len: 1 },
+    ];
+    assert_eq!(rt; setup.shows(), shows.as_slice());
+    Ok(())
+}
+
+#[test]
+fn a_machine_begins_with_every_line(rt: HostRuntime) -> Result<(), Fail> {
+    let alloc = rt.alloc();
+    let machine = Machine::new(alloc, loaded(alloc, WHOLE, &[])?)?;
+    assert_eq!(rt; machine.setup().spes(), 3);
+    assert_eq!(rt; machine.setup().lines(), 1);
+    let mut front = [0; 4];
+    machine.memory().copy_out(0, &mut front);
+    assert_eq!(rt; front, [0xaa, 0xdd, 0xcc, 0]);
+    let wanted = [(8, 0x4020_0000), (0, 0xcc00_0000), (12, 0)];
+    for spe in 0..3 {
+        let (pc, word) = wanted[spe as usize];
+        assert_eq!(rt; machine.pc(spe), pc);
+        assert_eq!(rt; machine.local(spe).word(0), word);
+    }
     Ok(())
 }

@@ -1,11 +1,11 @@
 // The setup of a machine file.
-ghost use Rattle.std.specs.Prelude.{◌≡◌, ◌≢◌, ◌≤◌, ◌<◌, ◌+◌, ◌%◌, ◌++◌, ◌∷◌, [], length, map, unwrap_or, All, IfOk, IfSome, OnOk};
+ghost use Rattle.std.specs.Prelude.{◌≡◌, ◌≢◌, ◌≤◌, ◌<◌, ◌+◌, ◌*◌, ◌%◌, ◌++◌, ◌∷◌, [], length, map, unwrap_or, All, IfOk, IfSome, OnOk};
 ghost use Rattle.std.specs.List.{filter_map};
 ghost use Rattle.std.specs.Option.{option_to_list};
 ghost use Rattle.cell_machine.specs.Opening.{Placed};
-ghost use Rattle.cell_machine.specs.Limits.{IsOpening, FitsShow, FitsStore, MayShow};
+ghost use Rattle.cell_machine.specs.Limits.{IsOpening, FitsAction, FitsMemory, FitsShow, FitsStore, MayAct, MayShow};
 ghost use Rattle.cell_load.specs.Entries.{entry_of};
-ghost use Rattle.cell_load.specs.Loaded.{LoadGives, budget_number, first_of, lines_number, loaded, machine_of, placed_of, placed_part, shown_range, starts_of};
+ghost use Rattle.cell_load.specs.Loaded.{LoadGives, budget_number, first_of, host_action, lines_number, loaded, machine_of, memory_piece, placed_of, placed_part, shown_range, starts_of};
 ghost use Rattle.cell_load.specs.LoadViews.{load_of, part_of};
 ghost use Rattle.cell_load.specs.Sources.{sources_of, spes_in};
 ghost use Rattle.cell_load.specs.declared.loading.LoadError.TheVariants.{Memory};
@@ -140,19 +140,71 @@ fn place_loads(setup: &mut Setup, loads: &[Load]) -> Result<(), AllocError>
     Ok(())
 }
 
+/// Places the bytes of a line in main memory.
+fn place_memory(setup: &mut Setup, line: &Line) -> Result<(), AllocError>
+    requires { IfSome (memory_piece (entry_of line.now)) (FitsMemory setup.old.lines) }
+    ensures { OnOk result (setup.new ≡ record setup.old { memory = setup.old.memory ++ option_to_list (memory_piece (entry_of line.now)) }) }
+{
+    let Line::MemoryBytes { at, bytes } = line else {
+        return Ok(());
+    };
+    match setup.place_memory(*at, bytes.as_slice()) {
+        Ok(()) => Ok(()),
+        Err(error) => Err(within_limits(error)),
+    }
+}
+
+/// Places the bytes of the lines in main memory in their order.
+fn fill_memory(setup: &mut Setup, lines: &[Line]) -> Result<(), AllocError>
+    requires { All (FitsMemory setup.old.lines) (filter_map memory_piece (map entry_of lines.now)) }
+    ensures { OnOk result (setup.new ≡ record setup.old { memory = setup.old.memory ++ filter_map memory_piece (map entry_of lines.now) }) }
+{
+    for line in lines {
+        place_memory(setup, line)?;
+    }
+    Ok(())
+}
+
+/// Adds the host action of a line.
+fn add_action(setup: &mut Setup, line: &Line) -> Result<(), AllocError>
+    requires { IfSome (host_action (entry_of line.now)) (MayAct setup.old) }
+    ensures { OnOk result (setup.new ≡ record setup.old { actions = setup.old.actions ++ option_to_list (host_action (entry_of line.now)) }) }
+{
+    let Line::Host { action } = line else {
+        return Ok(());
+    };
+    match setup.add_action(*action) {
+        Ok(()) => Ok(()),
+        Err(error) => Err(within_limits(error)),
+    }
+}
+
+/// Adds the host actions of the lines in their order.
+fn add_actions(setup: &mut Setup, lines: &[Line]) -> Result<(), AllocError>
+    requires room { length setup.old.actions + length (filter_map host_action (map entry_of lines.now)) ≤ 4096 }
+    requires fits { All (FitsAction setup.old.lines (length setup.old.entries)) (filter_map host_action (map entry_of lines.now)) }
+    ensures { OnOk result (setup.new ≡ record setup.old { actions = setup.old.actions ++ filter_map host_action (map entry_of lines.now) }) }
+{
+    for line in lines {
+        add_action(setup, line)?;
+    }
+    Ok(())
+}
+
 /// Adds the range that a line shows.
 fn add_show(setup: &mut Setup, line: &Line) -> Result<(), AllocError>
     requires few { length setup.old.entries ≤ 8 }
     requires may { IfSome (shown_range (entry_of line.now)) (MayShow setup.old) }
     ensures { OnOk result (setup.new ≡ record setup.old { shows = setup.old.shows ++ option_to_list (shown_range (entry_of line.now)) }) }
 {
-    let Line::ShowLocal { spe, at, len } = line else {
-        return Ok(());
-    };
-    let range = Show::Local {
-        spe: *spe as u8,
-        at: *at,
-        len: *len,
+    let range = match line {
+        Line::ShowLocal { spe, at, len } => Show::Local {
+            spe: *spe as u8,
+            at: *at,
+            len: *len,
+        },
+        Line::ShowMemory { at, len } => Show::Memory { at: *at, len: *len },
+        _ => return Ok(()),
     };
     match setup.add_show(range) {
         Ok(()) => Ok(()),
@@ -185,6 +237,8 @@ fn setup_in(alloc: Global, lines: &[Line], loads: &[Load], spes: u8) -> Result<S
     };
     add_spes(&mut setup, loads, spes)?;
     place_loads(&mut setup, loads)?;
+    fill_memory(&mut setup, lines)?;
+    add_actions(&mut setup, lines)?;
     add_shows(&mut setup, lines)?;
     Ok(setup)
 }

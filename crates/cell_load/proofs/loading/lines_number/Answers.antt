@@ -17,7 +17,10 @@ other (line.Entry at) differs = refl
 other (line.Code at bytes) differs = refl
 other (line.Bytes at bytes) differs = refl
 other (line.Source name) differs = refl
+other (line.MemoryBytes at bytes) differs = refl
+other (line.Host action) differs = refl
 other (line.ShowLocal spe at len) differs = refl
+other (line.ShowMemory at len) differs = refl
 
 pub returns-in-Lines : goal.returns-in-Lines
 returns-in-Lines c =

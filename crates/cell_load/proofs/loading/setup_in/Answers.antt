@@ -10,3 +10,8 @@ add_spes-requires-clause-few c =
     let few = c.requires.limits.spes in
     let count = c.requires.count in
     omega (arith, few, count, starts-length (map load_of c.args.loads.now) (spes_in (map entry_of c.args.lines.now)))
+
+pub add_shows-requires-clause-fits : goal.add_shows-requires-clause-fits
+add_shows-requires-clause-fits c =
+    rw (c.in_ok-add_actions.ensures, c.in_ok-fill_memory.ensures, c.in_ok-place_loads.ensures, c.in_ok-add_spes.ensures, c.in-Ok.ensures.made, c.lines_number.ensures, c.requires.count)
+    c.requires.limits.shows
