@@ -1,5 +1,5 @@
 -- The labels in a map are those in a list.
-use Rattle.std.proofs.Common.{◌≡◌, ℕ, ◌≤◌, Bool, true, false, cond, List, [], ◌∷◌, ◌++◌, length, drop, get_or, Option, None, Some, Result, Ok, Err, is_some, refl, sym, ap, ◌∙◌, arith}
+use Rattle.std.proofs.Common.{◌≡◌, ℕ, ◌≤◌, Bool, true, false, cond, List, [], ◌∷◌, ◌++◌, length, drop, get_or, Option, None, Some, Ok, Err, is_some, refl, sym, ap, ◌∙◌, arith}
 use Rattle.std.specs.Borrow.{Bor}
 use Rattle.std.specs.Map.{lookup}
 use Rattle.std.specs.Str.{bytes_eq}
@@ -7,13 +7,13 @@ use Rattle.std.proofs.lemmas.List.{map_push}
 use Rattle.indexmap.specs.IndexMap.{IndexMap, get, insert_entry}
 use Rattle.indexmap.proofs.CallerLemmas.{insert_entry-new}
 use Rattle.spu_asm.specs.declared.error.AsmError.TheVariants.{At}
-use Rattle.spu_asm.specs.declared.error.AsmKind.{AsmKind}
 use Rattle.spu_asm.specs.declared.error.AsmKind.TheVariants.{Twice}
 use Rattle.spu_lex.specs.declared.Token.{Token}
 use Rattle.spu_lex.specs.declared.TokenKind.TheVariants.{Name as Word}
 use Rattle.spu_asm.specs.Outcomes.{on_line}
 use Rattle.spu_asm.specs.Reading.{word}
 use Rattle.spu_asm.specs.Source.{Labels, labels_view, line_of, is_label, labels_of, after_labels, with_label, with_labels}
+use Rattle.spu_asm.proofs.OutcomeLemmas.{line_ok}
 
 abbrev pub Name : Type 0
 Name = Bor (List ℕ)
@@ -52,10 +52,6 @@ module _ {S : Type 0} (m : IndexMap Name ℕ S) (k : Name) (number : ℕ) where
 -- what a read past the end would give
 abbrev pub any_token : Token
 any_token = record { kind = Word; start = 0; end = 0; line = 0 }
-
-line_ok : {X : Type 0} (number : ℕ) (r : Result X AsmKind) (x : X) → on_line number r ≡ Ok x → r ≡ Ok x
-line_ok number (Ok y) x e = let p : y ≡ x = cc in ap Ok p
-line_ok number (Err k) x e = absurd cc
 
 pub after_one : (text : List ℕ) (rest : List Token) → 2 ≤ length rest → true ≡ is_label text (get_or rest 0 any_token) (get_or rest 1 any_token) → after_labels text (drop 2 rest) ≡ after_labels text rest
 unfolding after_labels

@@ -18,25 +18,15 @@ use Rattle.spu_asm.specs.declared.syntax.Size.{Size}
 use Rattle.spu_asm.specs.declared.syntax.Size.TheVariants.{Byte, Half, Word, Double}
 use Rattle.spu_asm.specs.declared.syntax.Statement.{Statement}
 use Rattle.spu_asm.specs.declared.syntax.Statement.TheVariants.{Nothing, Choose, Align, Org, Skip, Values, Bytes, Instruction}
-use Rattle.spu_asm.specs.Outcomes.{◌>>=◌, on_line}
-use Rattle.spu_asm.specs.ReadLines.{IsRead}
+use Rattle.spu_asm.specs.Outcomes.{on_line}
+use Rattle.spu_asm.specs.ReadLines.{IsRead, AllRead}
 use Rattle.spu_asm.specs.Source.{Labels, SourceLine}
 use Rattle.spu_asm.specs.Statements.{expressions_among, string_among}
 use Rattle.spu_asm.specs.Layout.{next_multiple, alignment, bytes_in, address_after, is_not_multiple, overlaps, placed, is_multiple_of_4, stepped, addresses, present, places, section_end, data_start}
 use Rattle.spu_asm.specs.Encoding.{values_of, spelled, value_bytes, number_bytes, defined, allowed, range_of_size, encoded, valued, instr_at, instr_bytes, lnop, filling, text_bytes, bytes_of}
 use Rattle.spu_asm.specs.Assembling.{Sections, onto, sections_of, AreAsLong, EndsWith}
 use Rattle.spu_asm.specs.Images.{IsImage}
-
-bind_ok : {A B E : Type 0} (r : Result A E) (f : A → Result B E) (y : B) → (r >>= f) ≡ Ok y → (x : A) × (r ≡ Ok x) × (f x ≡ Ok y)
-bind_ok (Ok x) f y is = (x, refl, is)
-bind_ok (Err e) f y is = absurd cc
-
-line_ok : {X : Type 0} (number : ℕ) (r : Result X AsmKind) (x : X) → on_line number r ≡ Ok x → r ≡ Ok x
-line_ok number (Ok y) x e = let p : y ≡ x = cc in ap Ok p
-line_ok number (Err k) x e = absurd cc
-
-ok_is : {X E : Type 0} (x y : X) → ◌≡◌ {A = Result X E} (Ok x) (Ok y) → x ≡ y
-ok_is x y e = cc
+use Rattle.spu_asm.proofs.OutcomeLemmas.{bind_ok, line_ok, ok_is}
 
 length-repeat : (n : ℕ) (xs : List ℕ) → length (repeat n xs) ≡ n * length xs
 length-repeat zero xs = omega arith
@@ -192,13 +182,8 @@ module _ (text : List ℕ) (labels : Labels) (all : List ℕ) (at number : ℕ) 
 
 -- all lines
 
--- what is known of each line
-abbrev pub EachRead : List ℕ → List SourceLine → Type 0
-EachRead text [] = Unit {0}
-EachRead text (l ∷ ls) = IsRead text l.section l.statement l.arguments × EachRead text ls
-
 -- each line that was read is as long as its addresses say
-pub each_long : (text : List ℕ) (lines : List SourceLine) → EachRead text lines → AreAsLong text lines
+pub each_long : (text : List ℕ) (lines : List SourceLine) → AllRead text lines → AreAsLong text lines
 each_long text [] read = tt
 each_long text (l ∷ ls) read = (
   λ labels all at next bytes aligned stands is.
@@ -229,7 +214,7 @@ module _ (text : List ℕ) (labels : Labels) (all : List ℕ) where
       let long = line_length text labels all d number Data statement arguments d_next bytes (λ e. absurd cc) read p (line_ok number (made text labels all d number Data statement arguments) bytes is) in
       (omega (arith, same), omega (arith, long, length-append bytes others.data_bytes), omega (arith, same, aligned))
 
-  pub lengths : (lines : List SourceLine) (t d : ℕ) (text_at data_at : List ℕ) (s : Sections) → t % 4 ≡ 0 → EachRead text lines
+  pub lengths : (lines : List SourceLine) (t d : ℕ) (text_at data_at : List ℕ) (s : Sections) → t % 4 ≡ 0 → AllRead text lines
       → addresses Text t lines ≡ Ok text_at → addresses Data d lines ≡ Ok data_at → sections_of text labels all lines (places lines text_at data_at) ≡ Ok s
       → Ends text_at data_at (length lines) t d s
   unfolding addresses places sections_of
@@ -257,7 +242,7 @@ pub ends : (section : Section) (at : ℕ) (lines : List SourceLine) (found : Lis
 ends section at lines found last is eq = rw is (ap Ok eq)
 
 -- an image that is laid out
-pub laid : (text : List ℕ) (labels : Labels) (lines : List SourceLine) (text_at data_at : List ℕ) (start entry : ℕ) (s : Sections) → EachRead text lines
+pub laid : (text : List ℕ) (labels : Labels) (lines : List SourceLine) (text_at data_at : List ℕ) (start entry : ℕ) (s : Sections) → AllRead text lines
     → addresses Text 0 lines ≡ Ok text_at → start ≡ data_start (slice_index text_at (length lines)) → addresses Data start lines ≡ Ok data_at
     → sections_of text labels (places lines text_at data_at) lines (places lines text_at data_at) ≡ Ok s
     → slice_index data_at (length lines) ≤ 262144 → entry % 4 ≡ 0 → entry < 262144

@@ -1,10 +1,10 @@
 pub mod Counting
+pub mod ImageLemmas
 pub mod InstrLemmas
 pub mod LabelLemmas
 pub mod LayoutLemmas
 pub mod LengthLaws
 pub mod NumbersLemmas
 pub mod OutcomeLemmas
-pub mod ReadLemmas
 pub mod SectionLemmas
 pub mod SourceLemmas

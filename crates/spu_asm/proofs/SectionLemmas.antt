@@ -1,16 +1,14 @@
 -- The bytes of text and data, made line by line.
-use Rattle.std.proofs.Common.{◌≡◌, ℕ, ◌+◌, ◌<◌, List, [], ◌++◌, length, drop, get_or, Result, Ok, Err, refl, sym, ap, ◌∙◌, append_assoc}
+use Rattle.std.proofs.Common.{◌≡◌, ℕ, List, [], ◌∷◌, ◌++◌, length, Result, Ok, Err, refl, sym, ap, ◌∙◌, append_assoc, arith}
 use Rattle.std.proofs.lemmas.List.{append-nil}
 use Rattle.spu_asm.specs.declared.error.AsmError.{AsmError}
 use Rattle.spu_asm.specs.declared.error.AsmError.TheVariants.{At, Memory}
 use Rattle.spu_asm.specs.declared.syntax.Section.{Section}
 use Rattle.spu_asm.specs.declared.syntax.Section.TheVariants.{Text, Data}
-use Rattle.spu_asm.specs.declared.syntax.Line.{Line}
 use Rattle.spu_asm.specs.Outcomes.{◌>>=◌, on_line, Shows}
-use Rattle.spu_asm.specs.Source.{Labels, SourceLine, line_view, line_views}
+use Rattle.spu_asm.specs.Source.{Labels, SourceLine}
 use Rattle.spu_asm.specs.Encoding.{bytes_of}
 use Rattle.spu_asm.specs.Assembling.{Sections, onto, joined, added_to, sections_of}
-use Rattle.spu_asm.proofs.LayoutLemmas.{any_line, drop_here, views_here}
 
 -- bytes before those that are still made
 abbrev pub ahead : Sections → Result Sections AsmError → Result Sections AsmError
@@ -32,28 +30,27 @@ same (Err e) = refl
 pub begins : (text : List ℕ) (labels : Labels) (places : List ℕ) (front : Sections) (lines : List SourceLine) (rest : List ℕ) → front.text ≡ [] → front.data_bytes ≡ [] → Makes text labels places front lines rest (sections_of text labels places lines rest)
 begins text labels places front lines rest a b = record { is = rw (a, b) (same (sections_of text labels places lines rest)) }
 
-module _ (text : List ℕ) (labels : Labels) (places : List ℕ) (front : Sections) (lines : List Line) (k : ℕ) (total : Result Sections AsmError) (in_lines : k < length lines) (in_places : k < length places)
-    (so_far : Makes text labels places front (line_views (drop k lines)) (drop k places) total) where
-  abbrev pub here : SourceLine
-  here = line_view (get_or lines k any_line)
-
+module _ (text : List ℕ) (labels : Labels) (places : List ℕ) (front : Sections) (line : SourceLine) (lines : List SourceLine) (at : ℕ) (rest : List ℕ) (total : Result Sections AsmError)
+    (so_far : Makes text labels places front (line ∷ lines) (at ∷ rest) total) where
   abbrev pub given : Result (List ℕ) AsmError
-  given = on_line here.number (bytes_of text labels places (get_or places k 0) here)
+  given = on_line line.number (bytes_of text labels places at line)
 
-  pub goes_on : (bytes : List ℕ) → given ≡ Ok bytes → Makes text labels places (joined here.section front bytes) (line_views (drop (k + 1) lines)) (drop (k + 1) places) total
+  pub goes_on : (bytes : List ℕ) → given ≡ Ok bytes → Makes text labels places (joined line.section front bytes) lines rest total
   unfolding sections_of
   goes_on bytes is =
-      let others = sections_of text labels places (line_views (drop (k + 1) lines)) (drop (k + 1) places) in
-      let one : ahead front (sections_of text labels places (line_views (drop k lines)) (drop k places)) ≡ ahead (joined here.section front bytes) others =
-      rw (views_here lines k in_lines, drop_here places k 0 in_places, is) (regroup here.section front bytes others) in
+      let others = sections_of text labels places lines rest in
+      let one : ahead front (sections_of text labels places (line ∷ lines) (at ∷ rest)) ≡ ahead (joined line.section front bytes) others = rw is (regroup line.section front bytes others) in
       record { is = sym one ∙ so_far.is }
 
   pub wrong : (e : AsmError) → given ≡ Err e → total ≡ Err e
   unfolding sections_of
   wrong e is =
-      let one : ahead front (sections_of text labels places (line_views (drop k lines)) (drop k places)) ≡ Err e =
-      rw (views_here lines k in_lines, drop_here places k 0 in_places, is) refl in
+      let one : ahead front (sections_of text labels places (line ∷ lines) (at ∷ rest)) ≡ Err e = rw is refl in
       sym so_far.is ∙ one
+
+pub no_elements : {X : Type 0} (xs : List X) → length xs ≡ 0 → xs ≡ []
+no_elements [] none = refl
+no_elements (x ∷ xs) none = absurd (omega arith)
 
 pub is_done : (text : List ℕ) (labels : Labels) (places : List ℕ) (front : Sections) (lines : List SourceLine) (rest : List ℕ) (total : Result Sections AsmError) → lines ≡ [] → Makes text labels places front lines rest total → total ≡ Ok front
 unfolding sections_of
@@ -70,16 +67,16 @@ not_added : (given : Result (List ℕ) AsmError) (f : List ℕ → Sections) (e 
 not_added (Ok bytes) f e is = absurd cc
 not_added (Err k) f e is = let p : k ≡ e = cc in ap Err p
 
-module _ (text : List ℕ) (labels : Labels) (places : List ℕ) (front : Sections) (lines : List Line) (k : ℕ) (total : Result Sections AsmError) (in_lines : k < length lines) (in_places : k < length places)
-    (so_far : Makes text labels places front (line_views (drop k lines)) (drop k places) total) where
+module _ (text : List ℕ) (labels : Labels) (places : List ℕ) (front : Sections) (line : SourceLine) (lines : List SourceLine) (at : ℕ) (rest : List ℕ) (total : Result Sections AsmError)
+    (so_far : Makes text labels places front (line ∷ lines) (at ∷ rest) total) where
   abbrev pub adding : Result Sections AsmError
-  adding = added_to (get_or lines k any_line).section front (given text labels places front lines k total in_lines in_places so_far)
+  adding = added_to line.section front (given text labels places front line lines at rest total so_far)
 
-  pub grows : (after : Sections) → adding ≡ Ok after → Makes text labels places after (line_views (drop (k + 1) lines)) (drop (k + 1) places) total
+  pub grows : (after : Sections) → adding ≡ Ok after → Makes text labels places after lines rest total
   grows after is =
       let a = added _ _ front after is in
-      rw a.2 (goes_on text labels places front lines k total in_lines in_places so_far a.0 a.1)
+      rw a.2 (goes_on text labels places front line lines at rest total so_far a.0 a.1)
 
   pub fails : {B : Type 0} (shown : Unit {0} → Sections) (see : B → Sections) (e : AsmError) → Shows shown (Err e) adding → Shows see (Err e) total
-  fails shown see (At line kind) is = wrong text labels places front lines k total in_lines in_places so_far (At line kind) (not_added _ (joined (get_or lines k any_line).section front) (At line kind) is)
+  fails shown see (At number kind) is = wrong text labels places front line lines at rest total so_far (At number kind) (not_added _ (joined line.section front) (At number kind) is)
   fails shown see Memory is = tt

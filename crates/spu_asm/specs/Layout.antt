@@ -93,3 +93,15 @@ places _ _ _ = []
 -- where a section ends that begins at an address
 abbrev pub section_end : Section → ℕ → List SourceLine → Result ℕ AsmError
 section_end section at lines = addresses section at lines >>= λ found. Ok (slice_index found (length lines))
+
+-- the addresses of text and of data after a line
+abbrev pub both_stepped : ℕ → ℕ → SourceLine → Result (ℕ × ℕ) AsmError
+both_stepped text_at data_at line = stepped Text text_at line >>= λ t. stepped Data data_at line >>= λ d. Ok (t, d)
+
+-- the place of each line, by the present addresses of text and of data
+unfoldable pub places_from : ℕ → ℕ → List SourceLine → Result (List ℕ) AsmError
+places_from text_at data_at [] = Ok []
+places_from text_at data_at (line ∷ lines) = do
+  next ← both_stepped text_at data_at line
+  rest ← places_from next.0 next.1 lines
+  Ok (present line.section text_at data_at ∷ rest)

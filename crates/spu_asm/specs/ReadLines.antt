@@ -1,6 +1,5 @@
 -- What is known of lines that were read.
-use Rattle.std.specs.Prelude.{◌≡◌, ◌≤◌, ℕ, true, List, length}
-use Rattle.std.specs.List.{All}
+use Rattle.std.specs.Prelude.{◌≡◌, ◌≤◌, ℕ, true, List, [], ◌∷◌, length}
 use Rattle.spu_lex.specs.declared.Token.{Token}
 use Rattle.spu_asm.specs.declared.syntax.Directive.TheVariants as directives
 use Rattle.spu_asm.specs.declared.syntax.Line.{Line}
@@ -9,6 +8,7 @@ use Rattle.spu_asm.specs.declared.syntax.Statement.{Statement}
 use Rattle.spu_asm.specs.declared.syntax.Statement.TheVariants.{Align, Values, Bytes, Instruction}
 use Rattle.spu_asm.specs.Operands.{GivenFits}
 use Rattle.spu_asm.specs.Reading.{Within}
+use Rattle.spu_asm.specs.Source.{SourceLine}
 use Rattle.spu_asm.specs.Statements.{expressions_among, string_among, is_allowed_in}
 
 -- a statement of a section says how long its arguments are, and its operands fit
@@ -22,13 +22,12 @@ IsRead text section _ ts = Unit {0}
 abbrev pub IsReadLine : List ℕ → Line → Type 0
 IsReadLine text l = IsRead text l.section l.statement l.arguments.now × Within text l.arguments.now
 
-abbrev pub AllRead : List ℕ → List Line → Type 0
-AllRead text lines = All (IsReadLine text) lines
+-- what is known of each line
+abbrev pub AllRead : List ℕ → List SourceLine → Type 0
+AllRead text [] = Unit {0}
+AllRead text (l ∷ ls) = IsRead text l.section l.statement l.arguments × AllRead text ls
 
 -- alignment is to 2^12 at most
 abbrev pub IsSmall : Statement → Type 0
 IsSmall (Align n) = n ≤ 12
 IsSmall _ = Unit {0}
-
-abbrev pub AllSmall : List Line → Type 0
-AllSmall lines = All (λ l. IsSmall l.statement) lines

@@ -1,5 +1,5 @@
 -- The lines of a text and the labels that they define.
-use Rattle.std.specs.Prelude.{ℕ, ◌+◌, Bool, ◌&&◌, List, [], ◌∷◌, ◌++◌, drop, Option, is_some, map, not, Result, Ok, Err, if◌then◌else◌}
+use Rattle.std.specs.Prelude.{ℕ, ◌+◌, ◌^◌, ◌<◌, Bool, ◌&&◌, List, [], ◌∷◌, ◌++◌, length, drop, Option, is_some, map, not, Result, Ok, Err, if◌then◌else◌}
 use Rattle.std.specs.Map.{lookup}
 use Rattle.std.specs.List.{onto_first, prefix_len}
 use Rattle.std.specs.Borrow.{Bor}
@@ -11,11 +11,11 @@ use Rattle.spu_asm.specs.declared.error.AsmKind.TheVariants.{Twice}
 use Rattle.spu_asm.specs.declared.syntax.Line.{Line}
 use Rattle.spu_asm.specs.declared.syntax.Section.{Section}
 use Rattle.spu_asm.specs.declared.syntax.Section.TheVariants as sections
-use Rattle.spu_asm.specs.declared.syntax.Source.{Source as Lines}
 use Rattle.spu_asm.specs.declared.syntax.Statement.{Statement}
-use Rattle.spu_asm.specs.declared.syntax.Statement.TheVariants.{Choose}
+use Rattle.spu_asm.specs.declared.syntax.Statement.TheVariants.{Choose, Nothing}
+use Rattle.spu_asm.specs.declared.syntax.Unread.{Unread}
 use Rattle.spu_asm.specs.Outcomes.{◌>>=◌, on_line}
-use Rattle.spu_asm.specs.Reading.{word, is_name, is_the_mark, is_line_end}
+use Rattle.spu_asm.specs.Reading.{word, is_name, is_the_mark, is_line_end, Within}
 use Rattle.spu_asm.specs.Statements.{statement_of}
 
 -- each line end ends a line; the last line may lack it
@@ -85,6 +85,33 @@ source_from text number section labels (line ∷ lines) = do
 abbrev pub source_of : List ℕ → List Token → Result Source AsmError
 source_of text tokens = source_from text 1 sections.Text [] (lines_of tokens)
 
+-- a statement, or none where it has a fault
+abbrev pub or_nothing : Result Statement AsmKind → Statement
+or_nothing (Ok statement) = statement
+or_nothing (Err kind) = Nothing
+
+-- the statement of a line without a fault
+abbrev pub stated : List ℕ → Section → List Token → Statement
+stated text section line = or_nothing (statement_of text section (after_labels text line))
+
+-- the lines from a number on, in a section, where none has a fault
+unfoldable pub lines_from : List ℕ → ℕ → Section → List (List Token) → List SourceLine
+lines_from text number section [] = []
+lines_from text number section (line ∷ lines) =
+    record { number = number; section = section; statement = stated text section line; arguments = drop 1 (after_labels text line) }
+    ∷ lines_from text (number + 1) (section_after section (stated text section line)) lines
+
+abbrev pub lines_in : List ℕ → List Token → List SourceLine
+lines_in text tokens = lines_from text 1 sections.Text (lines_of tokens)
+
+-- the lines that are not read yet
+abbrev pub lines_left : List ℕ → Unread → List SourceLine
+lines_left text unread = lines_from text unread.number unread.section (lines_of unread.tokens.now)
+
+-- their tokens lie in the text, and their numbers have 32 bits
+abbrev pub IsLeft : List ℕ → Unread → Type 0
+IsLeft text unread = Within text unread.tokens.now × (unread.number + length unread.tokens.now < 2 ^ 32)
+
 -- labels without where their names lie in memory
 abbrev pub labels_view : List (Bor (List ℕ) × ℕ) → Labels
 labels_view entries = map (λ e. (e.0.now, e.1)) entries
@@ -93,11 +120,9 @@ labels_view entries = map (λ e. (e.0.now, e.1)) entries
 abbrev pub line_view : Line → SourceLine
 line_view l = record { number = l.number; section = l.section; statement = l.statement; arguments = l.arguments.now }
 
-abbrev pub line_views : List Line → List SourceLine
-line_views lines = map line_view lines
-
-abbrev pub source_view : Lines → Source
-source_view s = record { lines = line_views s.lines.items; labels = labels_view s.labels.entries }
+-- the lines of tokens, with labels
+abbrev pub source_view : List ℕ → List Token → List (Bor (List ℕ) × ℕ) → Source
+source_view text tokens entries = record { lines = lines_in text tokens; labels = labels_view entries }
 
 -- how many tokens stand before the first line end
 abbrev pub line_len : List Token → ℕ

@@ -1,15 +1,17 @@
 //! Addresses of lines.
 
-ghost use Rattle.std.specs.Prelude.{◌≡◌, ◌+◌, ◌^◌, ◌<◌, ◌≤◌, length, IfOk};
+ghost use Rattle.std.specs.Prelude.{◌≡◌, ◌^◌, ◌<◌, ◌≤◌, IfOk};
 ghost use Rattle.std.specs.List.{All};
-ghost use Rattle.spu_asm.specs.Layout.{next_multiple, bytes_in, alignment, address_after, is_not_multiple, overlaps, placed, is_multiple_of_4, same_section, stepped, addresses, present, places};
+ghost use Rattle.spu_asm.specs.declared.syntax.Section.TheVariants.{Text};
+ghost use Rattle.spu_asm.specs.Layout.{next_multiple, bytes_in, alignment, address_after, is_not_multiple, overlaps, placed, is_multiple_of_4, same_section, stepped, both_stepped, section_end, present, places_from};
 ghost use Rattle.spu_asm.specs.Outcomes.{Shows};
-ghost use Rattle.spu_asm.specs.ReadLines.{IsSmall, AllSmall};
-ghost use Rattle.spu_asm.specs.Source.{line_view, line_views};
+ghost use Rattle.spu_asm.specs.ReadLines.{IsSmall};
+ghost use Rattle.spu_asm.specs.Source.{line_view, lines_left, IsLeft};
 
-use crate::syntax::{Line, Section, Size, Statement};
+use crate::source::read_line;
+use crate::syntax::{Line, Section, Size, Statement, Unread};
 use crate::{AsmError, AsmKind};
-use std::alloc::{AllocError, Global};
+use std::alloc::Global;
 use std::cmp::max;
 
 /// How many bytes the local store has.
@@ -155,27 +157,34 @@ fn stepped(section: Section, at: u32, line: &Line) -> Result<u32, AsmError>
     }
 }
 
-/// The address of a section at each line, and after all lines.
-pub(crate) fn addresses(
-    alloc: Global,
-    section: Section,
-    start: u32,
-    lines: &[Line],
-) -> Result<Vec<u32>, AsmError>
-    requires at { start ≤ 262144 }
-    requires small { AllSmall lines.now }
-    ensures addresses { Shows (λ v. v.items) result (addresses section start (line_views lines.now)) }
-    ensures len { IfOk result (λ v. length v.items ≡ length lines.now + 1) }
-    ensures bound { IfOk result (λ v. All (λ n. n ≤ 262144) v.items) }
+/// Where the text ends.
+pub(crate) fn text_end(text: &[u8], lines: Unread<'_>) -> Result<u32, AsmError>
+    requires { IsLeft text.now lines }
+    ensures end { Shows (λ at. at) result (section_end Text 0 (lines_left text.now lines.entry)) }
+    ensures bound { IfOk result (λ at. at ≤ 262144) }
 {
-    let mut found = Vec::new(alloc);
-    let mut at = start;
-    for line in lines {
-        found.push(at)?;
-        at = stepped(section, at, line)?;
+    let mut at = 0;
+    let mut unread = lines;
+    while !unread.tokens.is_empty() {
+        let (line, others) = read_line(text, unread);
+        at = stepped(Section::Text, at, &line)?;
+        unread = others;
     }
-    found.push(at)?;
-    Ok(found)
+    Ok(at)
+}
+
+/// The addresses of text and of data after a line.
+fn both_stepped(text_at: u32, data_at: u32, line: &Line) -> Result<(u32, u32), AsmError>
+    requires text_at { text_at ≤ 262144 }
+    requires data_at { data_at ≤ 262144 }
+    requires small { IsSmall line.now.statement }
+    ensures stepped { result ≡ both_stepped text_at data_at (line_view line.now) }
+    ensures text_bound { IfOk result (λ x. x.0 ≤ 262144) }
+    ensures data_bound { IfOk result (λ x. x.1 ≤ 262144) }
+{
+    let text_next = stepped(Section::Text, text_at, line)?;
+    let data_next = stepped(Section::Data, data_at, line)?;
+    Ok((text_next, data_next))
 }
 
 fn present(section: Section, text_at: u32, data_at: u32) -> u32
@@ -187,24 +196,27 @@ fn present(section: Section, text_at: u32, data_at: u32) -> u32
     }
 }
 
-/// The place of each line.
+/// The place of each line, where the data begin at an address.
 pub(crate) fn places(
     alloc: Global,
-    lines: &[Line],
-    text_at: &[u32],
-    data_at: &[u32],
-) -> Result<Vec<u32>, AllocError>
-    requires text { length lines.now ≤ length text_at.now }
-    requires data_at { length lines.now ≤ length data_at.now }
-    requires text_bound { All (λ n. n ≤ 262144) text_at.now }
-    requires data_bound { All (λ n. n ≤ 262144) data_at.now }
-    ensures places { IfOk result (λ v. v.items ≡ places (line_views lines.now) text_at.now data_at.now) }
-    ensures len { IfOk result (λ v. length v.items ≡ length lines.now) }
+    text: &[u8],
+    lines: Unread<'_>,
+    start: u32,
+) -> Result<Vec<u32>, AsmError>
+    requires left { IsLeft text.now lines }
+    requires start { start ≤ 262144 }
+    ensures places { Shows (λ v. v.items) result (places_from 0 start (lines_left text.now lines.entry)) }
     ensures bound { IfOk result (λ v. All (λ n. n ≤ 262144) v.items) }
 {
     let mut found = Vec::new(alloc);
-    for k in 0..lines.len() {
-        found.push(present(lines[k].section, text_at[k], data_at[k]))?;
+    let mut text_at = 0;
+    let mut data_at = start;
+    let mut unread = lines;
+    while !unread.tokens.is_empty() {
+        let (line, others) = read_line(text, unread);
+        found.push(present(line.section, text_at, data_at))?;
+        (text_at, data_at) = both_stepped(text_at, data_at, &line)?;
+        unread = others;
     }
     Ok(found)
 }

@@ -1,13 +1,13 @@
 //! The assembler: a text in the language of SPU assemblers to an image of a local store.
 #![tactic(auto)]
 
-ghost use Rattle.std.specs.Prelude.{◌≡◌, ◌≤◌, ◌<◌, ◌%◌, length, IfOk};
+ghost use Rattle.std.specs.Prelude.{◌≡◌, ◌≤◌, ◌<◌, ◌%◌, ◌^◌, length, IfOk};
 ghost use Rattle.spu_lex.specs.Tokens.{tokens_of};
 ghost use Rattle.spu_asm.specs.Assembling.{assembled, lexed, laid_out, line_at, entry_of, FitsLines, IsAsLongAsItsLines};
 ghost use Rattle.spu_asm.specs.Outcomes.{Gives};
 ghost use Rattle.spu_asm.specs.ReadLines.{AllRead};
 ghost use Rattle.spu_asm.specs.Reading.{Within};
-ghost use Rattle.spu_asm.specs.Source.{source_view, line_views};
+ghost use Rattle.spu_asm.specs.Source.{source_view, lines_in};
 
 mod error;
 mod expressions;
@@ -33,12 +33,12 @@ mod values;
 
 pub use error::{AsmError, AsmKind};
 pub use image::Image;
-use layout::{addresses, next_multiple, places};
+use indexmap::IndexMap;
+use layout::{next_multiple, places, text_end};
 use sections::make_sections;
-use source::source_of;
-use spu_lex::{LexError, Tokens, lex};
+use source::{all_lines, labels_in};
+use spu_lex::{LexError, Token, Tokens, lex};
 use std::alloc::Global;
-use syntax::{Section, Source};
 use values::value_of_label;
 
 /// The image of a text, or the first faulty line of the first phase that has one.
@@ -50,8 +50,8 @@ pub fn assemble(alloc: Global, text: &[u8]) -> Result<Image, AsmError>
     ensures lengths { IfOk result (IsAsLongAsItsLines text.now) }
 {
     let tokens = tokens_in(alloc, text)?;
-    let source = source_of(alloc, text, tokens.items())?;
-    lay_out(alloc, text, &source)
+    let labels = labels_in(alloc, text, tokens.items())?;
+    lay_out(alloc, text, tokens.items(), &labels)
 }
 
 /// The tokens of a text, or its first fault by its line.
@@ -88,20 +88,25 @@ fn line_at(text: &[u8], at: u32) -> u32
     before.iter().filter(|b| **b == b'\n').count() as u32 + 1
 }
 
-/// The image of lines and labels, or the first fault of their places or bytes.
+/// The image of tokens and labels, or the first fault of the places or bytes of their lines.
 #[tactic(auto, unfolding(crate::specs::Assembling::laid_out))]
-fn lay_out(alloc: Global, text: &[u8], source: &Source) -> Result<Image, AsmError>
-    requires { AllRead text.now source.now.lines.items }
-    ensures image { Gives result (laid_out text.now (source_view source.now)) }
-    ensures lengths { IfOk result (FitsLines text.now (line_views source.now.lines.items)) }
+fn lay_out(
+    alloc: Global,
+    text: &[u8],
+    tokens: &[Token],
+    labels: &IndexMap<&[u8], u32>,
+) -> Result<Image, AsmError>
+    requires count { length tokens.now < 2 ^ 31 }
+    requires within { Within text.now tokens.now }
+    requires read { AllRead text.now (lines_in text.now tokens.now) }
+    ensures image { Gives result (laid_out text.now (source_view text.now tokens.now labels.now.entries)) }
+    ensures lengths { IfOk result (FitsLines text.now (lines_in text.now tokens.now)) }
 {
-    let lines = source.lines.as_slice();
-    let text_at = addresses(alloc, Section::Text, 0, lines)?;
-    let start = next_multiple(128, text_at[lines.len()]);
-    let data_at = addresses(alloc, Section::Data, start, lines)?;
-    let at = places(alloc, lines, &text_at, &data_at)?;
-    let made = make_sections(alloc, text, &source.labels, lines, &at)?;
-    let entry = entry(value_of_label(&source.labels, &at, b"_start"));
+    let lines = all_lines(tokens);
+    let start = next_multiple(128, text_end(text, lines)?);
+    let at = places(alloc, text, lines, start)?;
+    let made = make_sections(alloc, text, labels, lines, &at)?;
+    let entry = entry(value_of_label(labels, &at, b"_start"));
     Ok(Image {
         text: made.text,
         data_bytes: made.data_bytes,

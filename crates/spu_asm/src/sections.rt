@@ -5,12 +5,13 @@ ghost use Rattle.std.specs.List.{All};
 ghost use Rattle.spu_asm.specs.Assembling.{sections_of, sections_view, added_to};
 ghost use Rattle.spu_asm.specs.Encoding.{bytes_of};
 ghost use Rattle.spu_asm.specs.Outcomes.{on_line, Shows};
-ghost use Rattle.spu_asm.specs.ReadLines.{IsReadLine, AllRead};
-ghost use Rattle.spu_asm.specs.Source.{line_view, line_views, labels_view};
+ghost use Rattle.spu_asm.specs.ReadLines.{IsReadLine};
+ghost use Rattle.spu_asm.specs.Source.{line_view, lines_left, labels_view, IsLeft};
 
 use crate::AsmError;
 use crate::lines::line_bytes;
-use crate::syntax::{Line, Section, Sections};
+use crate::source::read_line;
+use crate::syntax::{Line, Section, Sections, Unread};
 use indexmap::IndexMap;
 use std::alloc::Global;
 
@@ -41,20 +42,23 @@ pub(crate) fn make_sections(
     alloc: Global,
     text: &[u8],
     labels: &IndexMap<&[u8], u32>,
-    lines: &[Line],
+    lines: Unread<'_>,
     places: &[u32],
 ) -> Result<Sections, AsmError>
-    requires read { AllRead text.now lines.now }
-    requires len { length places.now ≡ length lines.now }
+    requires left { IsLeft text.now lines }
+    requires len { length places.now ≡ length (lines_left text.now lines) }
     requires places { All (λ n. n ≤ 262144) places.now }
-    ensures { Shows sections_view result (sections_of text.now (labels_view labels.now.entries) places.now (line_views lines.now) places.now) }
+    ensures { Shows sections_view result (sections_of text.now (labels_view labels.now.entries) places.now (lines_left text.now lines.entry) places.now) }
 {
     let mut made = Sections {
         text: Vec::new(alloc),
         data_bytes: Vec::new(alloc),
     };
-    for k in 0..lines.len() {
-        push_line(alloc, &mut made, text, labels, places, places[k], &lines[k])?;
+    let mut unread = lines;
+    for at in places {
+        let (line, others) = read_line(text, unread);
+        push_line(alloc, &mut made, text, labels, places, *at, &line)?;
+        unread = others;
     }
     Ok(made)
 }

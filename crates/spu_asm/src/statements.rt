@@ -3,7 +3,7 @@
 ghost use Rattle.std.specs.Prelude.{◌≡◌, IfOk, IfSome, true, drop};
 ghost use Rattle.spu_asm.specs.Reading.{Within};
 ghost use Rattle.spu_asm.specs.ReadLines.{IsRead};
-ghost use Rattle.spu_asm.specs.Statements.{lone_number, is_allowed_in, argued, directed, operated, by_name, named, statement_of};
+ghost use Rattle.spu_asm.specs.Statements.{lone_number, is_allowed_in, argued, directed, operated, named, statement_of};
 
 use crate::AsmKind;
 use crate::expressions::number_only;
@@ -158,6 +158,7 @@ pub(crate) fn statement_of(
     }
 }
 
+/// The statement that a name begins. It is looked for among the mnemonics only where no directive has it.
 #[tactic(auto, unfolding(crate::specs::Statements::named))]
 fn named(
     text: &[u8],
@@ -169,34 +170,11 @@ fn named(
     ensures statement { result ≡ named text.now section name.now arguments.now }
     ensures read { IfOk result (λ s. IsRead text.now section s arguments.now) }
 {
-    by_name(
-        text,
-        section,
-        arguments,
-        directive_named(name),
-        mnemonic_named(name),
-    )
-}
-
-/// The statement that a name begins, by what the name is.
-fn by_name(
-    text: &[u8],
-    section: Section,
-    arguments: &[Token],
-    directive: Option<Directive>,
-    mnemonic: Option<Mnemonic>,
-) -> Result<Statement, AsmKind>
-    requires { Within text.now arguments.now }
-    ensures statement { result ≡ by_name text.now section arguments.now directive mnemonic }
-    ensures read { IfOk result (λ s. IsRead text.now section s arguments.now) }
-{
-    match (directive, mnemonic) {
-        (Some(directive), _) => {
-            directed(text, section, directive, arguments).ok_or(AsmKind::BadDirective)
-        }
-        (None, Some(mnemonic)) => {
-            operated(text, section, mnemonic, arguments).ok_or(AsmKind::BadOperand)
-        }
-        (None, None) => Err(AsmKind::UnknownName),
+    if let Some(directive) = directive_named(name) {
+        return directed(text, section, directive, arguments).ok_or(AsmKind::BadDirective);
+    }
+    match mnemonic_named(name) {
+        Some(mnemonic) => operated(text, section, mnemonic, arguments).ok_or(AsmKind::BadOperand),
+        None => Err(AsmKind::UnknownName),
     }
 }

@@ -1,6 +1,5 @@
 //! What lines say.
 
-use indexmap::IndexMap;
 use spu_decode::Row;
 use spu_lex::Token;
 
@@ -108,11 +107,12 @@ pub(crate) struct Line<'a> {
     pub arguments: &'a [Token],
 }
 
-/// The lines of a text, and the labels that they define with the numbers of their lines.
-#[derive(Drop)]
-pub(crate) struct Source<'a> {
-    pub lines: Vec<Line<'a>>,
-    pub labels: IndexMap<&'a [u8], u32>,
+/// The lines that are not read yet: the number and the section of the next, and the tokens from it on.
+#[derive(Clone, Copy)]
+pub(crate) struct Unread<'a> {
+    pub number: u32,
+    pub section: Section,
+    pub tokens: &'a [Token],
 }
 
 /// What a value has to be: from `low` to `high`, and a multiple of `step`.

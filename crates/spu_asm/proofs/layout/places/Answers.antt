@@ -1,22 +1,46 @@
-use Rattle.std.proofs.Common.{◌≤◌, ◌∷◌, [], get_or, arith}
-use Rattle.std.proofs.lemmas.List.{length-append}
+use Rattle.std.proofs.Common.{◌≤◌, ◌∷◌, ℕ, sym}
+use Rattle.std.specs.Global.{Vec}
+use Rattle.std.proofs.lemmas.Bool.{eqb-true}
 use Rattle.std.proofs.lemmas.List.Elements.{All-push}
-use Rattle.spu_asm.specs.Source.{line_views}
-use Rattle.spu_asm.specs.Layout.{places}
-use Rattle.spu_asm.proofs.LayoutLemmas.{place_next, place_last, present_bound, any_line}
+use Rattle.std.proofs.lemmas.Result.{err_from_is_err_and}
+use Rattle.spu_asm.specs.Layout.{places_from}
+use Rattle.spu_asm.specs.Source.{line_view, lines_left}
+use Rattle.spu_asm.proofs.LayoutLemmas.{Finds, goes_on, wrong, is_done, present_bound}
+use Rattle.spu_asm.proofs.OutcomeLemmas.{shows_err}
+use Rattle.spu_asm.proofs.SourceLemmas.{no_lines}
 use Rattle.spu_asm.proofs.layout.places.Goals as goal
 
-pub loop-k-preserved : goal.loop-k-preserved
-loop-k-preserved c =
-    let lines = c.args.lines.now in
-    let text_at = c.args.text_at.now in
-    let data_at = c.args.data_at.now in
-    let k = c.loop-k.k in
+pub returns-in_err-text_at-clause-places : goal.returns-in_err-text_at-clause-places
+returns-in_err-text_at-clause-places c =
+    let text = c.args.text.now in
+    let l = c.loop-unread in
+    let line = line_view c.read_line.result.0 in
+    let others = lines_left text c.read_line.result.1 in
+    let total = places_from 0 c.args.start (lines_left text c.args.lines) in
+    let e = c.in_err-text_at.field-0.0 in
+    let p = err_from_is_err_and c.from_residual-in_err-text_at.result c.from_residual-in_err-text_at.ensures.1 in
+    let here : Finds l.found.items l.text_at l.data_at (line ∷ others) total = rw c.read_line.ensures.line at l.invariant.finds in
+    rw (p.1, p.2) (shows_err (λ (v : Vec ℕ). v.items) e total (wrong l.found.items l.text_at l.data_at line others total here e (sym c.in_err-text_at.ensures.stepped)))
+
+pub loop-unread-preserved : goal.loop-unread-preserved
+loop-unread-preserved c =
+    let text = c.args.text.now in
+    let l = c.loop-unread in
+    let line = line_view c.read_line.result.0 in
+    let others = lines_left text c.read_line.result.1 in
+    let total = places_from 0 c.args.start (lines_left text c.args.lines) in
+    let here : Finds l.found.items l.text_at l.data_at (line ∷ others) total = rw c.read_line.ensures.line at l.invariant.finds in
+    let next : ℕ × ℕ = (c.in_ok-text_at.field-0-0, c.in_ok-text_at.field-0-1) in
     record {
-      so_far = rw (c.in_ok-push.ensures.items, c.present.ensures) (place_next c.loop-k.found.items lines text_at data_at k (places (line_views lines) text_at data_at) c.loop-k-test.true (omega arith) (omega arith) c.loop-k.invariant.so_far);
-      len = rw c.in_ok-push.ensures.items (omega (arith, length-append c.loop-k.found.items (c.present.result ∷ []), c.loop-k.invariant.len));
-      bound = rw c.in_ok-push.ensures.items (All-push (λ n. n ≤ 262144) c.loop-k.found.items c.present.result c.loop-k.invariant.bound (rw c.present.ensures (present_bound (get_or lines k any_line).section (get_or text_at k 0) (get_or data_at k 0) 262144 (c.requires.text_bound k 0 (omega arith)) (c.requires.data_bound k 0 (omega arith)))));
+      finds = rw (c.in_ok-push.ensures.items, c.present.ensures) (goes_on l.found.items l.text_at l.data_at line others total here next (sym c.in_ok-text_at.ensures.stepped));
+      bound = rw c.in_ok-push.ensures.items (All-push (λ n. n ≤ 262144) l.found.items c.present.result l.invariant.bound (rw c.present.ensures (present_bound line.section l.text_at l.data_at 262144 l.invariant.text_bound l.invariant.data_bound)));
+      text_bound = c.in_ok-text_at.ensures.text_bound;
+      data_bound = c.in_ok-text_at.ensures.data_bound;
+      left = c.read_line.ensures.left;
     }
 
 pub returns-clause-places : goal.returns-clause-places
-returns-clause-places c = place_last c.loop-k.found.items c.args.lines.now c.args.text_at.now c.args.data_at.now c.loop-k.k (places (line_views c.args.lines.now) c.args.text_at.now c.args.data_at.now) c.loop-k-test.false c.loop-k.invariant.so_far
+returns-clause-places c =
+    let text = c.args.text.now in
+    let l = c.loop-unread in
+    is_done l.found.items l.text_at l.data_at (lines_left text l.unread) (places_from 0 c.args.start (lines_left text c.args.lines)) (no_lines text l.unread.number l.unread.section l.unread.tokens.now (eqb-true _ _ (sym c.loop-unread-test.ensures))) l.invariant.finds
