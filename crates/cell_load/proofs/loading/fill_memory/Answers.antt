@@ -1,4 +1,4 @@
-use Rattle.std.proofs.Common.{◌≡◌, length, map, take, ap, arith}
+use Rattle.std.proofs.Common.{◌≡◌, map, take, ap, arith}
 use Rattle.std.specs.List.{filter_map}
 use Rattle.cell_machine.specs.Opening.{Opening}
 use Rattle.cell_machine.specs.Limits.{FitsMemory}
