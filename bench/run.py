@@ -2,9 +2,11 @@
 """Measures `cell`: python3 bench/run.py, from the repository's root, after `./cell` was built.
 
 Prints instructions per second of two loops of a million steps; steps per second of a whole run, file in
-and text out, with one and with eight processors; the greatest memory of the widest machine; and the time
-and the greatest memory that assembling three sources of 4 MB takes. Each figure is the best of five runs;
-the time of a run of one step is taken off that of the loops, so that starting the program isn't counted.
+and text out, with one and with eight processors; the greatest memory of the widest machine; steps per
+second of eight processors that transfer without a pause, and the time of one of their steps in runs of
+three lengths; and the time and the greatest memory that assembling three sources of 4 MB takes. Each
+figure is the best of five runs; the time of a run of one step is taken off that of the loops and of the
+transfers, so that starting the program isn't counted.
 """
 import os
 import subprocess
@@ -15,6 +17,7 @@ import time
 ROOT = os.path.dirname(os.path.dirname(os.path.abspath(__file__)))
 RUNS = 5
 STEPS = 1_000_000
+BUDGETS = (10_000, 100_000, STEPS)
 SOURCE_BYTES = 4_194_304
 
 
@@ -54,6 +57,16 @@ def whole_run(folder, source, spes, lines):
     took, most = measured(["run", machine_file(folder, source, STEPS, spes, lines)])
     print(f"{source} on {spes} processors with {lines} lines: {STEPS / took / 1e6:.1f} million steps a second; "
           f"{took:.2f} s and {most / 1024:.1f} MiB")
+
+
+def transfers(folder, source, spes, lines):
+    """Steps per second of transfers, and whether a step costs more when more steps were made before it."""
+    idle, _ = measured(["run", machine_file(folder, source, 1, spes, lines)])
+    for budget in BUDGETS:
+        took, most = measured(["run", machine_file(folder, source, budget, spes, lines)])
+        print(f"{source} on {spes} processors with {lines} lines: {1e9 * (took - idle) / budget:.0f} ns a step, "
+              f"{took:.3f} s and {most / 1024:.1f} MiB for {budget} steps")
+    print(f"{source} on {spes} processors with {lines} lines: {BUDGETS[-1] / (took - idle) / 1e6:.2f} million steps a second")
 
 
 def assembling(folder, title, lines):
@@ -97,6 +110,7 @@ def main():
         whole_run(folder, "bench/arithmetic.s", 1, 1)
         whole_run(folder, "bench/arithmetic.s", 8, 1)
         whole_run(folder, "bench/memory.s", 8, 32_768)
+        transfers(folder, "bench/transfer.s", 8, 128)
         assembling(folder, "65,536 instructions with labels and comments", commented())
         assembling(folder, "labels alone", short())
         assembling(folder, "line feeds alone", empty())

@@ -7,6 +7,8 @@ mod examples;
 mod fault;
 mod job;
 mod program;
+#[cfg(test)]
+mod queue_tests;
 mod reading;
 mod run;
 #[cfg(test)]

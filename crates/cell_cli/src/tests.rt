@@ -126,7 +126,7 @@ fn refusals() -> &'static [Refusal] {
 
 /// Where the outside fails: the number of a fetch, or the number of a put and how many bytes it still takes.
 #[derive(Clone, Copy)]
-enum Failing {
+pub(crate) enum Failing {
     Nothing,
     Fetch(u32),
     Put(Cut),
@@ -163,7 +163,7 @@ fn sink(alloc: Global, failing: Failing) -> Result<MemSink, Fail> {
 }
 
 /// The answer to a command, and what went out.
-fn told(
+pub(crate) fn told(
     alloc: Global,
     words: &str,
     machine: Vec<u8>,

@@ -108,16 +108,17 @@ fn put_lines(
     p: u8,
     status: Status,
     pc: u32,
+    queued: u32,
     registers: &[Quad],
 ) -> Result<(), AllocError>
     requires { length registers.now ≤ 128 }
-    ensures { OnOk result (out.new.items ≡ out.old.items ++ spe_lines p status pc 0 registers.now) }
+    ensures { OnOk result (out.new.items ≡ out.old.items ++ spe_lines p status pc queued registers.now) }
 {
     out.extend_from_slice(b"spe ")?;
     put_decimal(out, u32::from(p))?;
     out.push(b' ')?;
     put_status(out, status)?;
-    put_place(out, pc, 0)?;
+    put_place(out, pc, queued)?;
     put_registers(out, registers)?;
     Ok(())
 }
@@ -126,7 +127,7 @@ fn put_spe(out: &mut Vec<u8>, m: &Machine, p: u8) -> Result<(), AllocError>
     requires { p < length m.now.setup.entries }
     ensures { OnOk result (IsSomeAnd (spe_of m.now p) (λ P. out.new.items ≡ out.old.items ++ spe_text p P)) }
 {
-    put_lines(out, p, m.status(p), m.pc(p), m.registers(p))
+    put_lines(out, p, m.status(p), m.pc(p), m.queued(p), m.registers(p))
 }
 
 /// Writes the lines of all processors.
