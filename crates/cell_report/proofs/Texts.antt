@@ -11,6 +11,7 @@ use Rattle.cell_machine.specs.declared.setup.Show.{Show}
 use Rattle.cell_machine.specs.declared.setup.Show.TheVariants.{Memory, Local}
 use Rattle.cell_machine.specs.Spe.{Spe}
 use Rattle.cell_machine.specs.State.{State}
+use Rattle.cell_machine.specs.Moves.{outstanding}
 use Rattle.std.proofs.lemmas.List.{append-nil, nil_from_length, length-drop, take_more}
 use Rattle.std.proofs.lemmas.Grind.{flat_map-append}
 use Rattle.std.specs.Prelude.{take}
@@ -31,11 +32,11 @@ no_register out whole r i qs le so_far =
     sym (append-nil out) ∙ (rw none at so_far)
 
 -- the lines of a processor whose parts are these
-pub spe_written : (o : Option Spe) (status : Status) (pc : ℕ) (registers : List (List ℕ)) (out new : List ℕ) (p : ℕ)
-    → IsSomeAnd o (λ P. P.status ≡ status) → IsSomeAnd o (λ P. P.pc ≡ pc) → IsSomeAnd o (λ P. P.registers ≡ registers)
-    → new ≡ out ++ spe_lines p status pc 0 registers → IsSomeAnd o (λ P. new ≡ out ++ spe_text p P)
-spe_written None status pc registers out new p a b c wrote = absurd a
-spe_written (Some P) status pc registers out new p a b c wrote = rw (a, b, c) wrote
+pub spe_written : (o : Option Spe) (status : Status) (pc queued : ℕ) (registers : List (List ℕ)) (out new : List ℕ) (p : ℕ)
+    → IsSomeAnd o (λ P. P.status ≡ status) → IsSomeAnd o (λ P. P.pc ≡ pc) → IsSomeAnd o (λ P. queued ≡ length (outstanding P)) → IsSomeAnd o (λ P. P.registers ≡ registers)
+    → new ≡ out ++ spe_lines p status pc queued registers → IsSomeAnd o (λ P. new ≡ out ++ spe_text p P)
+spe_written None status pc queued registers out new p a b n c wrote = absurd a
+spe_written (Some P) status pc queued registers out new p a b n c wrote = rw (a, b, c, ← n) wrote
 
 -- the end word, the processors, the host and the ranges
 pub states_written : (o : Option State) (budget : ℕ) (end : Option End) (shows : List Show) (first second third new : List ℕ)
