@@ -1,6 +1,6 @@
 -- What a queue holds after one more call.
 use Rattle.std.proofs.Common.{◌≡◌, ◌≢◌, ℕ, zero, suc, ◌+◌, ◌*◌, ◌%◌, ◌<◌, ◌≤◌, ◌==◌, ◌||◌, ◌&&◌, not, Bool, true, false, List, [], ◌∷◌, ◌++◌, length, map, slice_index_or, slice_set, arith, refl, sym, ◌∙◌, ap, subst, length-append, append-nil, true≢false}
-use Rattle.std.specs.Prelude.{bit_or, ◌^◌, Option, Some, None, is_some, nat_lt, fold, filter, cond, All, slice_get, replicate, IfSome, IfNone}
+use Rattle.std.specs.Prelude.{bit_or, ◌^◌, Option, Some, None, is_some, nat_lt, fold, filter, cond, All, slice_get, IfSome, IfNone}
 use Rattle.std.specs.List.{list_any, list_all, range_with_len}
 use Rattle.std.proofs.lemmas.Bool.Decides.{nat_tests}
 use mathlib.Core.Path.{fun_ext}
@@ -9,9 +9,10 @@ use Rattle.mfc_command.specs.declared.command.Command.{Command}
 use Rattle.mfc_command.specs.Order.{goes_before, outstanding as outstanding_of}
 use Rattle.mfc_queue.specs.declared.Held.{Held}
 use Rattle.mfc_queue.specs.declared.Queue.{Queue}
+use Rattle.mfc_queue.specs.Sets.{has_part}
 use Rattle.mfc_queue.specs.Calls.{Call, Issue, SetParts, Mark, Retire, issued, is_retired, is_outstanding, outstanding, parts, is_marked, all_marked, may_begin, is_of_tag}
-use Rattle.mfc_queue.specs.Stands.{StandsFor, Holds, IsUnknown, IsOneOf, HasPart}
-use Rattle.std.proofs.lemmas.List.{get_or-set_same, get_or-set_other, get_or-replicate, length-set}
+use Rattle.mfc_queue.specs.Stands.{StandsFor, Holds, IsUnknown, IsOneOf, HasPart, Entry, entry, KnowsBefore}
+use Rattle.std.proofs.lemmas.List.{get_or-set_same, get_or-set_other, length-set}
 use Rattle.std.proofs.lemmas.List.Elements.{All-append, All-filter, filter-append}
 use Rattle.std.proofs.Math.Seq.{map-set_same}
 use Rattle.std.proofs.Math.ListN.{get_or-map, length-map}
@@ -53,10 +54,6 @@ first_of_both false b h = h
 second_of_both : (a b : Bool) → (a && b) ≡ true → b ≡ true
 second_of_both true b h = h
 second_of_both false b h = absurd (true≢false (sym h))
-
-not_of_not : (b : Bool) → not b ≡ true → b ≡ false
-not_of_not true h = absurd (true≢false (sym h))
-not_of_not false h = refl
 
 pub below-issued : (calls : List Call) (cmd : ℕ) → is_outstanding calls cmd ≡ true → cmd < length (issued calls)
 below-issued calls cmd h = let t : nat_lt cmd (length (issued calls)) ≡ true = first_of_both _ _ h in grind (arith, nat_tests)
@@ -115,20 +112,6 @@ pub command-at : (q : Queue) (calls : List Call) (i cmd : ℕ) (h : Held) → St
 command-at q calls i cmd h stands within at same =
     let e : h.cmd ≡ cmd = ap (λ (x : Held). x.cmd) at ∙ same h in
     subst (λ k. slice_get (issued calls) k ≡ Some h.command) e (held-at q calls i h stands within at).command
-
-pub part-small : (q : Queue) (cmd part i : ℕ) (h : Held) → HasPart q cmd part → i < length q.held.items → h ≡ slice_index_or q.held.items i h
-    → ((d : Held) → (slice_index_or q.held.items i d).cmd ≡ cmd) → h.parts ≤ 129 → part < 129
-part-small q cmd part i h has within at same few =
-    let e : h.cmd ≡ cmd = ap (λ (x : Held). x.cmd) at ∙ same h in
-    let holds = held-at q has.calls i h has.stands within at in
-    let p : parts has.calls cmd ≡ h.parts = subst (λ k. parts has.calls k ≡ h.parts) e holds.parts in
-    (let l = has.within in omega arith)
-
-pub done-at : (q : Queue) (calls : List Call) (i cmd k : ℕ) (h : Held) → StandsFor q calls → i < length q.held.items → h ≡ slice_index_or q.held.items i h
-    → ((d : Held) → (slice_index_or q.held.items i d).cmd ≡ cmd) → k < 129 → is_marked calls cmd k ≡ slice_index_or h.done k false
-done-at q calls i cmd k h stands within at same small =
-    let e : h.cmd ≡ cmd = ap (λ (x : Held). x.cmd) at ∙ same h in
-    subst (λ n. is_marked calls n k ≡ slice_index_or h.done k false) e ((held-at q calls i h stands within at).done k small)
 
 -- the numbers of a range that pass a test rise
 least : (t : ℕ → Bool) (a n i : ℕ) → i < length (filter t (range_with_len a n)) → a ≤ slice_index_or (filter t (range_with_len a n)) i 0
@@ -208,17 +191,20 @@ pub retired-issued : (calls : List Call) (c : Command) → is_retired (calls ++ 
 retired-issued calls c = fun_ext (λ k. retired-more calls (Issue c) k ∙ or_false (is_retired calls k))
 
 -- the commands held where one of them is rewritten
-pub stands-set : (q new : Queue) (calls calls2 : List Call) (i : ℕ) (h : Held) → StandsFor q calls → new.issued ≡ q.issued → new.held.items ≡ slice_set q.held.items i h → i < length q.held.items
+pub stands-set : (q new : Queue) (calls calls2 : List Call) (i : ℕ) (old h : Held) → StandsFor q calls → new.issued ≡ q.issued → new.held.items ≡ slice_set q.held.items i h → i < length q.held.items
     → ((d : Held) → (slice_index_or q.held.items i d).cmd ≡ h.cmd)
     → issued calls2 ≡ issued calls → is_retired calls2 ≡ is_retired calls
     → Holds calls2 h → ((g : Held) → g.cmd ≢ h.cmd → Holds calls g → Holds calls2 g) → ((k : ℕ) → k ≢ h.cmd → IsUnknown calls k → IsUnknown calls2 k) → h.cmd < length (issued calls)
+    → entry h ≡ entry (slice_index_or q.held.items i old) → new.before ≡ q.before
     → StandsFor new calls2
-stands-set q new calls calls2 i h stands same items within at issues retires holds others unknown there = record {
+stands-set q new calls calls2 i old h stands same items within at issues retires holds others unknown there alike sets = record {
   number = ap length issues ∙ stands.number ∙ sym same;
   numbers = ap (λ cs. outstanding_of (is_retired calls2) cs) issues ∙ ap (λ f. outstanding_of f (issued calls)) retires ∙ stands.numbers ∙ sym (map-set_same (λ (x : Held). x.cmd) q.held.items i h h (sym (at h))) ∙ ap (map (λ (x : Held). x.cmd)) (sym items);
   each = subst (All (Holds calls2)) (sym items) each;
   fresh = λ k past. unknown k (let l = ap length issues in omega arith) (stands.fresh k (let l = ap length issues in omega arith));
   many = let l = ap length items in let m = length-set q.held.items i h in let n = stands.many in omega arith;
+  before = subst (λ xs. All (KnowsBefore xs new.before) xs) (sym (ap (map entry) items ∙ map-set_same entry q.held.items i h old alike))
+      (subst (λ sets. All (KnowsBefore (map entry q.held.items) sets) (map entry q.held.items)) (sym sets) stands.before);
 }
   where
     each_at : (k : ℕ) (d : Held) (b : Bool) → (k == i) ≡ b → k < length q.held.items → Holds calls2 (slice_index_or (slice_set q.held.items i h) k d)
@@ -231,6 +217,12 @@ stands-set q new calls calls2 i h stands same items within at issues retires hol
     each : All (Holds calls2) (slice_set q.held.items i h)
     each k d l = each_at k d (k == i) refl (let m = length-set q.held.items i h in omega arith)
 
+entry-same : (g h : Held) → g.cmd ≡ h.cmd → g.place ≡ h.place → g.command ≡ h.command → entry g ≡ entry h
+entry-same g h as_cmd as_place as_command = fields g.cmd h.cmd g.place h.place g.command h.command as_cmd as_place as_command
+  where
+    fields : (a b p r : ℕ) (c d : Command) → a ≡ b → p ≡ r → c ≡ d → ◌≡◌ {A = Entry} (record { cmd = a; place = p; command = c }) (record { cmd = b; place = r; command = d })
+    fields a b p r c d e f g = cc
+
 not_same : (a b : ℕ) → a ≢ b → (b == a) ≡ false
 not_same a b h = grind (arith, nat_tests)
 
@@ -239,16 +231,16 @@ same_same a = grind (arith, nat_tests)
 
 pub stands-parts : (q new : Queue) (calls : List Call) (cmd n i : ℕ) (old h : Held) → StandsFor q calls → IsOneOf q cmd → new.issued ≡ q.issued → new.held.items ≡ slice_set q.held.items i h
     → i < length q.held.items → ((d : Held) → (slice_index_or q.held.items i d).cmd ≡ cmd) → old ≡ slice_index_or q.held.items i old
-    → h.cmd ≡ cmd → h.command ≡ old.command → h.parts ≡ n → h.done ≡ replicate 129 false
+    → h.cmd ≡ cmd → h.command ≡ old.command → h.parts ≡ n → ((k : ℕ) → has_part h.done.words k ≡ false) → h.place ≡ old.place → new.before ≡ q.before
     → StandsFor new (calls ++ SetParts cmd n ∷ [])
-stands-parts q new calls cmd n i old h stands one same items within at old_at is_cmd is_command is_parts none =
-    stands-set q new calls (calls ++ SetParts cmd n ∷ []) i h stands same items within (λ d. at d ∙ sym is_cmd) (issued-same calls cmd n) (retired-same calls cmd n)
+stands-parts q new calls cmd n i old h stands one same items within at old_at is_cmd is_command is_parts none as_place sets =
+    stands-set q new calls (calls ++ SetParts cmd n ∷ []) i old h stands same items within (λ d. at d ∙ sym is_cmd) (issued-same calls cmd n) (retired-same calls cmd n)
     (record {
       command = subst (λ k. slice_get (issued (calls ++ SetParts cmd n ∷ [])) k ≡ Some h.command) (sym is_cmd)
           (ap (λ cs. slice_get cs cmd) (issued-same calls cmd n) ∙ command-at q calls i cmd old stands within old_at at ∙ ap Some (sym is_command));
       parts = subst (λ k. parts (calls ++ SetParts cmd n ∷ []) k ≡ h.parts) (sym is_cmd) (parts-more calls (SetParts cmd n) cmd ∙ rw (same_same cmd) (sym is_parts));
-      done = λ k small. subst (λ j. is_marked (calls ++ SetParts cmd n ∷ []) j k ≡ slice_index_or h.done k false) (sym is_cmd)
-          (marked-more calls (SetParts cmd n) cmd k ∙ rw (same_same cmd) (sym (ap (λ xs. slice_index_or xs k false) none ∙ get_or-replicate 129 k false false small)));
+      done = λ k small. subst (λ j. is_marked (calls ++ SetParts cmd n ∷ []) j k ≡ has_part h.done.words k) (sym is_cmd)
+          (marked-more calls (SetParts cmd n) cmd k ∙ rw (same_same cmd) (sym (none k)));
     })
     (λ g differs holds. let off : (cmd == g.cmd) ≡ false = not_same g.cmd cmd (λ e. differs (e ∙ sym is_cmd)) in record {
       command = ap (λ cs. slice_get cs g.cmd) (issued-same calls cmd n) ∙ holds.command;
@@ -261,37 +253,27 @@ stands-parts q new calls cmd n i old h stands one same items within at old_at is
       marked = λ j. marked-more calls (SetParts cmd n) k j ∙ rw off (unknown.marked j);
     })
     (rw is_cmd (one-below q calls cmd stands one))
+    (entry-same h old (is_cmd ∙ sym (ap (λ (x : Held). x.cmd) old_at ∙ at old)) as_place is_command ∙ ap entry old_at) sets
   where
     one-below : (q : Queue) (calls : List Call) (cmd : ℕ) → StandsFor q calls → IsOneOf q cmd → cmd < length (issued calls)
     one-below q calls cmd stands one = let l = below-issued one.calls cmd one.outstanding in let e = one.stands.number in let f = stands.number in omega arith
 
-set-done : (xs : List Bool) (part k : ℕ) (x : Bool) → part < length xs → x ≡ slice_index_or xs k false → (x || (part == k)) ≡ slice_index_or (slice_set xs part true) k false
-set-done xs part k x within at = on (part == k) refl
-  where
-    on : (b : Bool) → (part == k) ≡ b → (x || b) ≡ slice_index_or (slice_set xs part true) k false
-    on true e = let same : part ≡ k = grind (arith, nat_tests) in or_true x ∙ sym (subst (λ j. slice_index_or (slice_set xs part true) j false ≡ true) same (get_or-set_same xs part true false within))
-      where
-        or_true : (b : Bool) → (b || true) ≡ true
-        or_true true = refl
-        or_true false = refl
-    on false e = let apart : k ≢ part = grind (arith, nat_tests) in or_false x ∙ at ∙ sym (get_or-set_other xs part k true false apart)
-
 pub stands-mark : (q new : Queue) (calls : List Call) (cmd part i : ℕ) (old h : Held) → StandsFor q calls → HasPart q cmd part → new.issued ≡ q.issued → new.held.items ≡ slice_set q.held.items i h
     → i < length q.held.items → ((d : Held) → (slice_index_or q.held.items i d).cmd ≡ cmd) → old ≡ slice_index_or q.held.items i old
-    → h.cmd ≡ old.cmd → h.command ≡ old.command → h.parts ≡ old.parts → h.done ≡ slice_set old.done part true → part < length old.done
+    → h.cmd ≡ old.cmd → h.command ≡ old.command → h.parts ≡ old.parts → ((k : ℕ) → has_part h.done.words k ≡ (has_part old.done.words k || part == k)) → h.place ≡ old.place → new.before ≡ q.before
     → StandsFor new (calls ++ Mark cmd part ∷ [])
-stands-mark q new calls cmd part i old h stands has same items within at old_at as_cmd is_command is_parts marks small =
+stands-mark q new calls cmd part i old h stands has same items within at old_at as_cmd is_command is_parts marks as_place sets =
     let is_cmd : h.cmd ≡ cmd = as_cmd ∙ ap (λ (x : Held). x.cmd) old_at ∙ at old in
     let was_cmd : old.cmd ≡ cmd = ap (λ (x : Held). x.cmd) old_at ∙ at old in
     let was : Holds calls old = held-at q calls i old stands within old_at in
-    stands-set q new calls (calls ++ Mark cmd part ∷ []) i h stands same items within (λ d. at d ∙ sym is_cmd) (issued-marked calls cmd part) (retired-marked calls cmd part)
+    stands-set q new calls (calls ++ Mark cmd part ∷ []) i old h stands same items within (λ d. at d ∙ sym is_cmd) (issued-marked calls cmd part) (retired-marked calls cmd part)
     (record {
       command = subst (λ k. slice_get (issued (calls ++ Mark cmd part ∷ [])) k ≡ Some h.command) (sym is_cmd)
           (ap (λ cs. slice_get cs cmd) (issued-marked calls cmd part) ∙ command-at q calls i cmd old stands within old_at at ∙ ap Some (sym is_command));
       parts = parts-more calls (Mark cmd part) h.cmd ∙ ap (parts calls) as_cmd ∙ was.parts ∙ sym is_parts;
-      done = λ k low. subst (λ j. is_marked (calls ++ Mark cmd part ∷ []) j k ≡ slice_index_or h.done k false) (sym is_cmd)
+      done = λ k low. subst (λ j. is_marked (calls ++ Mark cmd part ∷ []) j k ≡ has_part h.done.words k) (sym is_cmd)
           (marked-more calls (Mark cmd part) cmd k ∙ rw (same_same cmd)
-          (set-done old.done part k (is_marked calls cmd k) small (subst (λ j. is_marked calls j k ≡ slice_index_or old.done k false) was_cmd (was.done k low)) ∙ ap (λ xs. slice_index_or xs k false) (sym marks)));
+          (ap (λ b. b || part == k) (subst (λ j. is_marked calls j k ≡ has_part old.done.words k) was_cmd (was.done k low)) ∙ sym (marks k)));
     })
     (λ g differs holds. let off : (cmd == g.cmd) ≡ false = not_same g.cmd cmd (λ e. differs (e ∙ sym is_cmd)) in record {
       command = ap (λ cs. slice_get cs g.cmd) (issued-marked calls cmd part) ∙ holds.command;
@@ -304,17 +286,18 @@ stands-mark q new calls cmd part i old h stands has same items within at old_at 
       marked = λ j. marked-more calls (Mark cmd part) k j ∙ rw off (or_false (is_marked calls k j) ∙ unknown.marked j);
     })
     (rw is_cmd (let l = below-issued has.calls cmd has.outstanding in let e = has.stands.number in let f = stands.number in omega arith))
+    (entry-same h old as_cmd as_place is_command ∙ ap entry old_at) sets
 
 all-agree : (p r : ℕ → Bool) (a n : ℕ) → ((k : ℕ) → k < a + n → p k ≡ r k) → list_all p (range_with_len a n) ≡ list_all r (range_with_len a n)
 all-agree p r a zero h = refl
 all-agree p r a (suc n) h = rw (h a (omega arith)) (ap (λ b. r a && b) (all-agree p r (a + 1) n (λ k l. h k (omega arith))))
 
 pub all-marked : (q : Queue) (calls : List Call) (cmd i : ℕ) (h : Held) → StandsFor q calls → i < length q.held.items → h ≡ slice_index_or q.held.items i h → ((d : Held) → (slice_index_or q.held.items i d).cmd ≡ cmd)
-    → h.parts ≤ 129 → list_all (λ k. slice_index_or h.done k false) (range_with_len 0 h.parts) ≡ all_marked calls cmd
+    → h.parts ≤ 129 → list_all (λ k. has_part h.done.words k) (range_with_len 0 h.parts) ≡ all_marked calls cmd
 all-marked q calls cmd i h stands within at same few =
     let e : h.cmd ≡ cmd = ap (λ (x : Held). x.cmd) at ∙ same h in
     let holds : Holds calls h = held-at q calls i h stands within at in
-    all-agree (λ k. slice_index_or h.done k false) (is_marked calls cmd) 0 h.parts (λ k l. subst (λ j. slice_index_or h.done k false ≡ is_marked calls j k) e (sym (holds.done k (omega arith))))
+    all-agree (λ k. has_part h.done.words k) (is_marked calls cmd) 0 h.parts (λ k l. subst (λ j. has_part h.done.words k ≡ is_marked calls j k) e (sym (holds.done k (omega arith))))
     ∙ ap (λ n. list_all (is_marked calls cmd) (range_with_len 0 n)) (sym holds.parts ∙ ap (parts calls) e)
 
 -- a filter after a filter, and of what f makes of each
@@ -355,8 +338,8 @@ outstanding-retired calls cmd =
     ∙ sym (filter-both (λ c. not (is_retired calls c)) (λ k. not (cmd == k)) (range_with_len 0 (length (issued calls))))
 
 pub stands-retire : (q new : Queue) (calls : List Call) (cmd : ℕ) → StandsFor q calls → IsOneOf q cmd → new.issued ≡ q.issued → new.held.items ≡ filter (λ h. not (cmd == h.cmd)) q.held.items
-    → StandsFor new (calls ++ Retire cmd ∷ [])
-stands-retire q new calls cmd stands one same items = record {
+    → All (KnowsBefore (map entry new.held.items) new.before) (map entry new.held.items) → StandsFor new (calls ++ Retire cmd ∷ [])
+stands-retire q new calls cmd stands one same items before = record {
   number = ap length (issued-retired calls cmd) ∙ stands.number ∙ sym same;
   numbers = outstanding-retired calls cmd ∙ ap (filter (λ k. not (cmd == k))) stands.numbers ∙ sym (filter-numbers (λ k. not (cmd == k)) q.held.items) ∙ ap (map (λ (h : Held). h.cmd)) (sym items);
   each = subst (All (Holds (calls ++ Retire cmd ∷ []))) (sym items) (λ k d l. still (slice_index_or (filter (λ h. not (cmd == h.cmd)) q.held.items) k d) (All-filter (λ h. not (cmd == h.cmd)) (Holds calls) q.held.items stands.each k d l));
@@ -371,6 +354,7 @@ stands-retire q new calls cmd stands one same items = record {
         marked = λ j. marked-more calls (Retire cmd) k j ∙ unknown.marked j;
       };
   many = let l = ap length items in let m = filter-shorter (λ (h : Held). not (cmd == h.cmd)) q.held.items in let n = stands.many in omega arith;
+  before = before;
 }
   where
     still : (g : Held) → Holds calls g → Holds (calls ++ Retire cmd ∷ []) g
@@ -388,6 +372,7 @@ stands-new q none empty = record {
   each = λ k d l. absurd (let e = ap length empty in omega arith);
   fresh = λ k l. record { retired = refl; parts = refl; marked = λ j. refl };
   many = let e = ap length empty in omega arith;
+  before = subst (λ xs. All (KnowsBefore (map entry xs) q.before) (map entry xs)) (sym empty) (λ k d l. absurd (omega arith));
 }
 
 range-push : (a n : ℕ) → range_with_len a (n + 1) ≡ range_with_len a n ++ (a + n) ∷ []
@@ -422,8 +407,9 @@ all-one P x p zero d l = p
 all-one P x p (suc k) d l = absurd (omega arith)
 
 pub stands-issue : (q new : Queue) (calls : List Call) (c : Command) (h : Held) → StandsFor q calls → new.issued ≡ q.issued + 1 → new.held.items ≡ q.held.items ++ h ∷ [] → length q.held.items < 16
-    → h.cmd ≡ q.issued → h.command ≡ c → h.parts ≡ 0 → h.done ≡ replicate 129 false → StandsFor new (calls ++ Issue c ∷ [])
-stands-issue q new calls c h stands more items less is_cmd is_command is_parts none =
+    → h.cmd ≡ q.issued → h.command ≡ c → h.parts ≡ 0 → ((k : ℕ) → has_part h.done.words k ≡ false) → All (KnowsBefore (map entry new.held.items) new.before) (map entry new.held.items)
+    → StandsFor new (calls ++ Issue c ∷ [])
+stands-issue q new calls c h stands more items less is_cmd is_command is_parts none before =
     let unknown : IsUnknown calls (length (issued calls)) = stands.fresh (length (issued calls)) (omega arith) in
     let is_last : h.cmd ≡ length (issued calls) = is_cmd ∙ sym stands.number in
     record {
@@ -435,7 +421,7 @@ stands-issue q new calls c h stands more items less is_cmd is_command is_parts n
           (all-one (Holds (calls ++ Issue c ∷ [])) h (record {
             command = rw is_last (ap (λ cs. slice_get cs (length (issued calls))) (issued-issued calls c) ∙ get-last (issued calls) c ∙ ap Some (sym is_command));
             parts = parts-more calls (Issue c) h.cmd ∙ ap (parts calls) is_last ∙ unknown.parts ∙ sym is_parts;
-            done = λ k low. marked-more calls (Issue c) h.cmd k ∙ ap (λ n. is_marked calls n k) is_last ∙ unknown.marked k ∙ sym (ap (λ xs. slice_index_or xs k false) none ∙ get_or-replicate 129 k false false low);
+            done = λ k low. marked-more calls (Issue c) h.cmd k ∙ ap (λ n. is_marked calls n k) is_last ∙ unknown.marked k ∙ sym (none k);
           })));
       fresh = λ k past.
           let old : IsUnknown calls k = stands.fresh k (let l = ap length (issued-issued calls c) in let m = length-append (issued calls) (c ∷ []) in omega arith) in
@@ -445,6 +431,7 @@ stands-issue q new calls c h stands more items less is_cmd is_command is_parts n
             marked = λ j. marked-more calls (Issue c) k j ∙ old.marked j;
           };
       many = let l = ap length items in let m = length-append q.held.items (h ∷ []) in omega arith;
+      before = before;
     }
   where
     still : (g : Held) → Holds calls g → Holds (calls ++ Issue c ∷ []) g

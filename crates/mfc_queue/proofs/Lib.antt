@@ -1,4 +1,6 @@
 mod CallLaws
 mod Walks
+mod SetLemmas
 mod Holding
 mod PlaceLemmas
+mod Before

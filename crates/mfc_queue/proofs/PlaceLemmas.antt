@@ -1,6 +1,6 @@
 -- The places that are taken and those that are vacant.
 use Rattle.std.proofs.Common.{◌≡◌, ◌≢◌, ℕ, zero, suc, ◌+◌, ◌<◌, ◌≤◌, ◌==◌, Bool, true, false, List, [], ◌∷◌, ◌++◌, length, map, slice_index_or, slice_set, arith, refl, sym, ◌∙◌, ap, subst, length-append}
-use Rattle.std.specs.Prelude.{find, Option, Some, None, nat_lt, cond, filter, not, slice_get, remove}
+use Rattle.std.specs.Prelude.{find, Option, Some, None, nat_lt, cond, filter, not, slice_get, remove, All}
 use Rattle.std.specs.List.{range_with_len}
 use Rattle.std.specs.Option.{option_map}
 use Rattle.std.proofs.lemmas.Bool.Decides.{nat_tests}
@@ -54,12 +54,15 @@ times-within p a (suc n) low high = on (a == p) refl (λ l h. times-within p (a 
         omega arith
 
 -- all places are vacant at the start
-pub all-vacant : ArePlaces [] (range_with_len 0 16)
+all-vacant : ArePlaces [] (range_with_len 0 16)
 all-vacant = record { each = λ p. on p (nat_lt p 16) refl; many = refl }
   where
     on : (p : ℕ) (b : Bool) → nat_lt p 16 ≡ b → times p [] + times p (range_with_len 0 16) ≡ one_if b
     on p true e = let low : p < 16 = grind (arith, nat_tests) in let t = times-within p 0 16 (omega arith) (omega arith) in omega arith
     on p false e = let high : 16 ≤ p = grind (arith, nat_tests) in let t = times-above p 0 16 (omega arith) in omega arith
+
+pub places-new : (held : List Held) (vacant : List ℕ) → held ≡ [] → vacant ≡ range_with_len 0 16 → ArePlaces (map (λ x. x.place) held) vacant
+places-new held vacant none all = subst (λ ps. ArePlaces (map (λ (x : Held). x.place) held) ps) (sym all) (subst (λ xs. ArePlaces (map (λ (x : Held). x.place) xs) (range_with_len 0 16)) (sym none) all-vacant)
 
 -- a vacant place is taken
 pub places-taken : (taken old new : List ℕ) (p : ℕ) → ArePlaces taken old → old ≡ new ++ p ∷ [] → ArePlaces (taken ++ p ∷ []) new
@@ -107,7 +110,7 @@ pub places-set : (held : List Held) (i : ℕ) (h : Held) → i < length held →
 places-set held i h within at = map-set_same (λ (x : Held). x.place) held i h h (sym (at h))
 
 -- a place that is taken is one of the sixteen
-held-times : (xs : List Held) (i : ℕ) (h : Held) → i < length xs → h ≡ slice_index_or xs i h → 1 ≤ times h.place (map (λ x. x.place) xs)
+pub held-times : (xs : List Held) (i : ℕ) (h : Held) → i < length xs → h ≡ slice_index_or xs i h → 1 ≤ times h.place (map (λ x. x.place) xs)
 held-times xs i h within at =
     let e = times-remove h.place xs i h within at in
     let same : (h.place == h.place) ≡ true = grind (arith, nat_tests) in
@@ -145,7 +148,7 @@ found-times (x ∷ xs) cmd h is = on (x.cmd == cmd) refl (found-times xs cmd h)
         omega arith
     on false e rest = let f : find (λ x. x.cmd == cmd) xs ≡ Some h = rw e at is in let more = rest f in omega arith
 
-clash : (x : Held) (xs : List Held) (y z : Held) → x ≡ y → y.place ≡ z.place → 1 ≤ times z.place (map (λ x. x.place) xs) → times z.place (map (λ x. x.place) (x ∷ xs)) ≤ 1 → ⊥
+pub clash : (x : Held) (xs : List Held) (y z : Held) → x ≡ y → y.place ≡ z.place → 1 ≤ times z.place (map (λ x. x.place) xs) → times z.place (map (λ x. x.place) (x ∷ xs)) ≤ 1 → ⊥
 clash x xs y z is eq one most =
     let e : x.place ≡ z.place = ap (λ (v : Held). v.place) is ∙ eq in
     let same : (x.place == z.place) ≡ true = grind (arith, nat_tests) in
@@ -268,3 +271,55 @@ places-issued held new old vacant h are is was =
 pub room : (held : List Held) (old vacant : List ℕ) (p : ℕ) → ArePlaces (map (λ x. x.place) held) old → old ≡ vacant ++ p ∷ [] → length held < 16
 room held old vacant p are was =
     let e = are.many in let f = ap length was in let g = length-append vacant (p ∷ []) in let h = places-long held in omega arith
+
+pub index-any : (xs : List Held) (i : ℕ) (d e : Held) → i < length xs → slice_index_or xs i d ≡ slice_index_or xs i e
+index-any [] i d e h = absurd (omega arith)
+index-any (x ∷ xs) zero d e h = refl
+index-any (x ∷ xs) (suc i) d e h = index-any xs i d e (omega arith)
+
+-- each place is one of the sixteen
+pub all-small : (held : List Held) (vacant : List ℕ) → ArePlaces (map (λ x. x.place) held) vacant → All (λ x. x.place < 16) held
+all-small held vacant are k d l = place-small held vacant k (slice_index_or held k d) are l (index-any held k d (slice_index_or held k d) l)
+
+at-most-one : (b : Bool) → one_if b ≤ 1
+at-most-one true = omega arith
+at-most-one false = omega arith
+
+-- a place that was vacant is nobody's
+pub not-taken : (held : List Held) (old vacant : List ℕ) (p : ℕ) → ArePlaces (map (λ x. x.place) held) old → old ≡ vacant ++ p ∷ [] → (p < 16) × All (λ x. x.place ≢ p) held
+not-taken held old vacant p are is = (small, other)
+  where
+    taken : times p (map (λ (x : Held). x.place) held) + times p vacant + 1 ≡ one_if (nat_lt p 16)
+    taken =
+        let sum = are.each p in
+        let f = ap (times p) is in
+        let g = times-append p vacant (p ∷ []) in
+        let same : (p == p) ≡ true = grind (arith, nat_tests) in
+        let one = one-on (p == p) same in
+        omega arith
+
+    small : p < 16
+    small = on (nat_lt p 16) refl taken
+      where
+        on : (b : Bool) → nat_lt p 16 ≡ b → times p (map (λ (x : Held). x.place) held) + times p vacant + 1 ≡ one_if b → p < 16
+        on true e t = grind (arith, nat_tests)
+        on false e t = absurd (omega arith)
+
+    other : All (λ (x : Held). x.place ≢ p) held
+    other k d l same =
+        let many = held-times held k (slice_index_or held k d) l (index-any held k d (slice_index_or held k d) l) in
+        let at = ap (λ n. times n (map (λ (x : Held). x.place) held)) same in
+        let sum = taken in
+        let most = at-most-one (nat_lt p 16) in
+        omega arith
+
+-- two commands have two places
+pub places-apart : (xs : List Held) (i j : ℕ) (d : Held) → ((p : ℕ) → times p (map (λ x. x.place) xs) ≤ 1) → i < length xs → j < length xs → i ≢ j → (slice_index_or xs i d).place ≢ (slice_index_or xs j d).place
+places-apart [] i j d once wi wj differ same = absurd (omega arith)
+places-apart (x ∷ xs) zero zero d once wi wj differ same = differ refl
+places-apart (x ∷ xs) zero (suc j) d once wi wj differ same =
+    clash x xs x (slice_index_or xs j d) refl same (held-times xs j (slice_index_or xs j d) (omega arith) (index-any xs j d (slice_index_or xs j d) (omega arith))) (once (slice_index_or xs j d).place)
+places-apart (x ∷ xs) (suc i) zero d once wi wj differ same =
+    clash x xs x (slice_index_or xs i d) refl (sym same) (held-times xs i (slice_index_or xs i d) (omega arith) (index-any xs i d (slice_index_or xs i d) (omega arith))) (once (slice_index_or xs i d).place)
+places-apart (x ∷ xs) (suc i) (suc j) d once wi wj differ same =
+    places-apart xs i j d (λ p. let most = once p in omega arith) (omega arith) (omega arith) (λ e. differ (ap suc e)) same

@@ -1,8 +1,8 @@
 -- Walks over the commands that a queue holds.
-use Rattle.std.proofs.Common.{◌≡◌, ℕ, zero, suc, ◌+◌, ◌-◌, ◌<◌, ◌≤◌, Bool, true, false, List, [], ◌∷◌, length, map, drop, slice_index_or, arith, refl, sym, ◌∙◌, ap}
-use Rattle.std.specs.Prelude.{find, Some, None, slice_get}
+use Rattle.std.proofs.Common.{◌≡◌, ℕ, zero, suc, ◌+◌, ◌<◌, ◌≤◌, Bool, true, false, List, [], ◌∷◌, length, map, drop, slice_index_or, arith, refl, sym, ◌∙◌, ap}
+use Rattle.std.specs.Prelude.{find, Some, slice_get}
 use Rattle.std.proofs.lemmas.Option.{slice_get_read}
-use Rattle.std.specs.List.{list_any, list_all, range_with_len}
+use Rattle.std.specs.List.{list_any}
 use Rattle.mfc_queue.specs.declared.Held.{Held}
 
 -- the numbers of those from place i on
@@ -20,12 +20,6 @@ numbers-end [] (suc i) h = refl
 numbers-end (g ∷ held) zero h = absurd (omega arith)
 numbers-end (g ∷ held) (suc i) h = numbers-end held i (omega arith)
 
-pub range-on : (a n : ℕ) → a < n → range_with_len a (n - a) ≡ a ∷ range_with_len (a + 1) (n - (a + 1))
-range-on a n h = let e : n - a ≡ suc (n - (a + 1)) = omega arith in rw e refl
-
-pub range-end : (a n : ℕ) → n ≤ a → range_with_len a (n - a) ≡ []
-range-end a n h = let e : n - a ≡ 0 = omega arith in rw e refl
-
 -- a test of the rest, where its first element passes, or fails
 pub any-skip : {X : Type 0} (p : X → Bool) (x : X) (all rest rest2 : List X) → list_any p all ≡ list_any p rest → rest ≡ x ∷ rest2 → p x ≡ false → list_any p all ≡ list_any p rest2
 any-skip p x all rest rest2 h e off = h ∙ ap (list_any p) e ∙ rw off refl
@@ -36,35 +30,14 @@ any-found p x all rest rest2 h e on = h ∙ ap (list_any p) e ∙ rw on refl
 pub any-end : {X : Type 0} (p : X → Bool) (all rest : List X) → list_any p all ≡ list_any p rest → rest ≡ [] → list_any p all ≡ false
 any-end p all rest h e = h ∙ ap (list_any p) e
 
-pub all-skip : {X : Type 0} (p : X → Bool) (x : X) (all rest rest2 : List X) → list_all p all ≡ list_all p rest → rest ≡ x ∷ rest2 → p x ≡ true → list_all p all ≡ list_all p rest2
-all-skip p x all rest rest2 h e on = h ∙ ap (list_all p) e ∙ rw on refl
-
-pub all-found : {X : Type 0} (p : X → Bool) (x : X) (all rest rest2 : List X) → list_all p all ≡ list_all p rest → rest ≡ x ∷ rest2 → p x ≡ false → list_all p all ≡ false
-all-found p x all rest rest2 h e off = h ∙ ap (list_all p) e ∙ rw off refl
-
-pub all-end : {X : Type 0} (p : X → Bool) (all rest : List X) → list_all p all ≡ list_all p rest → rest ≡ [] → list_all p all ≡ true
-all-end p all rest h e = h ∙ ap (list_all p) e
-
-pub find-skip : {X : Type 0} (p : X → Bool) (x : X) (all rest rest2 : List X) → find p all ≡ find p rest → rest ≡ x ∷ rest2 → p x ≡ false → find p all ≡ find p rest2
-find-skip p x all rest rest2 h e off = h ∙ ap (find p) e ∙ rw off refl
-
 pub find-found : {X : Type 0} (p : X → Bool) (x : X) (all rest rest2 : List X) → find p all ≡ find p rest → rest ≡ x ∷ rest2 → p x ≡ true → find p all ≡ Some x
 find-found p x all rest rest2 h e on = h ∙ ap (find p) e ∙ rw on refl
-
-pub find-end : {X : Type 0} (p : X → Bool) (all rest : List X) → find p all ≡ find p rest → rest ≡ [] → find p all ≡ None
-find-end p all rest h e = h ∙ ap (find p) e
 
 -- what is held from place i on
 pub held-on : (held : List Held) (i : ℕ) (h : Held) → i < length held → h ≡ slice_index_or held i h → drop i held ≡ h ∷ drop (i + 1) held
 held-on [] i h within at = absurd (omega arith)
 held-on (g ∷ held) zero h within at = ap (λ (x : Held). x ∷ held) (sym at)
 held-on (g ∷ held) (suc i) h within at = let e : suc i + 1 ≡ suc (i + 1) = omega arith in held-on held i h (omega arith) at ∙ ap (λ k. h ∷ drop k (g ∷ held)) (sym e)
-
-pub held-end : (held : List Held) (i : ℕ) → length held ≤ i → drop i held ≡ []
-held-end [] zero h = refl
-held-end [] (suc i) h = refl
-held-end (g ∷ held) zero h = absurd (omega arith)
-held-end (g ∷ held) (suc i) h = held-end held i (omega arith)
 
 pub get-at : (held : List Held) (i : ℕ) (h : Held) → i < length held → h ≡ slice_index_or held i h → slice_get held i ≡ Some h
 get-at held i h within at = slice_get_read held (length held) i h refl within at

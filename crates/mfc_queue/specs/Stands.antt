@@ -1,21 +1,43 @@
 -- What a queue stands for.
-use Rattle.std.specs.Prelude.{◌≡◌, ◌≢◌, ℕ, ◌<◌, ◌≤◌, true, false, List, Option, Some, find, ◌==◌, All, map, length, slice_get, slice_index_or}
+use Rattle.std.specs.Prelude.{◌≡◌, ◌≢◌, ℕ, ◌<◌, ◌≤◌, ◌&&◌, nat_lt, Bool, true, false, List, Option, Some, find, ◌==◌, All, map, length, slice_get, slice_index_or}
+use Rattle.std.specs.List.{list_any}
 use Rattle.std.specs.Option.{option_map}
 use Rattle.mfc_queue.specs.declared.Queue.{Queue}
 use Rattle.mfc_queue.specs.declared.Held.{Held}
+use Rattle.mfc_queue.specs.declared.place_set.PlaceSet.{PlaceSet}
+use Rattle.mfc_command.specs.declared.command.Command.{Command}
+use Rattle.mfc_command.specs.Order.{precedes}
+use Rattle.mfc_queue.specs.Sets.{has_bit, has_part}
 use Rattle.mfc_queue.specs.Calls.{Call, issued, is_retired, is_outstanding, outstanding, parts, is_marked}
 
 -- the command of this number, its parts, and those done
 pub record Holds (calls : List Call) (h : Held) : Type 0 where
   pub command : slice_get (issued calls) h.cmd ≡ Some h.command
   pub parts : parts calls h.cmd ≡ h.parts
-  pub done : (k : ℕ) → k < 129 → is_marked calls h.cmd k ≡ slice_index_or h.done k false
+  pub done : (k : ℕ) → k < 129 → is_marked calls h.cmd k ≡ has_part h.done.words k
 
 -- no call spoke of a command of this number
 pub record IsUnknown (calls : List Call) (cmd : ℕ) : Type 0 where
   pub retired : is_retired calls cmd ≡ false
   pub parts : parts calls cmd ≡ 0
   pub marked : (k : ℕ) → is_marked calls cmd k ≡ false
+
+-- what of a held command says which others it goes before
+pub record Entry : Type 0 where
+  pub cmd : ℕ
+  pub place : ℕ
+  pub command : Command
+
+abbrev pub entry : Held → Entry
+entry h = record { cmd = h.cmd; place = h.place; command = h.command }
+
+-- whether g has the place, was issued before e, and goes before it
+abbrev pub goes_at : ℕ → Entry → Entry → Bool
+goes_at place e g = g.place == place && (nat_lt g.cmd e.cmd && precedes g.command e.command)
+
+-- the set of e's place has the places of the earlier ones that go before e
+abbrev pub KnowsBefore : List Entry → List PlaceSet → Entry → Type 0
+KnowsBefore entries sets e = (place : ℕ) (d : PlaceSet) → place < 16 → has_bit (slice_index_or sets e.place d).bits place ≡ list_any (goes_at place e) entries
 
 -- the queue holds the outstanding commands in the order of their numbers
 pub record StandsFor (q : Queue) (calls : List Call) : Type 0 where
@@ -24,6 +46,7 @@ pub record StandsFor (q : Queue) (calls : List Call) : Type 0 where
   pub each : All (Holds calls) q.held.items
   pub fresh : (cmd : ℕ) → length (issued calls) ≤ cmd → IsUnknown calls cmd
   pub many : length q.held.items ≤ 16
+  pub before : All (KnowsBefore (map entry q.held.items) q.before) (map entry q.held.items)
 
 -- the place of the command of this number, where the queue holds it
 abbrev pub place_in : Queue → ℕ → Option ℕ

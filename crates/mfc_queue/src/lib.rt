@@ -1,21 +1,24 @@
 //! The queue of one processor's commands: sixteen places, the parts done of each command, and which may start.
 #![tactic(auto)]
 
-ghost use Rattle.std.specs.Prelude.{◌≡◌, ◌≢◌, ℕ, ◌+◌, ◌-◌, ◌<◌, ◌≤◌, ◌↔◌, List, [], ◌∷◌, ◌++◌, length, IfOk, OnOk, OnErr, IsOk, IfSome, IfNone, Some, slice_get, slice_index_or, slice_set, find, nat_le, nat_lt, ◌==◌, ◌&&◌, false, map, is_some};
-ghost use Rattle.std.specs.List.{list_any, list_all, range_with_len};
+ghost use Rattle.std.specs.Prelude.{◌≡◌, ℕ, ◌+◌, ◌-◌, ◌<◌, ◌≤◌, ◌↔◌, List, [], ◌∷◌, ◌++◌, length, IfOk, OnOk, OnErr, IsOk, IfSome, IfNone, Some, slice_get, slice_index_or, slice_set, find, nat_le, ◌==◌, ◌&&◌, not, false, map, is_some};
+ghost use Rattle.std.specs.List.{list_any};
 ghost use Rattle.std.specs.Option.{option_and_then};
-ghost use Rattle.mfc_command.specs.Order.{goes_before, precedes};
+ghost use Rattle.mfc_command.specs.Order.{precedes};
 ghost use Rattle.mfc_queue.specs.Places.{ArePlaces};
-ghost use Rattle.mfc_queue.specs.Calls.{Call, Issue, SetParts, Mark, Retire, issued, is_retired, is_outstanding, outstanding, parts, is_marked, all_marked, may_begin, busy, has_outstanding};
+ghost use Rattle.mfc_queue.specs.Sets.{has_bit};
+ghost use Rattle.mfc_queue.specs.Calls.{Call, Issue, SetParts, Mark, Retire, issued, is_outstanding, outstanding, parts, is_marked, all_marked, may_begin, busy, has_outstanding};
 
+mod part_set;
+mod place_set;
+
+use crate::part_set::PartSet;
+use crate::place_set::PlaceSet;
 use arrayvec::ArrayVec;
 use mfc_command::{Command, Kind, Mark as OrderMark, precedes};
 
 /// How many places a queue has.
 pub const PLACES: usize = 16;
-
-/// The most parts that a transfer can have.
-const MAX_PARTS: usize = 129;
 
 /// Sixteen commands are outstanding.
 #[derive(Clone, Copy, Debug, PartialEq, Eq)]
@@ -28,10 +31,9 @@ struct Held {
     place: u8,
     command: Command,
     parts: u32,
-    done: [bool; 129],
+    done: PartSet,
     ghost tag: { command.tag < 32 },
     ghost few: { parts ≤ 129 },
-    ghost whole: { length done ≡ 129 },
 }
 
 impl Default for Held {
@@ -48,18 +50,22 @@ impl Default for Held {
                 size: 0,
             },
             parts: 0,
-            done: [false; MAX_PARTS],
+            done: PartSet::new(),
         }
     }
 }
 
 /// The outstanding commands in the order of their numbers, the places that none of them has, and how many commands were issued.
+///
+/// For a command at place p, `before[p]` has the places of the earlier outstanding commands that go before it.
 #[derive(Drop)]
 pub struct Queue {
     issued: u32,
     held: ArrayVec<Held, 16>,
     vacant: ArrayVec<u8, 16>,
+    before: [PlaceSet; 16],
     ghost places: { ArePlaces (map (λ h. h.place) held.items) vacant.items },
+    ghost sets: { length before ≡ 16 },
 }
 
 impl Queue {
@@ -74,6 +80,7 @@ impl Queue {
             issued: 0,
             held: ArrayVec::new(),
             vacant: ArrayVec::from_array_in((), vacant),
+            before: [PlaceSet::new(); PLACES],
         }
     }
 
@@ -103,9 +110,11 @@ impl Queue {
         ensures err { OnErr result (self.new ≡ self.old) }
         ensures places { IfOk result (KeepsOtherPlaces self.old self.new) }
     {
+        let before = self.places_before(&c);
         let Some(place) = self.vacant.pop() else {
             return Err(QueueFull);
         };
+        self.before[usize::from(place)] = before;
         let cmd = self.issued;
         self.issued = cmd + 1;
         self.held.push(Held {
@@ -113,9 +122,23 @@ impl Queue {
             place,
             command: c,
             parts: 0,
-            done: [false; MAX_PARTS],
+            done: PartSet::new(),
         });
         Ok(cmd)
+    }
+
+    /// The places of the outstanding commands that go before a later one.
+    fn places_before(&self, later: &Command) -> PlaceSet
+        ensures { (place : ℕ) → has_bit result.bits place ≡ list_any (λ h. h.place == place && precedes h.command later.now) self.now.held.items }
+    {
+        let mut places = PlaceSet::new();
+        for i in 0..self.held.len() {
+            let h = self.held_at(i);
+            if precedes(&h.command, later) {
+                places.insert(h.place);
+            }
+        }
+        places
     }
 
     /// The command at this index.
@@ -185,13 +208,10 @@ impl Queue {
         requires { IsOneOf self.now cmd }
         ensures { (calls : List Call) → StandsFor self.now calls → result ≡ may_begin calls cmd }
     {
-        let d = self.command(cmd);
-        for i in 0..self.held.len() {
-            if holds_up(self.held_at(i), cmd, &d) {
-                return false;
-            }
+        match self.index_of(cmd) {
+            Some(i) => self.before[usize::from(self.held_at(i).place)].is_empty(),
+            None => unreachable!(),
         }
-        true
     }
 
     /// Begins the pieces of a command or element, at most 129, with none done.
@@ -209,7 +229,7 @@ impl Queue {
                     place: h.place,
                     command: h.command,
                     parts: n,
-                    done: [false; MAX_PARTS],
+                    done: PartSet::new(),
                 };
                 put(&mut self.held, i, begun);
             }
@@ -223,7 +243,7 @@ impl Queue {
         ensures { (calls : List Call) → StandsFor self.now calls → result ≡ is_marked calls cmd part }
     {
         match self.index_of(cmd) {
-            Some(i) => self.held_at(i).done[part as usize],
+            Some(i) => self.held_at(i).done.has(part),
             None => unreachable!(),
         }
     }
@@ -237,7 +257,7 @@ impl Queue {
         match self.index_of(cmd) {
             Some(i) => {
                 let mut h = *self.held_at(i);
-                h.done[part as usize] = true;
+                h.done.insert(part);
                 put(&mut self.held, i, h);
             }
             None => unreachable!(),
@@ -263,7 +283,7 @@ impl Queue {
         match self.index_of(cmd) {
             Some(i) => {
                 let h = self.held_at(i);
-                are_all(&h.done, h.parts as usize)
+                h.done.has_all_below(h.parts)
             }
             None => unreachable!(),
         }
@@ -290,6 +310,7 @@ impl Queue {
             Some(i) => {
                 let h = self.held.remove(i);
                 self.vacant.push(h.place);
+                remove_from_all(&mut self.before, h.place);
             }
             None => unreachable!(),
         }
@@ -330,24 +351,18 @@ fn put(held: &mut ArrayVec<Held, 16>, i: usize, h: Held)
     held[i] = h;
 }
 
-/// Whether the command goes before the one with this number.
-fn holds_up(c: &Held, cmd: u32, d: &Command) -> bool
-    ensures { result ≡ (nat_lt c.now.cmd cmd && precedes c.now.command d.now) }
+/// Takes the place out of all sets.
+fn remove_from_all(sets: &mut [PlaceSet; 16], place: u8)
+    requires many { length sets.old ≡ 16 }
+    requires small { place < 16 }
+    ensures many { length sets.new ≡ 16 }
+    ensures each { (k p : ℕ) (d : PlaceSet) → k < 16 → p < 16 → has_bit (slice_index_or sets.new k d).bits p ≡ (has_bit (slice_index_or sets.old k d).bits p && not (place == p)) }
 {
-    c.cmd < cmd && precedes(&c.command, d)
-}
-
-/// Whether the first n are all true.
-fn are_all(done: &[bool], n: usize) -> bool
-    requires { n ≤ length done.now }
-    ensures { result ≡ list_all (λ k. slice_index_or done.now k false) (range_with_len 0 n) }
-{
-    for k in 0..n {
-        if !done[k] {
-            return false;
-        }
+    for k in 0..PLACES {
+        let mut set = sets[k];
+        set.remove(place);
+        sets[k] = set;
     }
-    true
 }
 
 #[cfg(test)]

@@ -1,17 +1,19 @@
-use Rattle.std.proofs.Common.{not, ap, sym, ◌∙◌, arith}
-use Rattle.mfc_command.specs.Order.{goes_before}
-use Rattle.mfc_queue.specs.Calls.{issued}
-use Rattle.mfc_queue.proofs.Walks.{numbers-on, numbers-end, any-skip, any-found, any-end}
-use Rattle.mfc_queue.proofs.Holding.{may-start, goes-held, held-at}
+use Rattle.std.proofs.Common.{◌<◌, sym, ◌∙◌, subst, ap, slice_index_or}
+use Rattle.mfc_queue.specs.declared.place_set.PlaceSet.{PlaceSet}
+use Rattle.mfc_queue.proofs.Holding.{held-none}
+use Rattle.mfc_queue.proofs.PlaceLemmas.{place-small}
+use Rattle.mfc_queue.proofs.Before.{empty-starts}
 use Rattle.mfc_queue.proofs.Queue.may_start.Goals as goal
 
-pub returns-then-holds_up : goal.returns-then-holds_up
-returns-then-holds_up c = λ calls stands. sym (may-start _ calls c.args.cmd stands ∙ ap not (any-found (λ k. goes_before (issued calls) k c.args.cmd) _ _ _ _ (c.loop-i.invariant calls stands) (numbers-on _ c.loop-i.i _ (omega arith) c.held_at.ensures)
-    (goes-held calls _ c.args.cmd _ (held-at _ calls c.loop-i.i _ stands (omega arith) c.held_at.ensures) (c.command-d.ensures calls stands) ∙ sym c.holds_up.ensures ∙ c.if-holds_up.true)))
+pub unreachable-requires : goal.unreachable-requires
+unreachable-requires c = held-none _ c.args.cmd c.requires c.in-None.ensures.none
 
-pub loop-i-preserved : goal.loop-i-preserved
-loop-i-preserved c = λ calls stands. any-skip (λ k. goes_before (issued calls) k c.args.cmd) _ _ _ _ (c.loop-i.invariant calls stands) (numbers-on _ c.loop-i.i _ (omega arith) c.held_at.ensures)
-    (goes-held calls _ c.args.cmd _ (held-at _ calls c.loop-i.i _ stands (omega arith) c.held_at.ensures) (c.command-d.ensures calls stands) ∙ sym c.holds_up.ensures ∙ c.if-holds_up.false)
+pub bounds-self-from : goal.bounds-self-from
+bounds-self-from c = subst (λ p. p < 16) (sym c.from.ensures) (place-small _ _ c.in-Some.i c.held_at.result.now c.args.self.now.places c.in-Some.ensures.found.0 c.held_at.ensures)
 
 pub returns : goal.returns
-returns c = λ calls stands. sym (may-start _ calls c.args.cmd stands ∙ ap not (any-end (λ k. goes_before (issued calls) k c.args.cmd) _ _ (c.loop-i.invariant calls stands) (numbers-end _ c.loop-i.i (omega arith))))
+returns c = λ calls stands.
+    let none : PlaceSet = record { bits = 0 } in
+    c.is_empty.ensures
+    ∙ empty-starts c.args.self.now calls c.in-Some.i c.args.cmd c.held_at.result.now _ none stands c.in-Some.ensures.found.0 c.held_at.ensures c.in-Some.ensures.found.1
+    (ap (λ p. (slice_index_or c.args.self.now.before p none).bits) c.from.ensures)

@@ -10,10 +10,10 @@ unreachable-requires c = held-none _ c.args.cmd c.requires.there c.in-None.ensur
 pub returns-clause-stands : goal.returns-clause-stands
 returns-clause-stands c = λ calls stands.
     stands-parts _ _ calls c.args.cmd c.args.n c.in-Some.i c.held_at-h.result.now _ stands c.requires.there refl c.put.ensures
-    c.in-Some.ensures.found.0 c.in-Some.ensures.found.1 c.held_at-h.ensures refl refl refl refl
+    c.in-Some.ensures.found.0 c.in-Some.ensures.found.1 c.held_at-h.ensures refl refl refl c.new.ensures refl refl
 
 pub invariant_of-self : goal.invariant_of-self
-invariant_of-self c = record { places = places-rewritten _ _ _ c.in-Some.i c.held_at-h.result.now _ c.args.self.now.places c.in-Some.ensures.found.0 c.held_at-h.ensures refl c.put.ensures }
+invariant_of-self c = record { places = places-rewritten _ _ _ c.in-Some.i c.held_at-h.result.now _ c.args.self.now.places c.in-Some.ensures.found.0 c.held_at-h.ensures refl c.put.ensures; sets = c.args.self.now.sets }
 
 pub returns-clause-places : goal.returns-clause-places
 returns-clause-places c = λ other.

@@ -1,0 +1,176 @@
+-- Sets of numbers, as bits.
+use Rattle.std.proofs.Common.{◌≡◌, ◌≢◌, ℕ, zero, suc, ◌+◌, ◌-◌, ◌*◌, ◌/◌, ◌%◌, ◌^◌, ◌<◌, ◌≤◌, ◌==◌, Bool, true, false, ◌||◌, ◌&&◌, List, [], ◌∷◌, length, slice_index_or, slice_set, bit_and, bit_or, w16, w64, arith, refl, sym, ◌∙◌, ap, subst}
+use Rattle.std.specs.Prelude.{nat_le, nat_lt, not}
+use Rattle.std.specs.Int.{Width, bit_at, bit_not, trailing_zeros}
+use Rattle.std.specs.List.{list_all, list_any, range_with_len}
+use mir.Val.{bits}
+use Rattle.std.proofs.lemmas.List.{get_or-set_same, get_or-set_other}
+use Rattle.std.proofs.lemmas.Bool.Decides.{nat_tests}
+use Rattle.std.proofs.lemmas.Nat.Bits.{bit_at-zero, bit_at_set_same, bit_at_set_other, bit_at_clear_same, bit_at_clear_other, bit_at-trailing_zeros, shr_and_one}
+use Rattle.mfc_queue.specs.Sets.{has_bit, has_part}
+
+or_true : (b : Bool) → (b || true) ≡ true
+or_true true = refl
+or_true false = refl
+
+or_false : (b : Bool) → (b || false) ≡ b
+or_false true = refl
+or_false false = refl
+
+-- no bit is set in 0
+pub bit-none : (k : ℕ) → has_bit 0 k ≡ false
+unfolding has_bit
+bit-none k = ap (λ b. b == 1) (bit_at-zero k)
+
+-- one bit more
+pub bit-set : (w : Width) (n j k : ℕ) → j < bits w → has_bit (bit_or n (1 * 2 ^ j % 2 ^ bits w)) k ≡ (has_bit n k || j == k)
+unfolding has_bit
+bit-set w n j k within = on (j == k) refl
+  where
+    on : (b : Bool) → (j == k) ≡ b → (bit_at (bit_or n (1 * 2 ^ j % 2 ^ bits w)) k == 1) ≡ (bit_at n k == 1 || b)
+    on true e =
+        let same : j ≡ k = grind (arith, nat_tests) in
+        ap (λ b. b == 1) (subst (λ i. bit_at (bit_or n (1 * 2 ^ j % 2 ^ bits w)) i ≡ 1) same (bit_at_set_same w n j within)) ∙ sym (or_true (bit_at n k == 1))
+    on false e =
+        let apart : k ≢ j = grind (arith, nat_tests) in
+        ap (λ b. b == 1) (bit_at_set_other w n j within k apart) ∙ sym (or_false (bit_at n k == 1))
+
+and_true : (b : Bool) → (b && true) ≡ b
+and_true true = refl
+and_true false = refl
+
+and_false : (b : Bool) → (b && false) ≡ false
+and_false true = refl
+and_false false = refl
+
+-- one bit less, of sixteen
+pub bit-clear : (n j k : ℕ) → j < 16 → k < 16 → has_bit (bit_and n (bit_not w16 (1 * 2 ^ j % 2 ^ 16))) k ≡ (has_bit n k && not (j == k))
+unfolding has_bit
+bit-clear n j k within low = on (j == k) refl
+  where
+    on : (b : Bool) → (j == k) ≡ b → (bit_at (bit_and n (bit_not w16 (1 * 2 ^ j % 2 ^ 16))) k == 1) ≡ (bit_at n k == 1 && not b)
+    on true e =
+        let same : j ≡ k = grind (arith, nat_tests) in
+        ap (λ b. b == 1) (subst (λ i. bit_at (bit_and n (bit_not w16 (1 * 2 ^ j % 2 ^ 16))) i ≡ 0) same (bit_at_clear_same w16 n j within)) ∙ sym (and_false (bit_at n k == 1))
+    on false e =
+        let apart : k ≢ j = grind (arith, nat_tests) in
+        ap (λ b. b == 1) (bit_at_clear_other w16 n j within k low apart) ∙ sym (and_true (bit_at n k == 1))
+
+-- the test of one bit
+pub bit-test : (n k : ℕ) → (bit_and (n / 2 ^ k) 1 == 1) ≡ has_bit n k
+unfolding has_bit
+bit-test n k = ap (λ b. b == 1) (shr_and_one n k)
+
+pub part-none : (k : ℕ) → has_part (0 ∷ 0 ∷ 0 ∷ []) k ≡ false
+unfolding has_part
+part-none k = ap (λ w. has_bit w (k % 64)) (zeros (k / 64)) ∙ bit-none (k % 64)
+  where
+    zeros : (i : ℕ) → slice_index_or {A = ℕ} (0 ∷ 0 ∷ 0 ∷ []) i 0 ≡ 0
+    zeros zero = refl
+    zeros (suc zero) = refl
+    zeros (suc (suc zero)) = refl
+    zeros (suc (suc (suc i))) = refl
+
+-- a set with one part more
+pub part-set : (words : List ℕ) (part k : ℕ) → length words ≡ 3 → part < 192
+    → has_part (slice_set words (part / 64) (bit_or (slice_index_or words (part / 64) 0) (1 * 2 ^ (part % 64) % 2 ^ 64))) k ≡ (has_part words k || part == k)
+unfolding has_part
+part-set words part k whole within = on (part / 64 == k / 64) refl
+  where
+    set : List ℕ
+    set = slice_set words (part / 64) (bit_or (slice_index_or words (part / 64) 0) (1 * 2 ^ (part % 64) % 2 ^ 64))
+
+    same_test : (b : Bool) → part / 64 ≡ k / 64 → (part % 64 == k % 64) ≡ (part == k)
+    same_test b e = grind (arith, nat_tests)
+
+    on : (b : Bool) → (part / 64 == k / 64) ≡ b → has_bit (slice_index_or set (k / 64) 0) (k % 64) ≡ (has_bit (slice_index_or words (k / 64) 0) (k % 64) || part == k)
+    on true e =
+        let same : part / 64 ≡ k / 64 = grind (arith, nat_tests) in
+        subst (λ i. has_bit (slice_index_or set i 0) (k % 64) ≡ (has_bit (slice_index_or words i 0) (k % 64) || part == k)) same
+        (ap (λ w. has_bit w (k % 64)) (get_or-set_same words (part / 64) _ 0 (omega arith))
+        ∙ bit-set w64 (slice_index_or words (part / 64) 0) (part % 64) (k % 64) (omega arith)
+        ∙ ap (λ b. has_bit (slice_index_or words (part / 64) 0) (k % 64) || b) (same_test true same))
+    on false e =
+        let apart : k / 64 ≢ part / 64 = grind (arith, nat_tests) in
+        let other : (part == k) ≡ false = grind (arith, nat_tests) in
+        ap (λ w. has_bit w (k % 64)) (get_or-set_other words (part / 64) (k / 64) _ 0 apart) ∙ sym (or_false _) ∙ ap (λ b. has_bit (slice_index_or words (k / 64) 0) (k % 64) || b) (sym other)
+
+-- the part of a word's bit
+part-at : (words : List ℕ) (i j : ℕ) → j < 64 → has_part words (64 * i + j) ≡ has_bit (slice_index_or words i 0) j
+unfolding has_part
+part-at words i j within =
+    let quotient : (64 * i + j) / 64 ≡ i = omega arith in
+    let rest : (64 * i + j) % 64 ≡ j = omega arith in
+    rw (quotient, rest) refl
+
+-- the first part that a word hasn't, and those before it
+pub part-missing : (words : List ℕ) (i first t : ℕ) → first ≡ 64 * i → t < 64 → bit_at (slice_index_or words i 0) t ≡ 0 → has_part words (first + t) ≡ false
+unfolding has_bit
+part-missing words i first t is within clear = ap (λ n. has_part words (n + t)) is ∙ part-at words i t within ∙ ap (λ b. b == 1) clear
+
+pub parts-before : (words : List ℕ) (i first t : ℕ) → first ≡ 64 * i → t ≤ 64 → ((j : ℕ) → j < t → bit_at (slice_index_or words i 0) j ≡ 1) → ((k : ℕ) → k < first → has_part words k ≡ true)
+    → (k : ℕ) → k < first + t → has_part words k ≡ true
+unfolding has_bit
+parts-before words i first t is most ones before k below = on (nat_lt k first) refl
+  where
+    on : (b : Bool) → nat_lt k first ≡ b → has_part words k ≡ true
+    on true e = before k (grind (arith, nat_tests))
+    on false e =
+        let past : first ≤ k = grind (arith, nat_tests) in
+        let sum : 64 * i + (k - first) ≡ k = omega arith in
+        subst (λ n. has_part words n ≡ true) sum (part-at words i (k - first) (omega arith) ∙ ap (λ b. b == 1) (ones (k - first) (omega arith)))
+
+all-in : (p : ℕ → Bool) (a n : ℕ) → ((k : ℕ) → k < a + n → p k ≡ true) → list_all p (range_with_len a n) ≡ true
+all-in p a zero h = refl
+all-in p a (suc n) h = rw (h a (omega arith)) (all-in p (a + 1) n (λ k l. h k (omega arith)))
+
+one-out : (p : ℕ → Bool) (a n k : ℕ) → a ≤ k → k < a + n → p k ≡ false → list_all p (range_with_len a n) ≡ false
+one-out p a zero k low high off = absurd (omega arith)
+one-out p a (suc n) k low high off = on (a == k) refl (λ l. one-out p (a + 1) n k l (omega arith) off)
+  where
+    on : (b : Bool) → (a == k) ≡ b → (a + 1 ≤ k → list_all p (range_with_len (a + 1) n) ≡ false) → list_all p (range_with_len a (suc n)) ≡ false
+    on true e rest = let same : k ≡ a = grind (arith, nat_tests) in rw (subst (λ j. p j ≡ false) same off) refl
+    on false e rest = let apart : a ≢ k = grind (arith, nat_tests) in ap (λ b. p a && b) (rest (grind (arith, apart))) ∙ and_false (p a)
+
+-- whether all below n are in the set, by the first that isn't
+pub all-below : (p : ℕ → Bool) (n first : ℕ) → n ≤ 192 → (first < 192 → p first ≡ false) → ((k : ℕ) → k < first → p k ≡ true) → nat_le n first ≡ list_all p (range_with_len 0 n)
+all-below p n first most missing before = on (nat_le n first) refl
+  where
+    on : (b : Bool) → nat_le n first ≡ b → b ≡ list_all p (range_with_len 0 n)
+    on true e = let fits : n ≤ first = grind (arith, nat_tests) in sym (all-in p 0 n (λ k l. before k (omega arith)))
+    on false e = let past : first < n = grind (arith, nat_tests) in sym (one-out p 0 n first (omega arith) (omega arith) (missing (omega arith)))
+
+-- tests of a range
+pub any-none : (p : ℕ → Bool) (a n : ℕ) → ((k : ℕ) → k < a + n → p k ≡ false) → list_any p (range_with_len a n) ≡ false
+any-none p a zero h = refl
+any-none p a (suc n) h = rw (h a (omega arith)) (any-none p (a + 1) n (λ k l. h k (omega arith)))
+
+pub any-one : (p : ℕ → Bool) (a n k : ℕ) → a ≤ k → k < a + n → p k ≡ true → list_any p (range_with_len a n) ≡ true
+any-one p a zero k low high on = absurd (omega arith)
+any-one p a (suc n) k low high is = on (a == k) refl (λ l. any-one p (a + 1) n k l (omega arith) is)
+  where
+    on : (b : Bool) → (a == k) ≡ b → (a + 1 ≤ k → list_any p (range_with_len (a + 1) n) ≡ true) → list_any p (range_with_len a (suc n)) ≡ true
+    on true e rest = let same : k ≡ a = grind (arith, nat_tests) in rw (subst (λ j. p j ≡ true) same is) refl
+    on false e rest = let apart : a ≢ k = grind (arith, nat_tests) in ap (λ b. p a || b) (rest (grind (arith, apart))) ∙ or_true (p a)
+
+pub any-agree : (p r : ℕ → Bool) (a n : ℕ) → ((k : ℕ) → k < a + n → p k ≡ r k) → list_any p (range_with_len a n) ≡ list_any r (range_with_len a n)
+any-agree p r a zero h = refl
+any-agree p r a (suc n) h = rw (h a (omega arith)) (ap (λ b. r a || b) (any-agree p r (a + 1) n (λ k l. h k (omega arith))))
+
+-- a set of sixteen is empty where no bit is set
+lowest-found : (n : ℕ) → n < 65536 → 0 < n → list_any (has_bit n) (range_with_len 0 16) ≡ true
+unfolding has_bit
+lowest-found n fits some =
+    let lowest = bit_at-trailing_zeros w16 n some fits in
+    any-one (has_bit n) 0 16 (trailing_zeros w16 n) (omega arith) lowest.0 (ap (λ b. b == 1) lowest.1)
+
+pub is-empty : (n : ℕ) → n < 65536 → (n == 0) ≡ not (list_any (has_bit n) (range_with_len 0 16))
+is-empty n fits = on (n == 0) refl
+  where
+    on : (b : Bool) → (n == 0) ≡ b → b ≡ not (list_any (has_bit n) (range_with_len 0 16))
+    on true e =
+        let zeroth : n ≡ 0 = grind (arith, nat_tests) in
+        sym (ap not (any-none (has_bit n) 0 16 (λ k l. ap (λ m. has_bit m k) zeroth ∙ bit-none k)))
+    on false e =
+        let some : 0 < n = grind (arith, nat_tests) in
+        sym (ap not (lowest-found n fits some))

@@ -1,0 +1,5 @@
+use Rattle.mfc_queue.proofs.SetLemmas.{bit-none}
+use Rattle.mfc_queue.proofs.place_set.PlaceSet.new.Goals as goal
+
+pub returns : goal.returns
+returns c = bit-none

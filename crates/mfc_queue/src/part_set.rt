@@ -1,0 +1,67 @@
+// A set of the parts of a transfer, as bits.
+ghost use Rattle.std.specs.Prelude.{◌≡◌, ℕ, ◌<◌, ◌≤◌, ◌||◌, ◌==◌, true, false, length};
+ghost use Rattle.std.specs.List.{list_all, range_with_len};
+ghost use Rattle.mfc_queue.specs.Sets.{has_part};
+
+/// How many words hold the set.
+const WORDS: usize = 3;
+
+/// How many parts a word tells of.
+const WORD_BITS: u32 = 64;
+
+/// A set of parts below 192: part k is the bit of value 2^(k % 64) of word k / 64.
+#[derive(Clone, Copy)]
+pub(crate) struct PartSet {
+    words: [u64; 3],
+    ghost whole: { length words ≡ 3 },
+}
+
+impl PartSet {
+    /// The set of no part.
+    pub(crate) fn new() -> PartSet
+        ensures { (k : ℕ) → has_part result.words k ≡ false }
+    {
+        PartSet { words: [0; WORDS] }
+    }
+
+    /// Whether the part is in the set.
+    pub(crate) fn has(&self, part: u32) -> bool
+        requires { part < 192 }
+        ensures { result ≡ has_part self.now.words part }
+    {
+        let word = self.words[(part / WORD_BITS) as usize];
+        (word >> (part % WORD_BITS)) & 1 == 1
+    }
+
+    /// Puts the part into the set.
+    pub(crate) fn insert(&mut self, part: u32)
+        requires { part < 192 }
+        ensures { (k : ℕ) → has_part self.new.words k ≡ (has_part self.old.words k || part == k) }
+    {
+        self.words[(part / WORD_BITS) as usize] |= 1 << (part % WORD_BITS);
+    }
+
+    /// The least part that isn't in the set, or 192 where all are.
+    fn first_missing(&self) -> u32
+        ensures missing { result < 192 → has_part self.now.words result ≡ false }
+        ensures before { (k : ℕ) → k < result → has_part self.now.words k ≡ true }
+    {
+        let mut first = 0;
+        for i in 0..WORDS {
+            let word = self.words[i];
+            if word != u64::MAX {
+                return first + word.trailing_ones();
+            }
+            first += WORD_BITS;
+        }
+        first
+    }
+
+    /// Whether all parts below n, which is at most 192, are in the set.
+    pub(crate) fn has_all_below(&self, n: u32) -> bool
+        requires { n ≤ 192 }
+        ensures { result ≡ list_all (has_part self.now.words) (range_with_len 0 n) }
+    {
+        n <= self.first_missing()
+    }
+}
