@@ -1,174 +1,252 @@
 -- The channels that are there, and their counts.
-use Rattle.std.proofs.Common.{◌≡◌, ◌≢◌, ℕ, ◌-◌, ◌==◌, ◌≤◌, Bool, true, false, List, [], ◌∷◌, length, arith, refl, sym, ◌∙◌, ap, subst, ◌++◌, true≢false}
-use Rattle.std.specs.Prelude.{MatchBool, Some, None, nat_lt, is_some, IsSomeAnd}
+use Rattle.std.proofs.Common.{◌≡◌, ◌≢◌, ℕ, ◌-◌, ◌%◌, ◌==◌, ◌≤◌, ◌<◌, ◌&&◌, ◌||◌, Bool, true, false, List, [], ◌∷◌, length, arith, refl, sym, ◌∙◌, ap, subst, ◌++◌, true≢false}
+use Rattle.std.specs.Prelude.{MatchBool, Option, Some, None, nat_lt, nat_le, is_some, IsSomeAnd, cond, Ok, Err}
 use Rattle.std.proofs.lemmas.Bool.Decides.{nat_tests}
-use Rattle.cell_channels.specs.State.{opening_channels, count_of}
+use Rattle.cell_channels.specs.State.{opening_channels, count_of, with_param}
 use Rattle.cell_channels.specs.Table.{way_of}
+use Rattle.cell_channels.specs.declared.ways.Way.{Way}
+use Rattle.cell_channels.specs.declared.ways.Way.TheVariants.{Read as Reads, Write as Writes}
 use Rattle.cell_base.specs.declared.steps.ChannelOp.TheVariants.{Read, Count, Write}
+use Rattle.mfc_command.specs.declared.command.Command.{Command}
+use Rattle.mfc_command.specs.declared.command.AtomicOp.{AtomicOp}
+use Rattle.mfc_command.specs.declared.command.Order.TheVariants.{Queued, Atomic}
+use Rattle.mfc_command.specs.declared.command.DmaFault.{DmaFault as Fault}
+use Rattle.mfc_command.specs.declared.command.DmaFault.TheVariants.{Opcode}
+use Rattle.mfc_command.specs.Check.{checked}
+use Rattle.tag_groups.specs.declared.TagStatus.{TagStatus}
+use Rattle.tag_groups.specs.Settle.{requested}
 use Rattle.cell_machine.specs.Spe.{Spe}
+use Rattle.cell_machine.specs.Moves.{outstanding}
 use Rattle.std.specs.Option.{option_map_or}
 use Rattle.cell_channels.specs.declared.channels.Channels.{Channels}
 use Rattle.cell_channels.specs.declared.channels.Counts.{Counts}
 use Rattle.cell_machine.specs.declared.processor.Processor.{Processor}
 use Rattle.cell_machine.specs.Shows.{ShowsSpe}
-use Rattle.cell_machine.specs.Channels.{listed, is_read, is_write, count, counts, channel, bad_channel, given, went_on, read_by, written}
-
-pub read-count : (P : Spe) → count P 29 ≡ length P.inbound
-unfolding count count_of
-read-count P = refl
-
-pub outbound-count : (P : Spe) → count P 28 ≡ 1 - length P.outbound
-unfolding count count_of
-outbound-count P = refl
-
-pub interrupt-count : (P : Spe) → count P 30 ≡ 1 - length P.interrupt
-unfolding count count_of
-interrupt-count P = refl
-
-pub listed-read : is_read (listed 29) ≡ true
-unfolding listed way_of
-listed-read = refl
-
-pub listed-outbound : is_write (listed 28) ≡ true
-unfolding listed way_of
-listed-outbound = refl
-
-pub listed-interrupt : is_write (listed 30) ≡ true
-unfolding listed way_of
-listed-interrupt = refl
+use Rattle.cell_machine.specs.Channels.{listed, is_read, is_write, count, counts, channel, bad_channel, given, went_on, read_by, read_inbound, read_status, is_opcode, refused, with_issued, commanded, written}
 
 off : (ch k : ℕ) → ch ≢ k → (ch == k) ≡ false
 off ch k h = grind (arith, nat_tests)
 
--- no other channel is read, or written
-high : (ch : ℕ) → 28 ≤ ch → ch ≢ 28 → ch ≢ 29 → ch ≢ 30 → way_of ch ≡ None
-unfolding way_of
-high ch low a b c =
-    rw (off ch 12 (omega arith), off ch 16 (omega arith), off ch 17 (omega arith), off ch 18 (omega arith), off ch 19 (omega arith), off ch 20 (omega arith), off ch 21 (omega arith), off ch 22 (omega arith), off ch 23 (omega arith), off ch 24 (omega arith), off ch 25 (omega arith), off ch 26 (omega arith), off ch 27 (omega arith), off ch 28 a, off ch 29 b, off ch 30 c) refl
+-- a channel of another way, or none, is no channel that is read
+skip_write : (b : Bool) (o : Option Way) → is_read o ≡ false → is_read (cond b (Some Writes) o) ≡ false
+skip_write true o h = refl
+skip_write false o h = h
 
-is_28 : is_read (listed 28) ≡ false
+skip_read : (b : Bool) (o : Option Way) → is_write o ≡ false → is_write (cond b (Some Reads) o) ≡ false
+skip_read true o h = refl
+skip_read false o h = h
+
+hidden_read : (b : Bool) (o : Option Way) → (b ≡ false → is_read o ≡ false) → is_read (cond b None o) ≡ false
+hidden_read true o h = refl
+hidden_read false o h = h refl
+
+hidden_write : (b : Bool) (o : Option Way) → (b ≡ false → is_write o ≡ false) → is_write (cond b None o) ≡ false
+hidden_write true o h = refl
+hidden_write false o h = h refl
+
+not_one : (a b c : Bool) → (a || b || c) ≡ false → (a ≡ false) × (b ≡ false) × (c ≡ false)
+not_one true b c h = absurd (true≢false h)
+not_one false true c h = absurd (true≢false h)
+not_one false false c h = (refl, refl, h)
+
+pub read-other : (ch : ℕ) → ch ≢ 12 → ch ≢ 24 → ch ≢ 29 → is_read (listed ch) ≡ false
 unfolding listed way_of
-is_28 = refl
+read-other ch a b c = hidden_read (ch == 25 || ch == 26 || ch == 27) _ (λ h.
+    let hid = not_one (ch == 25) (ch == 26) (ch == 27) h in
+    rw (off ch 12 a, off ch 24 b, off ch 29 c, hid.0, hid.1, hid.2)
+    (skip_write (ch == 16) _ (skip_write (ch == 17) _ (skip_write (ch == 18) _ (skip_write (ch == 19) _ (skip_write (ch == 20) _ (skip_write (ch == 21) _
+    (skip_write (ch == 22) _ (skip_write (ch == 23) _ (skip_write (ch == 28) _ (skip_write (ch == 30) _ refl)))))))))))
 
-is_30 : is_read (listed 30) ≡ false
+param_off : (ch k : ℕ) → (nat_le 16 ch && nat_le ch 20) ≡ false → 16 ≤ k → k ≤ 20 → (ch == k) ≡ false
+param_off ch k h low high = grind (arith, nat_tests)
+
+pub write-other : (ch : ℕ) → (nat_le 16 ch && nat_le ch 20) ≡ false → ch ≢ 21 → ch ≢ 22 → ch ≢ 23 → ch ≢ 28 → ch ≢ 30 → is_write (listed ch) ≡ false
 unfolding listed way_of
-is_30 = refl
-
-is_29 : is_write (listed 29) ≡ false
-unfolding listed way_of
-is_29 = refl
-
-read_on : (ch : ℕ) (low out intr : Bool) → nat_lt ch 28 ≡ low → (ch == 28) ≡ out → (ch == 30) ≡ intr → ch ≢ 29 → is_read (listed ch) ≡ false
-unfolding listed
-read_on ch true out intr l o i h = rw l refl
-read_on ch false true intr l o i h = let e : ch ≡ 28 = grind (arith, nat_tests) in rw e is_28
-read_on ch false false true l o i h = let e : ch ≡ 30 = grind (arith, nat_tests) in rw e is_30
-read_on ch false false false l o i h =
-    let low : 28 ≤ ch = grind (arith, nat_tests) in
-    let a : ch ≢ 28 = grind (arith, nat_tests) in
-    let c : ch ≢ 30 = grind (arith, nat_tests) in
-    rw (l, high ch low a h c) refl
-
-pub read-other : (ch : ℕ) → ch ≢ 29 → is_read (listed ch) ≡ false
-read-other ch h = read_on ch (nat_lt ch 28) (ch == 28) (ch == 30) refl refl refl h
-
-write_on : (ch : ℕ) (low intr : Bool) → nat_lt ch 28 ≡ low → (ch == 29) ≡ intr → ch ≢ 28 → ch ≢ 30 → is_write (listed ch) ≡ false
-unfolding listed
-write_on ch true intr l i a c = rw l refl
-write_on ch false true l i a c = let e : ch ≡ 29 = grind (arith, nat_tests) in rw e is_29
-write_on ch false false l i a c =
-    let low : 28 ≤ ch = grind (arith, nat_tests) in
-    let b : ch ≢ 29 = grind (arith, nat_tests) in
-    rw (l, high ch low a b c) refl
-
-pub write-other : (ch : ℕ) → ch ≢ 28 → ch ≢ 30 → is_write (listed ch) ≡ false
-write-other ch a c = write_on ch (nat_lt ch 28) (ch == 29) refl refl a c
+write-other ch p a b c d e = hidden_write (ch == 25 || ch == 26 || ch == 27) _ (λ h.
+    let hid = not_one (ch == 25) (ch == 26) (ch == 27) h in
+    rw (param_off ch 16 p (omega arith) (omega arith), param_off ch 17 p (omega arith) (omega arith), param_off ch 18 p (omega arith) (omega arith), param_off ch 19 p (omega arith) (omega arith), param_off ch 20 p (omega arith) (omega arith), off ch 21 a, off ch 22 b, off ch 23 c, off ch 28 d, off ch 30 e, hid.0, hid.1, hid.2)
+    (skip_read (ch == 12) _ (skip_read (ch == 24) _ (skip_read (ch == 29) _ refl))))
 
 -- what the operations come to
-pub read-bad : (P : Spe) (rt ch : ℕ) → ch ≢ 29 → channel P (Read rt ch) ≡ Some (bad_channel P)
+pub read-bad : (lines : ℕ) (P : Spe) (rt ch : ℕ) → ch ≢ 12 → ch ≢ 24 → ch ≢ 29 → channel lines P (Read rt ch) ≡ Some (bad_channel P)
 unfolding channel
-read-bad P rt ch h = rw (read-other ch h) refl
+read-bad lines P rt ch a b c = rw (read-other ch a b c) refl
 
-read_at : (P : Spe) (rt : ℕ) (xs : List ℕ) → P.inbound ≡ xs → channel P (Read rt 29) ≡ read_by P rt xs
+pub read-mask : (lines : ℕ) (P : Spe) (rt : ℕ) → channel lines P (Read rt 12) ≡ Some (given P rt P.tags.mask)
+unfolding channel listed way_of count count_of
+read-mask lines P rt = refl
+
+status_on : (lines : ℕ) (P : Spe) (rt : ℕ) (o : Option TagStatus) → P.tags.status ≡ o → channel lines P (Read rt 24) ≡ read_status P rt o
+unfolding channel listed way_of count count_of
+status_on lines P rt None e = rw e refl
+status_on lines P rt (Some status) e = rw e refl
+
+pub read-status : (lines : ℕ) (P : Spe) (rt : ℕ) → channel lines P (Read rt 24) ≡ read_status P rt P.tags.status
+read-status lines P rt = status_on lines P rt P.tags.status refl
+
+inbound_on : (lines : ℕ) (P : Spe) (rt : ℕ) (xs : List ℕ) → P.inbound ≡ xs → channel lines P (Read rt 29) ≡ read_inbound P rt xs
+unfolding channel listed way_of count count_of
+inbound_on lines P rt [] e = rw e refl
+inbound_on lines P rt (x ∷ xs) e = let some : nat_lt 0 (length (x ∷ xs)) ≡ true = grind (arith, nat_tests) in rw (e, some) refl
+
+pub read-inbound : (lines : ℕ) (P : Spe) (rt : ℕ) → channel lines P (Read rt 29) ≡ read_inbound P rt P.inbound
+read-inbound lines P rt = inbound_on lines P rt P.inbound refl
+
+pub write-bad : (lines : ℕ) (P : Spe) (ch value : ℕ) → (nat_le 16 ch && nat_le ch 20) ≡ false → ch ≢ 21 → ch ≢ 22 → ch ≢ 23 → ch ≢ 28 → ch ≢ 30 → channel lines P (Write ch value) ≡ Some (bad_channel P)
 unfolding channel
-read_at P rt [] e = rw (listed-read, read-count P, e) refl
-read_at P rt (x ∷ xs) e = let some : nat_lt 0 (length (x ∷ xs)) ≡ true = grind (arith, nat_tests) in rw (listed-read, read-count P, e, some) refl
+write-bad lines P ch value p a b c d e = rw (write-other ch p a b c d e) refl
 
-pub read-taken : (P : Spe) (rt value : ℕ) (later : List ℕ) → P.inbound ≡ value ∷ later → channel P (Read rt 29) ≡ Some (given (record P { inbound = later }) rt value)
-read-taken P rt value later e = read_at P rt (value ∷ later) e
+pub write-mask : (lines : ℕ) (P : Spe) (value : ℕ) → channel lines P (Write 22 value) ≡ Some (went_on (record P { tags = record P.tags { mask = value } }))
+unfolding channel listed way_of count count_of written
+write-mask lines P value = refl
 
-pub read-none : (P : Spe) (rt : ℕ) → P.inbound ≡ [] → channel P (Read rt 29) ≡ None
-read-none P rt e = read_at P rt [] e
+pub write-request : (lines : ℕ) (P : Spe) (value : ℕ) → channel lines P (Write 23 value) ≡ Some (went_on (record P { tags = requested P.tags value }))
+unfolding channel listed way_of count count_of written
+write-request lines P value = refl
 
-pub write-bad : (P : Spe) (ch value : ℕ) → ch ≢ 28 → ch ≢ 30 → channel P (Write ch value) ≡ Some (bad_channel P)
+at_param : (lines : ℕ) (P : Spe) (value k : ℕ) → k ≡ 16 → channel lines P (Write k value) ≡ Some (went_on (record P { params = with_param P.params k value }))
+unfolding channel listed way_of count count_of written
+at_param lines P value k e = rw e refl
+
+at_param_17 : (lines : ℕ) (P : Spe) (value k : ℕ) → k ≡ 17 → channel lines P (Write k value) ≡ Some (went_on (record P { params = with_param P.params k value }))
+unfolding channel listed way_of count count_of written
+at_param_17 lines P value k e = rw e refl
+
+at_param_18 : (lines : ℕ) (P : Spe) (value k : ℕ) → k ≡ 18 → channel lines P (Write k value) ≡ Some (went_on (record P { params = with_param P.params k value }))
+unfolding channel listed way_of count count_of written
+at_param_18 lines P value k e = rw e refl
+
+at_param_19 : (lines : ℕ) (P : Spe) (value k : ℕ) → k ≡ 19 → channel lines P (Write k value) ≡ Some (went_on (record P { params = with_param P.params k value }))
+unfolding channel listed way_of count count_of written
+at_param_19 lines P value k e = rw e refl
+
+at_param_20 : (lines : ℕ) (P : Spe) (value k : ℕ) → k ≡ 20 → channel lines P (Write k value) ≡ Some (went_on (record P { params = with_param P.params k value }))
+unfolding channel listed way_of count count_of written
+at_param_20 lines P value k e = rw e refl
+
+param_on : (lines : ℕ) (P : Spe) (ch value : ℕ) (a b c d : Bool) → (ch == 16) ≡ a → (ch == 17) ≡ b → (ch == 18) ≡ c → (ch == 19) ≡ d → (nat_le 16 ch && nat_le ch 20) ≡ true
+    → channel lines P (Write ch value) ≡ Some (went_on (record P { params = with_param P.params ch value }))
+param_on lines P ch value true b c d ea eb ec ed h = at_param lines P value ch (grind (arith, nat_tests))
+param_on lines P ch value false true c d ea eb ec ed h = at_param_17 lines P value ch (grind (arith, nat_tests))
+param_on lines P ch value false false true d ea eb ec ed h = at_param_18 lines P value ch (grind (arith, nat_tests))
+param_on lines P ch value false false false true ea eb ec ed h = at_param_19 lines P value ch (grind (arith, nat_tests))
+param_on lines P ch value false false false false ea eb ec ed h = at_param_20 lines P value ch (grind (arith, nat_tests))
+
+pub write-param : (lines : ℕ) (P : Spe) (ch value : ℕ) → (nat_le 16 ch && nat_le ch 20) ≡ true → channel lines P (Write ch value) ≡ Some (went_on (record P { params = with_param P.params ch value }))
+write-param lines P ch value h = param_on lines P ch value _ _ _ _ refl refl refl refl h
+
+pub command-full : (lines : ℕ) (P : Spe) (op n : ℕ) → n ≡ 16 - length (outstanding P) → n ≡ 0 → channel lines P (Write 21 op) ≡ None
+unfolding channel listed way_of count count_of
+command-full lines P op n is zero = rw (← is, zero) refl
+
+pub command-taken : (lines : ℕ) (P : Spe) (op n : ℕ) → n ≡ 16 - length (outstanding P) → n ≢ 0 → channel lines P (Write 21 op) ≡ Some (commanded lines P op)
+unfolding channel listed way_of count count_of written
+command-taken lines P op n is some = let t : nat_lt 0 n ≡ true = grind (arith, nat_tests) in rw (← is, t) refl
+
+pub outbound-put : (lines : ℕ) (P : Spe) (value : ℕ) → P.outbound ≡ [] → channel lines P (Write 28 value) ≡ Some (went_on (record P { outbound = value ∷ [] }))
+unfolding channel listed way_of count count_of written
+outbound-put lines P value e = rw e refl
+
+pub outbound-full : (lines : ℕ) (P : Spe) (value : ℕ) → length P.outbound ≡ 1 → channel lines P (Write 28 value) ≡ None
+unfolding channel listed way_of count count_of
+outbound-full lines P value e = rw e refl
+
+pub interrupt-put : (lines : ℕ) (P : Spe) (value : ℕ) → P.interrupt ≡ [] → channel lines P (Write 30 value) ≡ Some (went_on (record P { interrupt = value ∷ [] }))
+unfolding channel listed way_of count count_of written
+interrupt-put lines P value e = rw e refl
+
+pub interrupt-full : (lines : ℕ) (P : Spe) (value : ℕ) → length P.interrupt ≡ 1 → channel lines P (Write 30 value) ≡ None
+unfolding channel listed way_of count count_of
+interrupt-full lines P value e = rw e refl
+
+pub count-bad : (lines : ℕ) (P : Spe) (rt ch : ℕ) → is_some (listed ch) ≡ false → channel lines P (Count rt ch) ≡ Some (bad_channel P)
 unfolding channel
-write-bad P ch value a b = rw (write-other ch a b) refl
+count-bad lines P rt ch h = rw h refl
 
-pub outbound-put : (P : Spe) (value : ℕ) → P.outbound ≡ [] → channel P (Write 28 value) ≡ Some (written P 28 value)
+pub count-given : (lines : ℕ) (P : Spe) (rt ch : ℕ) → is_some (listed ch) ≡ true → channel lines P (Count rt ch) ≡ Some (given P rt (count P ch))
 unfolding channel
-outbound-put P value e = rw (listed-outbound, outbound-count P, e) refl
+count-given lines P rt ch h = rw h refl
 
-pub outbound-full : (P : Spe) (value : ℕ) → length P.outbound ≡ 1 → channel P (Write 28 value) ≡ None
-unfolding channel
-outbound-full P value e = rw (listed-outbound, outbound-count P, e) refl
+-- what is behind the channels says whether an operation is allowed
+status_ready : (P : Spe) (rt : ℕ) (o : Option TagStatus) → is_some (read_status P rt o) ≡ is_some o
+status_ready P rt None = refl
+status_ready P rt (Some status) = refl
 
-pub interrupt-put : (P : Spe) (value : ℕ) → P.interrupt ≡ [] → channel P (Write 30 value) ≡ Some (written P 30 value)
-unfolding channel
-interrupt-put P value e = rw (listed-interrupt, interrupt-count P, e) refl
+pub status-ready : (lines : ℕ) (P : Spe) (rt : ℕ) → is_some (channel lines P (Read rt 24)) ≡ is_some P.tags.status
+status-ready lines P rt = ap is_some (read-status lines P rt) ∙ status_ready P rt P.tags.status
 
-pub interrupt-full : (P : Spe) (value : ℕ) → length P.interrupt ≡ 1 → channel P (Write 30 value) ≡ None
-unfolding channel
-interrupt-full P value e = rw (listed-interrupt, interrupt-count P, e) refl
+inbound_ready : (P : Spe) (rt : ℕ) (xs : List ℕ) → is_some (read_inbound P rt xs) ≡ nat_lt 0 (length xs)
+inbound_ready P rt [] = refl
+inbound_ready P rt (x ∷ xs) = let some : nat_lt 0 (length (x ∷ xs)) ≡ true = grind (arith, nat_tests) in sym some
 
-pub count-bad : (P : Spe) (rt ch : ℕ) → is_some (listed ch) ≡ false → channel P (Count rt ch) ≡ Some (bad_channel P)
-unfolding channel
-count-bad P rt ch h = rw h refl
+pub read-ready : (lines : ℕ) (P : Spe) (rt : ℕ) → is_some (channel lines P (Read rt 29)) ≡ nat_lt 0 (length P.inbound)
+read-ready lines P rt = ap is_some (read-inbound lines P rt) ∙ inbound_ready P rt P.inbound
 
-pub count-given : (P : Spe) (rt ch : ℕ) → is_some (listed ch) ≡ true → channel P (Count rt ch) ≡ Some (given P rt (count P ch))
-unfolding channel
-count-given P rt ch h = rw h refl
+read_on : (lines : ℕ) (P : Spe) (rt ch : ℕ) (b : Bool) → (ch == 12) ≡ b → ch ≢ 24 → ch ≢ 29 → is_some (channel lines P (Read rt ch)) ≡ true
+read_on lines P rt ch true e a c = let is : ch ≡ 12 = grind (arith, nat_tests) in rw is (ap is_some (read-mask lines P rt))
+read_on lines P rt ch false e a c = ap is_some (read-bad lines P rt ch (let differs : ch ≢ 12 = grind (arith, nat_tests) in differs) a c)
 
--- the mailboxes say whether an operation is allowed
-read_ready : (P : Spe) (rt : ℕ) (xs : List ℕ) → P.inbound ≡ xs → is_some (channel P (Read rt 29)) ≡ nat_lt 0 (length xs)
-read_ready P rt [] e = ap is_some (read-none P rt e)
-read_ready P rt (x ∷ xs) e = let some : nat_lt 0 (length (x ∷ xs)) ≡ true = grind (arith, nat_tests) in ap is_some (read-taken P rt x xs e) ∙ sym some
+pub read-always : (lines : ℕ) (P : Spe) (rt ch : ℕ) → ch ≢ 24 → ch ≢ 29 → is_some (channel lines P (Read rt ch)) ≡ true
+read-always lines P rt ch a c = read_on lines P rt ch (ch == 12) refl a c
 
-pub read-ready : (P : Spe) (rt : ℕ) → is_some (channel P (Read rt 29)) ≡ nat_lt 0 (length P.inbound)
-read-ready P rt = read_ready P rt P.inbound refl
+write_on : (lines : ℕ) (P : Spe) (ch value : ℕ) (a b p : Bool) → (ch == 22) ≡ a → (ch == 23) ≡ b → (nat_le 16 ch && nat_le ch 20) ≡ p → ch ≢ 21 → ch ≢ 28 → ch ≢ 30 → is_some (channel lines P (Write ch value)) ≡ true
+write_on lines P ch value true b p ea eb ep x y z = let is : ch ≡ 22 = grind (arith, nat_tests) in rw is (ap is_some (write-mask lines P value))
+write_on lines P ch value false true p ea eb ep x y z = let is : ch ≡ 23 = grind (arith, nat_tests) in rw is (ap is_some (write-request lines P value))
+write_on lines P ch value false false true ea eb ep x y z = ap is_some (write-param lines P ch value ep)
+write_on lines P ch value false false false ea eb ep x y z =
+    let a : ch ≢ 22 = grind (arith, nat_tests) in
+    let b : ch ≢ 23 = grind (arith, nat_tests) in
+    ap is_some (write-bad lines P ch value ep x a b y z)
 
-outbound_ready : (P : Spe) (value : ℕ) (xs : List ℕ) → P.outbound ≡ xs → length xs ≤ 1 → is_some (channel P (Write 28 value)) ≡ nat_lt (length xs) 1
-outbound_ready P value [] e l = ap is_some (outbound-put P value e)
-outbound_ready P value (x ∷ xs) e l =
+pub write-always : (lines : ℕ) (P : Spe) (ch value : ℕ) → ch ≢ 21 → ch ≢ 28 → ch ≢ 30 → is_some (channel lines P (Write ch value)) ≡ true
+write-always lines P ch value x y z = write_on lines P ch value (ch == 22) (ch == 23) _ refl refl refl x y z
+
+command_ready : (lines : ℕ) (P : Spe) (op n : ℕ) (b : Bool) → n ≡ 16 - length (outstanding P) → (n == 0) ≡ b → is_some (channel lines P (Write 21 op)) ≡ nat_lt 0 n
+command_ready lines P op n true is e =
+    let zero : n ≡ 0 = grind (arith, nat_tests) in
+    let t : nat_lt 0 n ≡ false = grind (arith, nat_tests) in
+    ap is_some (command-full lines P op n is zero) ∙ sym t
+command_ready lines P op n false is e =
+    let some : n ≢ 0 = grind (arith, nat_tests) in
+    let t : nat_lt 0 n ≡ true = grind (arith, nat_tests) in
+    ap is_some (command-taken lines P op n is some) ∙ sym t
+
+pub command-ready : (lines : ℕ) (P : Spe) (op n : ℕ) → n ≡ 16 - length (outstanding P) → is_some (channel lines P (Write 21 op)) ≡ nat_lt 0 n
+command-ready lines P op n is = command_ready lines P op n (n == 0) is refl
+
+outbound_ready : (lines : ℕ) (P : Spe) (value : ℕ) (xs : List ℕ) → P.outbound ≡ xs → length xs ≤ 1 → is_some (channel lines P (Write 28 value)) ≡ nat_lt (length xs) 1
+outbound_ready lines P value [] e l = ap is_some (outbound-put lines P value e)
+outbound_ready lines P value (x ∷ xs) e l =
     let one : length (x ∷ xs) ≡ 1 = omega arith in
-    ap is_some (outbound-full P value (ap length e ∙ one)) ∙ sym (ap (λ n. nat_lt n 1) one)
+    ap is_some (outbound-full lines P value (ap length e ∙ one)) ∙ sym (ap (λ n. nat_lt n 1) one)
 
-pub outbound-ready : (P : Spe) (value : ℕ) → length P.outbound ≤ 1 → is_some (channel P (Write 28 value)) ≡ nat_lt (length P.outbound) 1
-outbound-ready P value l = outbound_ready P value P.outbound refl l
+pub outbound-ready : (lines : ℕ) (P : Spe) (value : ℕ) → length P.outbound ≤ 1 → is_some (channel lines P (Write 28 value)) ≡ nat_lt (length P.outbound) 1
+outbound-ready lines P value l = outbound_ready lines P value P.outbound refl l
 
-interrupt_ready : (P : Spe) (value : ℕ) (xs : List ℕ) → P.interrupt ≡ xs → length xs ≤ 1 → is_some (channel P (Write 30 value)) ≡ nat_lt (length xs) 1
-interrupt_ready P value [] e l = ap is_some (interrupt-put P value e)
-interrupt_ready P value (x ∷ xs) e l =
+interrupt_ready : (lines : ℕ) (P : Spe) (value : ℕ) (xs : List ℕ) → P.interrupt ≡ xs → length xs ≤ 1 → is_some (channel lines P (Write 30 value)) ≡ nat_lt (length xs) 1
+interrupt_ready lines P value [] e l = ap is_some (interrupt-put lines P value e)
+interrupt_ready lines P value (x ∷ xs) e l =
     let one : length (x ∷ xs) ≡ 1 = omega arith in
-    ap is_some (interrupt-full P value (ap length e ∙ one)) ∙ sym (ap (λ n. nat_lt n 1) one)
+    ap is_some (interrupt-full lines P value (ap length e ∙ one)) ∙ sym (ap (λ n. nat_lt n 1) one)
 
-pub interrupt-ready : (P : Spe) (value : ℕ) → length P.interrupt ≤ 1 → is_some (channel P (Write 30 value)) ≡ nat_lt (length P.interrupt) 1
-interrupt-ready P value l = interrupt_ready P value P.interrupt refl l
+pub interrupt-ready : (lines : ℕ) (P : Spe) (value : ℕ) → length P.interrupt ≤ 1 → is_some (channel lines P (Write 30 value)) ≡ nat_lt (length P.interrupt) 1
+interrupt-ready lines P value l = interrupt_ready lines P value P.interrupt refl l
 
 -- and the code's puts are the writes
-pub write-outbound : (b : Bool) (P : Spe) (new : Processor) (value : ℕ) → MatchBool b ((P.outbound ≡ []) × ShowsSpe new (went_on (record P { outbound = value ∷ [] }))) (length P.outbound ≡ 1)
-    → MatchBool b (IsSomeAnd (channel P (Write 28 value)) (ShowsSpe new)) (channel P (Write 28 value) ≡ None)
-write-outbound true P new value h = rw (outbound-put P value h.0) (subst (λ xs. ShowsSpe new (went_on (record P { outbound = xs ++ value ∷ [] }))) (sym h.0) h.1)
-write-outbound false P new value h = outbound-full P value h
+pub write-outbound : (lines : ℕ) (b : Bool) (P : Spe) (new : Processor) (value : ℕ) → MatchBool b ((P.outbound ≡ []) × ShowsSpe new (went_on (record P { outbound = value ∷ [] }))) (length P.outbound ≡ 1)
+    → MatchBool b (IsSomeAnd (channel lines P (Write 28 value)) (ShowsSpe new)) (channel lines P (Write 28 value) ≡ None)
+write-outbound lines true P new value h = rw (outbound-put lines P value h.0) h.1
+write-outbound lines false P new value h = outbound-full lines P value h
 
-pub write-interrupt : (b : Bool) (P : Spe) (new : Processor) (value : ℕ) → MatchBool b ((P.interrupt ≡ []) × ShowsSpe new (went_on (record P { interrupt = value ∷ [] }))) (length P.interrupt ≡ 1)
-    → MatchBool b (IsSomeAnd (channel P (Write 30 value)) (ShowsSpe new)) (channel P (Write 30 value) ≡ None)
-write-interrupt true P new value h = rw (interrupt-put P value h.0) (subst (λ xs. ShowsSpe new (went_on (record P { interrupt = xs ++ value ∷ [] }))) (sym h.0) h.1)
-write-interrupt false P new value h = interrupt-full P value h
+pub write-interrupt : (lines : ℕ) (b : Bool) (P : Spe) (new : Processor) (value : ℕ) → MatchBool b ((P.interrupt ≡ []) × ShowsSpe new (went_on (record P { interrupt = value ∷ [] }))) (length P.interrupt ≡ 1)
+    → MatchBool b (IsSomeAnd (channel lines P (Write 30 value)) (ShowsSpe new)) (channel lines P (Write 30 value) ≡ None)
+write-interrupt lines true P new value h = rw (interrupt-put lines P value h.0) h.1
+write-interrupt lines false P new value h = interrupt-full lines P value h
 
 -- the count that the code comes to
-pub counts-are : (P : Spe) (i o r : ℕ) → i ≡ length P.inbound → o ≡ length P.outbound → r ≡ length P.interrupt
-    → record { free = 16; tags = false; inbound = i; outbound = 1 - o; intr = 1 - r } ≡ counts P
-counts-are P i o r a b c = rw (a, b, c) refl
+pub counts-are : (P : Spe) (f i o r : ℕ) (t : Bool) → f ≡ 16 - length (outstanding P) → t ≡ is_some P.tags.status → i ≡ length P.inbound → o ≡ length P.outbound → r ≡ length P.interrupt
+    → record { free = f; tags = t; inbound = i; outbound = 1 - o; intr = 1 - r } ≡ counts P
+counts-are P f i o r t d e a b c = rw (a, b, c, d, e) refl
 
 pub count-ok : (P : Spe) (ch n : ℕ) (s : Channels) (k : Counts) → s ≡ opening_channels → k ≡ counts P → count_of s k ch ≡ Some n → n ≡ count P ch
 unfolding count
@@ -176,17 +254,34 @@ count-ok P ch n s k opens same h =
     let e : count_of opening_channels (counts P) ch ≡ Some n = subst (λ x. count_of opening_channels x ch ≡ Some n) same (subst (λ x. count_of x k ch ≡ Some n) opens h) in
     sym (ap (λ o. option_map_or (λ m. m) o 0) e)
 
-listed_on : (ch : ℕ) (b : Bool) → nat_lt ch 28 ≡ b → is_some (listed ch) ≡ true → is_some (way_of ch) ≡ true
+listed_on : (ch : ℕ) (b : Bool) → (ch == 25 || ch == 26 || ch == 27) ≡ b → is_some (listed ch) ≡ true → is_some (way_of ch) ≡ true
 unfolding listed
 listed_on ch true e h = absurd (true≢false (sym h ∙ rw e refl))
 listed_on ch false e h = rw e at h
 
 pub listed-some : (ch : ℕ) → is_some (listed ch) ≡ true → is_some (way_of ch) ≡ true
-listed-some ch h = listed_on ch (nat_lt ch 28) refl h
+listed-some ch h = listed_on ch _ refl h
 
-count_on : (P : Spe) (rt ch : ℕ) (b : Bool) → is_some (listed ch) ≡ b → is_some (channel P (Count rt ch)) ≡ true
-count_on P rt ch true e = ap is_some (count-given P rt ch e)
-count_on P rt ch false e = ap is_some (count-bad P rt ch e)
+count_on : (lines : ℕ) (P : Spe) (rt ch : ℕ) (b : Bool) → is_some (listed ch) ≡ b → is_some (channel lines P (Count rt ch)) ≡ true
+count_on lines P rt ch true e = ap is_some (count-given lines P rt ch e)
+count_on lines P rt ch false e = ap is_some (count-bad lines P rt ch e)
 
-pub count-some : (P : Spe) (rt ch : ℕ) → is_some (channel P (Count rt ch)) ≡ true
-count-some P rt ch = count_on P rt ch (is_some (listed ch)) refl
+pub count-some : (lines : ℕ) (P : Spe) (rt ch : ℕ) → is_some (channel lines P (Count rt ch)) ≡ true
+count-some lines P rt ch = count_on lines P rt ch (is_some (listed ch)) refl
+
+-- what a word that is written to MFC_Cmd comes to
+pub commanded-other : (lines : ℕ) (P : Spe) (op : ℕ) → is_opcode (op % 65536) ≡ false → commanded lines P op ≡ refused P Opcode
+unfolding commanded
+commanded-other lines P op h = rw h refl
+
+pub commanded-queued : (lines : ℕ) (P : Spe) (op : ℕ) (d : Command) → is_opcode (op % 65536) ≡ true → checked P.params op lines ≡ Ok (Queued d) → commanded lines P op ≡ went_on (record P { moves = with_issued P.moves d })
+unfolding commanded
+commanded-queued lines P op d h e = rw (h, e) refl
+
+pub commanded-atomic : (lines : ℕ) (P : Spe) (op : ℕ) (a : AtomicOp) → is_opcode (op % 65536) ≡ true → checked P.params op lines ≡ Ok (Atomic a) → commanded lines P op ≡ refused P Opcode
+unfolding commanded
+commanded-atomic lines P op a h e = rw (h, e) refl
+
+pub commanded-fault : (lines : ℕ) (P : Spe) (op : ℕ) (kind : Fault) → is_opcode (op % 65536) ≡ true → checked P.params op lines ≡ Err kind → commanded lines P op ≡ refused P kind
+unfolding commanded
+commanded-fault lines P op kind h e = rw (h, e) refl

@@ -1,32 +1,42 @@
--- The steps that are allowed where no command was issued and there is no script.
-use Rattle.std.proofs.Common.{◌≡◌, ℕ, zero, suc, ◌<◌, ◌≤◌, ◌+◌, ◌-◌, ◌%◌, List, [], ◌∷◌, ◌++◌, map, length, arith, refl, sym, subst, ◌∙◌, slice_index_or, ap, true, false, Bool, ◌⊎◌, inl, inr}
-use Rattle.std.specs.Prelude.{slice_get, Option, Some, None, is_some, option_map, filter, flat_map, cond}
+-- The steps that are allowed.
+use Rattle.std.proofs.Common.{◌≡◌, ◌≢◌, ℕ, zero, suc, ◌<◌, ◌≤◌, ◌+◌, ◌-◌, ◌%◌, ◌==◌, ◌&&◌, not, List, [], ◌∷◌, ◌++◌, map, length, arith, refl, sym, subst, ◌∙◌, slice_index_or, ap, true, false, Bool, ◌⊎◌, inl, inr, true≢false}
+use Rattle.std.specs.Prelude.{slice_get, Option, Some, None, is_some, option_map, option_and_then, filter, flat_map, cond, nat_lt}
 use Rattle.std.specs.List.{range_with_len}
+use Rattle.std.specs.Option.{option_map_or}
+use Rattle.std.proofs.lemmas.Bool.Decides.{nat_tests}
 use Rattle.cell_base.specs.declared.steps.Actor.{Actor}
 use Rattle.cell_base.specs.declared.steps.Actor.TheVariants.{Spu, Mfc, Host as TheHost}
 use Rattle.cell_base.specs.declared.steps.Step.{Step}
 use Rattle.cell_base.specs.declared.steps.Step.TheVariants.{Exec, Piece, Elem, Retire, Atomic, Host}
+use Rattle.mfc_command.specs.declared.command.Command.{Command}
+use Rattle.mfc_command.specs.Order.{outstanding as outstanding_of}
 use Rattle.cell_machine.specs.declared.processor.Processor.{Processor}
 use Rattle.cell_machine.specs.Spe.{Spe}
 use Rattle.cell_host.specs.Script.{Progress}
 use Rattle.cell_machine.specs.State.{State, with_spe}
 use Rattle.cell_machine.specs.Exec.{exec}
-use Rattle.cell_machine.specs.Next.{act, next, ended_by}
+use Rattle.cell_machine.specs.Moves.{outstanding, is_complete, pieces_of}
+use Rattle.cell_machine.specs.Transfers.{piece, retire, may_piece, may_retire, copied}
+use Rattle.cell_machine.specs.Next.{act, next, ended_by, lines_of, with_left}
 use Rattle.cell_machine.specs.Hosts.{host as host_step}
-use Rattle.cell_machine.specs.Run.{steps_of, allowed, picked, actors, first_allowed, HasEnded, CanGoOn}
+use Rattle.cell_machine.specs.Run.{steps_of, steps_of_mfc, steps_of_number, steps_of_command, allowed, picked, actors, first_allowed, HasEnded, CanGoOn}
+use Rattle.cell_machine.specs.Choices.{may, allowed_of_number, allowed_of_mfc, all_of_spus, all_of_mfcs}
 use Rattle.cell_machine.specs.Shows.{Shows, ShowsSpe}
-use Rattle.cell_machine.proofs.AllTwo.{two_at, two_length, two_found, is_some_map, none_of}
-use Rattle.cell_machine.proofs.Steps.{act-no_spe, act-piece, act-elem, act-retire, act-atomic}
+use Rattle.cell_machine.proofs.AllTwo.{two_at, two_none, two_length, two_found, is_some_map, none_of}
+use Rattle.cell_machine.proofs.Steps.{act-absent, act-elem, act-atomic}
+use Rattle.cell_machine.proofs.SpeShown.{piece-none, piece-some, piece-facts, part-there, retire-none, retire-some, left-facts, get-either, complete_or}
+use Rattle.cell_machine.proofs.MovesShown.{get-within, eq_is, eq_not}
+use Rattle.cell_machine.proofs.Places.{filter-both}
 
 -- the processor's test says whether its instruction is allowed
 pub next-exec : {memory : List ℕ} {host : Progress} (processors : List Processor) (M : State) (p : ℕ) (x : Processor) (b : Bool) → Shows processors memory host M → p < length processors → x ≡ slice_index_or processors p x
-    → ((P : Spe) → ShowsSpe x P → b ≡ is_some (exec P))
+    → ((lines : ℕ) (P : Spe) → ShowsSpe x P → b ≡ is_some (exec lines P))
     → is_some (next M (Exec p)) ≡ b
 next-exec processors M p x b shows h at test =
     let two = two_at ShowsSpe processors M.spes p x shows.spes h in
-    rw two.1 (is_some_map (ended_by M (Exec p)) (option_map (with_spe M p) (exec two.0))
-    ∙ is_some_map (with_spe M p) (exec two.0)
-    ∙ sym (test two.0 (subst (λ y. ShowsSpe y two.0) (sym at) two.2)))
+    rw two.1 (is_some_map (ended_by M (Exec p)) (option_map (with_spe M p) (exec (lines_of M) two.0))
+    ∙ is_some_map (with_spe M p) (exec (lines_of M) two.0)
+    ∙ sym (test (lines_of M) two.0 (subst (λ y. ShowsSpe y two.0) (sym at) two.2)))
 
 allowed-one : (M : State) (s : Step) (xs : List Step) → xs ≡ s ∷ [] → is_some (next M s) ≡ true → filter (λ t. is_some (next M t)) xs ≡ s ∷ []
 allowed-one M s xs e h = rw e (rw h refl)
@@ -52,8 +62,66 @@ allowed-host M b test on = allowed-one M Host (Host ∷ []) refl (next-host M �
 pub allowed-no_host : (M : State) (b : Bool) → b ≡ is_some (host_step M) → b ≡ false → allowed M TheHost ≡ []
 allowed-no_host M b test off = allowed-no_one M Host (Host ∷ []) refl (next-host M ∙ sym test ∙ off)
 
-pub allowed-mfc : {memory : List ℕ} {host : Progress} (processors : List Processor) (M : State) (p : ℕ) → Shows processors memory host M → allowed M (Mfc p) ≡ []
-allowed-mfc processors M p shows = allowed-no_one M (Atomic p) (Atomic p ∷ []) refl (no_next M (Atomic p) (act-atomic processors M p shows))
+-- what the flow controller may do is what the machine allows
+piece_may : (memory : List ℕ) (P : Spe) (c e k : ℕ) (b : Bool) → may_piece P c e k ≡ b → is_some (piece memory P c e k) ≡ b
+piece_may memory P c e k true h = let f = part-there P.moves c k (piece-facts P c e k h).1 in ap is_some (piece-some memory P c e k f.0 h f.1)
+piece_may memory P c e k false h = ap is_some (piece-none memory P c e k h)
+
+retire_may : (P : Spe) (c : ℕ) (b : Bool) → may_retire P c ≡ b → is_some (retire P c) ≡ b
+retire_may P c true h = ap is_some (retire-some P c h)
+retire_may P c false h = ap is_some (retire-none P c h)
+
+next-piece : (M : State) (p c e k : ℕ) (P : Spe) → slice_get M.spes p ≡ Some P → is_some (next M (Piece p c e k)) ≡ may_piece P c e k
+next-piece M p c e k P at =
+    is_some_map (ended_by M (Piece p c e k)) (act M (Piece p c e k))
+    ∙ ap (λ o. is_some (option_and_then (λ Q. option_map (with_left M p) (piece M.memory Q c e k)) o)) at
+    ∙ is_some_map (with_left M p) (piece M.memory P c e k) ∙ piece_may M.memory P c e k (may_piece P c e k) refl
+
+next-retire : (M : State) (p c : ℕ) (P : Spe) → slice_get M.spes p ≡ Some P → is_some (next M (Retire p c)) ≡ may_retire P c
+next-retire M p c P at =
+    is_some_map (ended_by M (Retire p c)) (act M (Retire p c))
+    ∙ ap (λ o. is_some (option_and_then (λ Q. option_map (with_spe M p) (retire Q c)) o)) at
+    ∙ is_some_map (with_spe M p) (retire P c) ∙ retire_may P c (may_retire P c) refl
+
+same_pieces : (t u : Step → Bool) (g : ℕ → Step) (ks : List ℕ) → ((k : ℕ) → t (g k) ≡ u (g k)) → filter t (map g ks) ≡ filter u (map g ks)
+same_pieces t u g [] same = refl
+same_pieces t u g (k ∷ ks) same = rw (same k, same_pieces t u g ks same) refl
+
+same_head : (t u : Step → Bool) (x : Step) (xs : List Step) → t x ≡ u x → filter t xs ≡ filter u xs → filter t (x ∷ xs) ≡ filter u (x ∷ xs)
+same_head t u x xs e h = rw (e, h) refl
+
+same_number : (M : State) (p : ℕ) (P : Spe) (c : ℕ) → slice_get M.spes p ≡ Some P → filter (λ s. is_some (next M s)) (steps_of_number p P c) ≡ allowed_of_number p P c
+same_number M p P c at = on (slice_get P.moves.issued c)
+  where
+    on : (o : Option Command) → filter (λ s. is_some (next M s)) (option_map_or (steps_of_command p c) o []) ≡ filter (may P) (option_map_or (steps_of_command p c) o [])
+    on None = refl
+    on (Some d) = same_head (λ s. is_some (next M s)) (may P) (Retire p c) (map (Piece p c 0) (range_with_len 0 (pieces_of d))) (next-retire M p c P at)
+        (same_pieces (λ s. is_some (next M s)) (may P) (Piece p c 0) (range_with_len 0 (pieces_of d)) (λ k. next-piece M p c 0 k P at))
+
+same_numbers : (M : State) (p : ℕ) (P : Spe) (cs : List ℕ) → slice_get M.spes p ≡ Some P
+    → filter (λ s. is_some (next M s)) (flat_map (steps_of_number p P) cs) ≡ filter (may P) (flat_map (steps_of_number p P) cs)
+same_numbers M p P [] at = refl
+same_numbers M p P (c ∷ cs) at =
+    filter-both (λ s. is_some (next M s)) (steps_of_number p P c) (flat_map (steps_of_number p P) cs)
+    ∙ ap (λ xs. xs ++ filter (λ s. is_some (next M s)) (flat_map (steps_of_number p P) cs)) (same_number M p P c at)
+    ∙ ap (λ xs. allowed_of_number p P c ++ xs) (same_numbers M p P cs at)
+    ∙ sym (filter-both (may P) (steps_of_number p P c) (flat_map (steps_of_number p P) cs))
+
+allowed_mfc : {memory : List ℕ} {host : Progress} (processors : List Processor) (M : State) (p : ℕ) (P : Spe) → Shows processors memory host M → slice_get M.spes p ≡ Some P → allowed M (Mfc p) ≡ allowed_of_mfc p P
+allowed_mfc processors M p P shows at =
+    ap (λ o. filter (λ s. is_some (next M s)) (option_map_or (steps_of_mfc p) o [])) at
+    ∙ ap (λ b. cond b (Atomic p ∷ filter (λ s. is_some (next M s)) (flat_map (steps_of_number p P) (outstanding P))) (filter (λ s. is_some (next M s)) (flat_map (steps_of_number p P) (outstanding P)))) (no_next M (Atomic p) (act-atomic processors M p shows))
+    ∙ same_numbers M p P (outstanding P) at
+
+pub allowed-no_mfc : {memory : List ℕ} {host : Progress} (processors : List Processor) (M : State) (p : ℕ) → Shows processors memory host M → length processors ≤ p → allowed M (Mfc p) ≡ []
+allowed-no_mfc processors M p shows h = ap (λ o. filter (λ s. is_some (next M s)) (option_map_or (steps_of_mfc p) o [])) (two_none ShowsSpe processors M.spes p shows.spes h)
+
+-- what the processor at p says of its steps
+pub mfc-says : {memory : List ℕ} {host : Progress} (processors : List Processor) (M : State) (p : ℕ) (x : Processor) (Q : List Step → Type 0) → Shows processors memory host M → p < length processors → x ≡ slice_index_or processors p x
+    → ((P : Spe) → ShowsSpe x P → Q (allowed_of_mfc p P)) → Q (allowed M (Mfc p))
+mfc-says processors M p x Q shows h at says =
+    let two = two_at ShowsSpe processors M.spes p x shows.spes h in
+    subst Q (sym (allowed_mfc processors M p two.0 shows two.1)) (says two.0 (subst (λ y. ShowsSpe y two.0) (sym at) two.2))
 
 -- what is chosen of one step, and of none
 pub pick_one : (xs : List Step) (s : Step) (choice : ℕ) → xs ≡ s ∷ [] → slice_get xs (choice % length xs) ≡ Some s
@@ -62,108 +130,207 @@ pick_one xs s choice e = let z : choice % 1 ≡ 0 = omega arith in rw e (rw z re
 pub pick_none : (xs : List Step) (choice : ℕ) → xs ≡ [] → slice_get xs choice ≡ None
 pick_none xs choice e = rw e refl
 
--- the allowed steps of the processors from a on, and of the others
-abbrev pub from_spu : State → ℕ → ℕ → List Step
-from_spu M a n = flat_map (allowed M) (map Spu (range_with_len a n) ++ map Mfc (range_with_len 0 (length M.spes)) ++ TheHost ∷ [])
+-- the allowed steps of n actors from a on
+abbrev pub from_actor : State → (ℕ → Actor) → ℕ → ℕ → List Step
+from_actor M g a n = flat_map (allowed M) (map g (range_with_len a n))
 
-pub from-skip : (M : State) (a n : ℕ) → a < n → allowed M (Spu a) ≡ [] → from_spu M a (n - a) ≡ from_spu M (a + 1) (n - (a + 1))
-from-skip M a n h none = let e : n - a ≡ suc (n - (a + 1)) = omega arith in rw e (rw none refl)
+pub from-skip : (M : State) (g : ℕ → Actor) (a n : ℕ) → a < n → allowed M (g a) ≡ [] → from_actor M g a (n - a) ≡ from_actor M g (a + 1) (n - (a + 1))
+from-skip M g a n h none = let e : n - a ≡ suc (n - (a + 1)) = omega arith in rw e (rw none refl)
 
-pub from-found : (M : State) (a n : ℕ) → a < n → allowed M (Spu a) ≡ Exec a ∷ [] → slice_get (from_spu M a (n - a)) 0 ≡ Some (Exec a)
-from-found M a n h one = let e : n - a ≡ suc (n - (a + 1)) = omega arith in rw e (rw one refl)
+first_head : (xs ys : List Step) (s : Step) → slice_get xs 0 ≡ Some s → slice_get (xs ++ ys) 0 ≡ Some s
+first_head [] ys s h = absurd (cc)
+first_head (x ∷ xs) ys s h = h
+
+pub from-found : (M : State) (g : ℕ → Actor) (a n : ℕ) (s : Step) → a < n → slice_get (allowed M (g a)) 0 ≡ Some s → slice_get (from_actor M g a (n - a)) 0 ≡ Some s
+from-found M g a n s h one = let e : n - a ≡ suc (n - (a + 1)) = omega arith in rw e (first_head (allowed M (g a)) (from_actor M g (a + 1) (n - (a + 1))) s one)
+
+pub from-end : (M : State) (g : ℕ → Actor) (a n : ℕ) → n ≤ a → from_actor M g a (n - a) ≡ []
+from-end M g a n h = let e : n - a ≡ 0 = omega arith in rw e refl
+
+pub first_none : (xs : List Step) → slice_get xs 0 ≡ None → xs ≡ []
+first_none [] h = refl
+first_none (x ∷ xs) h = absurd (cc)
+
+-- where there is none, no actor has one
+append_none : (xs ys : List Step) → xs ++ ys ≡ [] → (xs ≡ []) × (ys ≡ [])
+append_none [] ys h = (refl, h)
+append_none (x ∷ xs) ys h = absurd (cc)
+
+each_none : (M : State) (g : ℕ → Actor) (a n k : ℕ) → from_actor M g a n ≡ [] → k < n → allowed M (g (a + k)) ≡ []
+each_none M g a zero k h less = absurd (omega arith)
+each_none M g a (suc n) zero h less = let e : a + 0 ≡ a = omega arith in subst (λ q. allowed M (g q) ≡ []) (sym e) (append_none (allowed M (g a)) (from_actor M g (a + 1) n) h).0
+each_none M g a (suc n) (suc k) h less =
+    let e : a + suc k ≡ a + 1 + k = omega arith in
+    subst (λ q. allowed M (g q) ≡ []) (sym e) (each_none M g (a + 1) n k (append_none (allowed M (g a)) (from_actor M g (a + 1) n) h).1 (omega arith))
+
+actor_none : (M : State) (g : ℕ → Actor) (n p : ℕ) → from_actor M g 0 n ≡ [] → p < n → allowed M (g p) ≡ []
+actor_none M g n p h less = let e : 0 + p ≡ p = omega arith in subst (λ q. allowed M (g q) ≡ []) e (each_none M g 0 n p h less)
+
+assoc : (xs ys zs : List Step) → (xs ++ ys) ++ zs ≡ xs ++ (ys ++ zs)
+assoc [] ys zs = refl
+assoc (x ∷ xs) ys zs = ap (λ ws. x ∷ ws) (assoc xs ys zs)
+
+flat_both : (f : Actor → List Step) (xs ys : List Actor) → flat_map f (xs ++ ys) ≡ flat_map f xs ++ flat_map f ys
+flat_both f [] ys = refl
+flat_both f (x ∷ xs) ys = ap (λ zs. f x ++ zs) (flat_both f xs ys) ∙ sym (assoc (f x) (flat_map f xs) (flat_map f ys))
 
 append_nothing : (xs : List Step) → xs ++ [] ≡ xs
 append_nothing [] = refl
 append_nothing (x ∷ xs) = ap (λ ys. x ∷ ys) (append_nothing xs)
 
-mfc_none : {memory : List ℕ} {host : Progress} (processors : List Processor) (M : State) (a n : ℕ) → Shows processors memory host M → flat_map (allowed M) (map Mfc (range_with_len a n) ++ TheHost ∷ []) ≡ allowed M TheHost
-mfc_none processors M a zero shows = append_nothing (allowed M TheHost)
-mfc_none processors M a (suc n) shows = rw (allowed-mfc processors M a shows) (mfc_none processors M (a + 1) n shows)
+-- all allowed steps: those of the processors, of their flow controllers, and of the host
+all_parts : (M : State) → flat_map (allowed M) (actors M) ≡ all_of_spus M ++ (all_of_mfcs M ++ allowed M TheHost)
+all_parts M =
+    flat_both (allowed M) (map Spu (range_with_len 0 (length M.spes)) ++ map Mfc (range_with_len 0 (length M.spes))) (TheHost ∷ [])
+    ∙ ap (λ xs. xs ++ flat_map (allowed M) (TheHost ∷ [])) (flat_both (allowed M) (map Spu (range_with_len 0 (length M.spes))) (map Mfc (range_with_len 0 (length M.spes))))
+    ∙ ap (λ xs. (all_of_spus M ++ all_of_mfcs M) ++ xs) (append_nothing (allowed M TheHost))
+    ∙ assoc (all_of_spus M) (all_of_mfcs M) (allowed M TheHost)
 
--- behind the processors comes the host
-pub from-end : {memory : List ℕ} {host : Progress} (processors : List Processor) (M : State) (a : ℕ) → Shows processors memory host M → from_spu M a 0 ≡ allowed M TheHost
-from-end processors M a shows = mfc_none processors M 0 (length M.spes) shows
+first_of_both : (xs ys : List Step) (o : Option Step) → o ≡ slice_get xs 0 → is_some o ≡ true → o ≡ slice_get (xs ++ ys) 0
+first_of_both [] ys o e h = absurd (true≢false (sym h ∙ ap is_some e))
+first_of_both (x ∷ xs) ys o e h = e
 
--- where there is none, no processor has one
-append_none : (xs ys : List Step) → xs ++ ys ≡ [] → (xs ≡ []) × (ys ≡ [])
-append_none [] ys h = (refl, h)
-append_none (x ∷ xs) ys h = absurd (cc)
+rest_of_both : (xs ys : List Step) (o : Option Step) → o ≡ slice_get xs 0 → is_some o ≡ false → slice_get (xs ++ ys) 0 ≡ slice_get ys 0
+rest_of_both [] ys o e h = refl
+rest_of_both (x ∷ xs) ys o e h = absurd (true≢false (sym (ap is_some e) ∙ h))
 
-spu_none : (M : State) (a n k : ℕ) → from_spu M a n ≡ [] → k < n → allowed M (Spu (a + k)) ≡ []
-spu_none M a zero k h less = absurd (omega arith)
-spu_none M a (suc n) zero h less = let e : a + 0 ≡ a = omega arith in subst (λ q. allowed M (Spu q) ≡ []) (sym e) (append_none (allowed M (Spu a)) (from_spu M (a + 1) n) h).0
-spu_none M a (suc n) (suc k) h less =
-    let e : a + suc k ≡ a + 1 + k = omega arith in
-    subst (λ q. allowed M (Spu q) ≡ []) (sym e) (spu_none M (a + 1) n k (append_none (allowed M (Spu a)) (from_spu M (a + 1) n) h).1 (omega arith))
+pub first-spu : (M : State) (o : Option Step) → o ≡ slice_get (all_of_spus M) 0 → is_some o ≡ true → o ≡ first_allowed M
+first-spu M o e h = first_of_both (all_of_spus M) (all_of_mfcs M ++ allowed M TheHost) o e h ∙ sym (ap (λ xs. slice_get xs 0) (all_parts M))
 
--- nor has the host
-host_none : {memory : List ℕ} {host : Progress} (processors : List Processor) (M : State) (a n : ℕ) → Shows processors memory host M → from_spu M a n ≡ [] → allowed M TheHost ≡ []
-host_none processors M a zero shows h = sym (from-end processors M a shows) ∙ h
-host_none processors M a (suc n) shows h = host_none processors M (a + 1) n shows (append_none (allowed M (Spu a)) (from_spu M (a + 1) n) h).1
+pub first-mfc : (M : State) (o q : Option Step) → q ≡ slice_get (all_of_spus M) 0 → is_some q ≡ false → o ≡ slice_get (all_of_mfcs M) 0 → is_some o ≡ true → o ≡ first_allowed M
+first-mfc M o q a b e h =
+    first_of_both (all_of_mfcs M) (allowed M TheHost) o e h ∙ sym (rest_of_both (all_of_spus M) (all_of_mfcs M ++ allowed M TheHost) q a b) ∙ sym (ap (λ xs. slice_get xs 0) (all_parts M))
 
-filter_none : (M : State) (s : Step) (b : Bool) → is_some (next M s) ≡ b → filter (λ t. is_some (next M t)) (s ∷ []) ≡ [] → next M s ≡ None
-filter_none M s true e h = absurd (let f : filter (λ t. is_some (next M t)) (s ∷ []) ≡ s ∷ [] = rw e refl in let g : s ∷ [] ≡ [] = sym f ∙ h in cc)
-filter_none M s false e h = none_of (next M s) e
+pub first-host : (M : State) (o q r : Option Step) → q ≡ slice_get (all_of_spus M) 0 → is_some q ≡ false → r ≡ slice_get (all_of_mfcs M) 0 → is_some r ≡ false → o ≡ slice_get (allowed M TheHost) 0 → o ≡ first_allowed M
+first-host M o q r a b c d e =
+    e ∙ sym (rest_of_both (all_of_mfcs M) (allowed M TheHost) r c d) ∙ sym (rest_of_both (all_of_spus M) (all_of_mfcs M ++ allowed M TheHost) q a b) ∙ sym (ap (λ xs. slice_get xs 0) (all_parts M))
 
-first_none : (xs : List Step) → slice_get xs 0 ≡ None → xs ≡ []
-first_none [] h = refl
-first_none (x ∷ xs) h = absurd (cc)
+filter_none : (t : Step → Bool) (s : Step) (xs : List Step) → filter t (s ∷ xs) ≡ [] → (t s ≡ false) × (filter t xs ≡ [])
+filter_none t s xs h = on (t s) refl h
+  where
+    on : (b : Bool) → t s ≡ b → cond b (s ∷ filter t xs) (filter t xs) ≡ [] → (t s ≡ false) × (filter t xs ≡ [])
+    on true e g = absurd (cc)
+    on false e g = (e, g)
 
 no_act : (M : State) (s : Step) → act M s ≡ None → next M s ≡ None
 no_act M s h = rw h refl
 
+-- where no command has an allowed step, neither has one of them
+none_in : (t : Step → Bool) (f : ℕ → List Step) (u : ℕ → Bool) (a n c : ℕ) → filter t (flat_map f (filter u (range_with_len a n))) ≡ [] → u c ≡ true → a ≤ c → c < a + n → filter t (f c) ≡ []
+none_in t f u a zero c h is low high = absurd (omega arith)
+none_in t f u a (suc n) c h is low high = on (u a) refl h (a == c) refl (λ g differs. none_in t f u (a + 1) n c g is (omega arith) (omega arith))
+  where
+    on : (b : Bool) → u a ≡ b → filter t (flat_map f (cond b (a ∷ filter u (range_with_len (a + 1) n)) (filter u (range_with_len (a + 1) n)))) ≡ [] → (q : Bool) → (a == c) ≡ q
+        → (filter t (flat_map f (filter u (range_with_len (a + 1) n))) ≡ [] → a ≢ c → filter t (f c) ≡ []) → filter t (f c) ≡ []
+    on true e g true q later = subst (λ j. filter t (f j) ≡ []) (eq_is a c q) (append_none (filter t (f a)) (filter t (flat_map f (filter u (range_with_len (a + 1) n)))) (sym (filter-both t (f a) (flat_map f (filter u (range_with_len (a + 1) n)))) ∙ g)).0
+    on true e g false q later = later (append_none (filter t (f a)) (filter t (flat_map f (filter u (range_with_len (a + 1) n)))) (sym (filter-both t (f a) (flat_map f (filter u (range_with_len (a + 1) n)))) ∙ g)).1 (eq_not a c q)
+    on false e g true q later = absurd (true≢false (sym is ∙ subst (λ j. u j ≡ false) (eq_is a c q) e))
+    on false e g false q later = later g (eq_not a c q)
+
+none_of_part : (t : Step → Bool) (g : ℕ → Step) (a n k : ℕ) → filter t (map g (range_with_len a n)) ≡ [] → a ≤ k → k < a + n → t (g k) ≡ false
+none_of_part t g a zero k h low high = absurd (omega arith)
+none_of_part t g a (suc n) k h low high = on (a == k) refl (filter_none t (g a) (map g (range_with_len (a + 1) n)) h) (λ r differs. none_of_part t g (a + 1) n k r (omega arith) (omega arith))
+  where
+    on : (b : Bool) → (a == k) ≡ b → (t (g a) ≡ false) × (filter t (map g (range_with_len (a + 1) n)) ≡ []) → (filter t (map g (range_with_len (a + 1) n)) ≡ [] → a ≢ k → t (g k) ≡ false) → t (g k) ≡ false
+    on true e both later = subst (λ j. t (g j) ≡ false) (eq_is a k e) both.0
+    on false e both later = later both.1 (eq_not a k e)
+
+command_none : (p : ℕ) (P : Spe) (c : ℕ) (d : Command) → allowed_of_mfc p P ≡ [] → slice_get P.moves.issued c ≡ Some d → is_complete P.moves c ≡ false → filter (may P) (steps_of_command p c d) ≡ []
+unfolding outstanding_of
+command_none p P c d none at open_yet =
+    ap (λ o. filter (may P) (option_map_or (steps_of_command p c) o [])) (sym at)
+    ∙ none_in (may P) (steps_of_number p P) (λ j. not (is_complete P.moves j)) 0 (length P.moves.issued) c none (ap not open_yet) (omega arith) (let l = get-within P.moves.issued c d at in omega arith)
+
+no_piece : (p : ℕ) (P : Spe) (c e k : ℕ) → allowed_of_mfc p P ≡ [] → may_piece P c e k ≡ false
+no_piece p P c e k none = complete_or (may_piece P c e k) (may_piece P c e k ≡ false) (λ h.
+    let g = piece-facts P c e k h in
+    let f = part-there P.moves c k g.1 in
+    let rest = (filter_none (may P) (Retire p c) (map (Piece p c 0) (range_with_len 0 (pieces_of f.0))) (command_none p P c f.0 none f.1 f.3)).1 in
+    let l = f.2 in
+    let off : may_piece P c 0 k ≡ false = none_of_part (may P) (Piece p c 0) 0 (pieces_of f.0) k rest (omega arith) (omega arith) in
+    absurd (true≢false (sym h ∙ subst (λ j. may_piece P c j k ≡ false) (sym g.0) off))) (λ h. h)
+
+no_retire : (p : ℕ) (P : Spe) (c : ℕ) → allowed_of_mfc p P ≡ [] → may_retire P c ≡ false
+no_retire p P c none = complete_or (may_retire P c) (may_retire P c ≡ false) (λ h.
+    let f = left-facts P c h in
+    absurd (true≢false (sym h ∙ (filter_none (may P) (Retire p c) (map (Piece p c 0) (range_with_len 0 (pieces_of f.0))) (command_none p P c f.0 none f.1 f.3)).0))) (λ h. h)
+
+-- a processor that is there has no step where none is allowed
+spe_none : {memory : List ℕ} {host : Progress} (processors : List Processor) (M : State) (p : ℕ) (s : Step) → Shows processors memory host M → all_of_mfcs M ≡ [] → (slice_get M.spes p ≡ None → next M s ≡ None)
+    → ((P : Spe) → slice_get M.spes p ≡ Some P → allowed_of_mfc p P ≡ [] → next M s ≡ None) → next M s ≡ None
+spe_none processors M p s shows all absent there =
+    get-either M.spes p (next M s ≡ None) absent (λ P at.
+        there P at (sym (allowed_mfc processors M p P shows at) ∙ actor_none M Mfc (length M.spes) p all (get-within M.spes p P at)))
+
 -- where no step is first, the machine has ended
 pub has_ended : {memory : List ℕ} {host : Progress} (processors : List Processor) (M : State) → Shows processors memory host M → first_allowed M ≡ None → HasEnded M
 has_ended processors M shows h (Exec p) =
-    let all : from_spu M 0 (length M.spes) ≡ [] = first_none (from_spu M 0 (length M.spes)) h in
-    elim (two_found ShowsSpe processors M.spes p shows.spes) as (λ _. next M (Exec p) ≡ None) [
-      | inl none ↦ rw none refl
-      | inr found ↦
-          let within : p < length M.spes = found_within M.spes p found.1 found.2 in
-          let e : 0 + p ≡ p = omega arith in
-          filter_none M (Exec p) _ refl (subst (λ q. allowed M (Spu q) ≡ []) e (spu_none M 0 (length M.spes) p all within))
-    ]
-  where
-    found_within : (ys : List Spe) (p : ℕ) (y : Spe) → slice_get ys p ≡ Some y → p < length ys
-    found_within [] p y h = absurd (cc)
-    found_within (z ∷ ys) zero y h = omega arith
-    found_within (z ∷ ys) (suc p) y h = let r = found_within ys p y h in omega arith
-has_ended processors M shows h (Piece p c e k) = no_act M (Piece p c e k) (act-piece processors M p c e k shows)
+    let all = append_none (all_of_spus M) (all_of_mfcs M ++ allowed M TheHost) (sym (all_parts M) ∙ first_none (flat_map (allowed M) (actors M)) h) in
+    get-either M.spes p (next M (Exec p) ≡ None) (λ none. rw none refl) (λ P at.
+        none_of (next M (Exec p)) (filter_none (λ s. is_some (next M s)) (Exec p) [] (actor_none M Spu (length M.spes) p all.0 (get-within M.spes p P at))).0)
+has_ended processors M shows h (Piece p c e k) =
+    let all = append_none (all_of_spus M) (all_of_mfcs M ++ allowed M TheHost) (sym (all_parts M) ∙ first_none (flat_map (allowed M) (actors M)) h) in
+    spe_none processors M p (Piece p c e k) shows (append_none (all_of_mfcs M) (allowed M TheHost) all.1).0 (λ none. rw none refl)
+    (λ P at none. none_of (next M (Piece p c e k)) (next-piece M p c e k P at ∙ no_piece p P c e k none))
 has_ended processors M shows h (Elem p c) = no_act M (Elem p c) (act-elem processors M p c shows)
-has_ended processors M shows h (Retire p c) = no_act M (Retire p c) (act-retire processors M p c shows)
+has_ended processors M shows h (Retire p c) =
+    let all = append_none (all_of_spus M) (all_of_mfcs M ++ allowed M TheHost) (sym (all_parts M) ∙ first_none (flat_map (allowed M) (actors M)) h) in
+    spe_none processors M p (Retire p c) shows (append_none (all_of_mfcs M) (allowed M TheHost) all.1).0 (λ none. rw none refl)
+    (λ P at none. none_of (next M (Retire p c)) (next-retire M p c P at ∙ no_retire p P c none))
 has_ended processors M shows h (Atomic p) = no_act M (Atomic p) (act-atomic processors M p shows)
 has_ended processors M shows h Host =
-    filter_none M Host _ refl (host_none processors M 0 (length M.spes) shows (first_none (from_spu M 0 (length M.spes)) h))
+    let all = append_none (all_of_spus M) (all_of_mfcs M ++ allowed M TheHost) (sym (all_parts M) ∙ first_none (flat_map (allowed M) (actors M)) h) in
+    none_of (next M Host) (filter_none (λ s. is_some (next M s)) Host [] (append_none (all_of_mfcs M) (allowed M TheHost) all.1).1).0
 
 pub allowed-absent : {memory : List ℕ} {host : Progress} (processors : List Processor) (M : State) (p : ℕ) → Shows processors memory host M → length processors ≤ p → allowed M (Spu p) ≡ []
-allowed-absent processors M p shows h = allowed-no_spu M p (no_next M (Exec p) (act-no_spe processors M p shows h))
+allowed-absent processors M p shows h = allowed-no_spu M p (no_next M (Exec p) (act-absent _ processors M p shows h))
 
 -- no processor has an allowed step below this one, nor has this one
-pub from-on : {memory : List ℕ} {host : Progress} (processors : List Processor) (M : State) (p : ℕ) (x : Processor) (b : Bool) → Shows processors memory host M → p < length processors → x ≡ slice_index_or processors p x
-    → ((P : Spe) → ShowsSpe x P → b ≡ is_some (exec P)) → b ≡ false
-    → from_spu M 0 (length M.spes) ≡ from_spu M p (length M.spes - p)
-    → from_spu M 0 (length M.spes) ≡ from_spu M (p + 1) (length M.spes - (p + 1))
-from-on processors M p x b shows h at test off so_far =
+pub spu-on : {memory : List ℕ} {host : Progress} (processors : List Processor) (M : State) (p : ℕ) (x : Processor) (b : Bool) → Shows processors memory host M → p < length processors → x ≡ slice_index_or processors p x
+    → ((lines : ℕ) (P : Spe) → ShowsSpe x P → b ≡ is_some (exec lines P)) → b ≡ false
+    → all_of_spus M ≡ from_actor M Spu p (length M.spes - p)
+    → all_of_spus M ≡ from_actor M Spu (p + 1) (length M.spes - (p + 1))
+spu-on processors M p x b shows h at test off so_far =
     let same : length M.spes ≡ length processors = two_length ShowsSpe processors M.spes shows.spes in
-    so_far ∙ from-skip M p (length M.spes) (omega arith) (allowed-no_spu M p (next-exec processors M p x b shows h at test ∙ off))
+    so_far ∙ from-skip M Spu p (length M.spes) (omega arith) (allowed-no_spu M p (next-exec processors M p x b shows h at test ∙ off))
 
 -- this one has
-pub first-found : {memory : List ℕ} {host : Progress} (processors : List Processor) (M : State) (p : ℕ) (x : Processor) (b : Bool) → Shows processors memory host M → p < length processors → x ≡ slice_index_or processors p x
-    → ((P : Spe) → ShowsSpe x P → b ≡ is_some (exec P)) → b ≡ true
-    → from_spu M 0 (length M.spes) ≡ from_spu M p (length M.spes - p)
-    → Some (Exec p) ≡ first_allowed M
-first-found processors M p x b shows h at test on so_far =
+pub spu-found : {memory : List ℕ} {host : Progress} (processors : List Processor) (M : State) (p : ℕ) (x : Processor) (b : Bool) → Shows processors memory host M → p < length processors → x ≡ slice_index_or processors p x
+    → ((lines : ℕ) (P : Spe) → ShowsSpe x P → b ≡ is_some (exec lines P)) → b ≡ true
+    → all_of_spus M ≡ from_actor M Spu p (length M.spes - p)
+    → Some (Exec p) ≡ slice_get (all_of_spus M) 0
+spu-found processors M p x b shows h at test on so_far =
     let same : length M.spes ≡ length processors = two_length ShowsSpe processors M.spes shows.spes in
-    sym (ap (λ xs. slice_get xs 0) so_far ∙ from-found M p (length M.spes) (omega arith) (allowed-spu M p (next-exec processors M p x b shows h at test ∙ on)))
+    sym (ap (λ xs. slice_get xs 0) so_far ∙ from-found M Spu p (length M.spes) (Exec p) (omega arith) (ap (λ xs. slice_get xs 0) (allowed-spu M p (next-exec processors M p x b shows h at test ∙ on))))
 
--- none has
-pub first-none : {memory : List ℕ} {host : Progress} (processors : List Processor) (M : State) (p : ℕ) → Shows processors memory host M → length processors ≤ p
-    → from_spu M 0 (length M.spes) ≡ from_spu M p (length M.spes - p)
-    → first_allowed M ≡ slice_get (allowed M TheHost) 0
-first-none processors M p shows h so_far =
+-- and so for the flow controllers
+pub mfc-on : {memory : List ℕ} {host : Progress} (processors : List Processor) (M : State) (p : ℕ) (x : Processor) (o : Option Step) → Shows processors memory host M → p < length processors → x ≡ slice_index_or processors p x
+    → ((P : Spe) → ShowsSpe x P → o ≡ slice_get (allowed_of_mfc p P) 0) → is_some o ≡ false
+    → all_of_mfcs M ≡ from_actor M Mfc p (length M.spes - p)
+    → all_of_mfcs M ≡ from_actor M Mfc (p + 1) (length M.spes - (p + 1))
+mfc-on processors M p x o shows h at says off so_far =
     let same : length M.spes ≡ length processors = two_length ShowsSpe processors M.spes shows.spes in
-    let e : length M.spes - p ≡ 0 = omega arith in
-    ap (λ xs. slice_get xs 0) (so_far ∙ ap (from_spu M p) e ∙ from-end processors M p shows)
+    let first : o ≡ slice_get (allowed M (Mfc p)) 0 = mfc-says processors M p x (λ xs. o ≡ slice_get xs 0) shows h at says in
+    so_far ∙ from-skip M Mfc p (length M.spes) (omega arith) (first_none (allowed M (Mfc p)) (sym first ∙ none_of o off))
+
+pub mfc-found : {memory : List ℕ} {host : Progress} (processors : List Processor) (M : State) (p : ℕ) (x : Processor) (o : Option Step) → Shows processors memory host M → p < length processors → x ≡ slice_index_or processors p x
+    → ((P : Spe) → ShowsSpe x P → o ≡ slice_get (allowed_of_mfc p P) 0) → is_some o ≡ true
+    → all_of_mfcs M ≡ from_actor M Mfc p (length M.spes - p)
+    → o ≡ slice_get (all_of_mfcs M) 0
+mfc-found processors M p x None shows h at says on so_far = absurd (true≢false (sym on))
+mfc-found processors M p x (Some s) shows h at says on so_far =
+    let same : length M.spes ≡ length processors = two_length ShowsSpe processors M.spes shows.spes in
+    let first : Some s ≡ slice_get (allowed M (Mfc p)) 0 = mfc-says processors M p x (λ xs. Some s ≡ slice_get xs 0) shows h at says in
+    sym (ap (λ xs. slice_get xs 0) so_far ∙ from-found M Mfc p (length M.spes) s (omega arith) (sym first))
+
+pub none-left : {memory : List ℕ} {host : Progress} (processors : List Processor) (M : State) (g : ℕ → Actor) (p : ℕ) (xs : List Step) → Shows processors memory host M → length processors ≤ p
+    → xs ≡ from_actor M g p (length M.spes - p) → None ≡ slice_get xs 0
+none-left processors M g p xs shows h so_far =
+    let same : length M.spes ≡ length processors = two_length ShowsSpe processors M.spes shows.spes in
+    sym (ap (λ ys. slice_get ys 0) (so_far ∙ from-end M g p (length M.spes) (omega arith)))
+
+pub none-before : (M : State) (g : ℕ → Actor) (n : ℕ) → from_actor M g 0 n ≡ from_actor M g 0 (n - 0)
+none-before M g n = let e : n - 0 ≡ n = omega arith in rw e refl
 
 -- the host's step is picked, where it is allowed
 pub pick-host : (M : State) (choice : ℕ) (o : Option Step) → o ≡ slice_get (allowed M TheHost) 0 → o ≡ picked M TheHost choice

@@ -16,25 +16,25 @@ use Rattle.cell_machine.specs.Spe.{Spe, is_running}
 use Rattle.cell_machine.specs.Channels.{channel}
 use Rattle.cell_base.specs.declared.steps.ChannelOp.{ChannelOp}
 use Rattle.cell_machine.specs.Exec.{exec, exec_instr, followed, op_of}
-use Rattle.cell_machine.specs.Shows.{ShowsSpe, ShowsMailboxes}
+use Rattle.cell_machine.specs.Shows.{ShowsSpe, ShowsChannels}
 
 -- one that doesn't run makes no instruction
-pub exec-stopped : (P : Spe) → is_running P.status ≡ false → exec P ≡ None
+pub exec-stopped : (lines : ℕ) (P : Spe) → is_running P.status ≡ false → exec lines P ≡ None
 unfolding exec
-exec-stopped P off = rw off refl
+exec-stopped lines P off = rw off refl
 
 -- the instruction at the PC is made of what the code holds
-exec-at : (c : Processor) (P : Spe) → ShowsSpe c P → is_running c.status ≡ true → exec P ≡ exec_instr P (instr_of (word_at c.store c.pc))
+exec-at : (lines : ℕ) (c : Processor) (P : Spe) → ShowsSpe c P → is_running c.status ≡ true → exec lines P ≡ exec_instr lines P (instr_of (word_at c.store c.pc))
 unfolding exec
-exec-at c P shows on = rw (shows.status, on, shows.store, shows.pc) refl
+exec-at lines c P shows on = rw (shows.status, on, shows.store, shows.pc) refl
 
-pub exec-bad_word : (c : Processor) (P : Spe) → ShowsSpe c P → is_running c.status ≡ true → instr_of (word_at c.store c.pc) ≡ None → exec P ≡ Some (record P { status = BadWord })
-exec-bad_word c P shows on none = exec-at c P shows on ∙ ap (exec_instr P) none
+pub exec-bad_word : (lines : ℕ) (c : Processor) (P : Spe) → ShowsSpe c P → is_running c.status ≡ true → instr_of (word_at c.store c.pc) ≡ None → exec lines P ≡ Some (record P { status = BadWord })
+exec-bad_word lines c P shows on none = exec-at lines c P shows on ∙ ap (exec_instr lines P) none
 
-pub exec-made : (c : Processor) (P : Spe) (i : Instr) (o : Outcome) → ShowsSpe c P → is_running c.status ≡ true → instr_of (word_at c.store c.pc) ≡ Some i
-    → o ≡ meaning i c.pc c.registers c.store → exec P ≡ followed (record P { registers = o.regs; store = o.store }) o.flow
-exec-made c P i o shows on some means =
-    exec-at c P shows on ∙ ap (exec_instr P) some
+pub exec-made : (lines : ℕ) (c : Processor) (P : Spe) (i : Instr) (o : Outcome) → ShowsSpe c P → is_running c.status ≡ true → instr_of (word_at c.store c.pc) ≡ Some i
+    → o ≡ meaning i c.pc c.registers c.store → exec lines P ≡ followed lines (record P { registers = o.regs; store = o.store }) o.flow
+exec-made lines c P i o shows on some means =
+    exec-at lines c P shows on ∙ ap (exec_instr lines P) some
     ∙ rw (shows.pc, shows.registers, shows.store, ← means) refl
 
 -- no value is there
@@ -43,43 +43,43 @@ none_there None lacks = refl
 none_there (Some x) lacks = absurd (lacks x refl)
 
 -- the code did what follows the instruction, or that isn't allowed
-pub exec-follows : (c : Processor) (P : Spe) (i : Instr) (o : Outcome) (b : Bool) (Q : Spe → Type 0) → ShowsSpe c P → is_running c.status ≡ true → instr_of (word_at c.store c.pc) ≡ Some i
+pub exec-follows : (lines : ℕ) (c : Processor) (P : Spe) (i : Instr) (o : Outcome) (b : Bool) (Q : Spe → Type 0) → ShowsSpe c P → is_running c.status ≡ true → instr_of (word_at c.store c.pc) ≡ Some i
     → o ≡ meaning i c.pc c.registers c.store
-    → MatchBool b (IsSomeAnd (followed (record P { registers = o.regs; store = o.store }) o.flow) Q) (followed (record P { registers = o.regs; store = o.store }) o.flow ≡ None)
-    → MatchBool b (IsSomeAnd (exec P) Q) (exec P ≡ None)
-exec-follows c P i o b Q shows on some means did = rw (exec-made c P i o shows on some means) did
+    → MatchBool b (IsSomeAnd (followed lines (record P { registers = o.regs; store = o.store }) o.flow) Q) (followed lines (record P { registers = o.regs; store = o.store }) o.flow ≡ None)
+    → MatchBool b (IsSomeAnd (exec lines P) Q) (exec lines P ≡ None)
+exec-follows lines c P i o b Q shows on some means did = rw (exec-made lines c P i o shows on some means) did
 
 -- what an instruction asks for is what its flow asks for
-follows-op : (P : Spe) (flow : Flow) (op : ChannelOp) → op_of flow ≡ Some op → followed P flow ≡ channel P op
-follows-op P (Next pc) op h = absurd (cc)
-follows-op P (Stop code next) op h = absurd (cc)
-follows-op P (Halt next) op h = absurd (cc)
-follows-op P (Channel asked) op h = let same : asked ≡ op = cc in ap (channel P) same
+follows-op : (lines : ℕ) (P : Spe) (flow : Flow) (op : ChannelOp) → op_of flow ≡ Some op → followed lines P flow ≡ channel lines P op
+follows-op lines P (Next pc) op h = absurd (cc)
+follows-op lines P (Stop code next) op h = absurd (cc)
+follows-op lines P (Halt next) op h = absurd (cc)
+follows-op lines P (Channel asked) op h = let same : asked ≡ op = cc in ap (channel lines P) same
 
-follows-none : (P : Spe) (flow : Flow) → op_of flow ≡ None → is_some (followed P flow) ≡ true
-follows-none P (Next pc) h = refl
-follows-none P (Stop code next) h = refl
-follows-none P (Halt next) h = refl
-follows-none P (Channel op) h = absurd (cc)
+follows-none : (lines : ℕ) (P : Spe) (flow : Flow) → op_of flow ≡ None → is_some (followed lines P flow) ≡ true
+follows-none lines P (Next pc) h = refl
+follows-none lines P (Stop code next) h = refl
+follows-none lines P (Halt next) h = refl
+follows-none lines P (Channel op) h = absurd (cc)
 
 -- whether the instruction is allowed
-pub may-bad_word : (c : Processor) (P : Spe) → ShowsSpe c P → is_running c.status ≡ true → instr_of (word_at c.store c.pc) ≡ None → true ≡ is_some (exec P)
-may-bad_word c P shows on none = sym (ap is_some (exec-bad_word c P shows on none))
+pub may-bad_word : (lines : ℕ) (c : Processor) (P : Spe) → ShowsSpe c P → is_running c.status ≡ true → instr_of (word_at c.store c.pc) ≡ None → true ≡ is_some (exec lines P)
+may-bad_word lines c P shows on none = sym (ap is_some (exec-bad_word lines c P shows on none))
 
-pub may-operate : (c : Processor) (P : Spe) (i : Instr) (op : ChannelOp) (b : Bool) → ShowsSpe c P → is_running c.status ≡ true → instr_of (word_at c.store c.pc) ≡ Some i
-    → Some op ≡ op_of (meaning i c.pc c.registers c.store).flow → ((Q : Spe) → ShowsMailboxes c Q → b ≡ is_some (channel Q op)) → b ≡ is_some (exec P)
-may-operate c P i op b shows on some asks ready =
+pub may-operate : (lines : ℕ) (c : Processor) (P : Spe) (i : Instr) (op : ChannelOp) (b : Bool) → ShowsSpe c P → is_running c.status ≡ true → instr_of (word_at c.store c.pc) ≡ Some i
+    → Some op ≡ op_of (meaning i c.pc c.registers c.store).flow → ((lines : ℕ) (Q : Spe) → ShowsChannels c Q → b ≡ is_some (channel lines Q op)) → b ≡ is_some (exec lines P)
+may-operate lines c P i op b shows on some asks ready =
     let o = meaning i c.pc c.registers c.store in
     let Q : Spe = record P { registers = o.regs; store = o.store } in
-    ready Q (record { inbound = shows.inbound; outbound = shows.outbound; interrupt = shows.interrupt })
-    ∙ sym (ap is_some (exec-made c P i o shows on some refl ∙ follows-op Q o.flow op (sym asks)))
+    ready lines Q (record { tags = shows.tags; queue = shows.queue; inbound = shows.inbound; outbound = shows.outbound; interrupt = shows.interrupt })
+    ∙ sym (ap is_some (exec-made lines c P i o shows on some refl ∙ follows-op lines Q o.flow op (sym asks)))
 
-pub may-go_on : (c : Processor) (P : Spe) (i : Instr) → ShowsSpe c P → is_running c.status ≡ true → instr_of (word_at c.store c.pc) ≡ Some i
-    → None ≡ op_of (meaning i c.pc c.registers c.store).flow → true ≡ is_some (exec P)
-may-go_on c P i shows on some asks =
+pub may-go_on : (lines : ℕ) (c : Processor) (P : Spe) (i : Instr) → ShowsSpe c P → is_running c.status ≡ true → instr_of (word_at c.store c.pc) ≡ Some i
+    → None ≡ op_of (meaning i c.pc c.registers c.store).flow → true ≡ is_some (exec lines P)
+may-go_on lines c P i shows on some asks =
     let o = meaning i c.pc c.registers c.store in
     let Q : Spe = record P { registers = o.regs; store = o.store } in
-    sym (ap is_some (exec-made c P i o shows on some refl) ∙ follows-none Q o.flow (sym asks))
+    sym (ap is_some (exec-made lines c P i o shows on some refl) ∙ follows-none lines Q o.flow (sym asks))
 
 -- an address is a place in one way
 pub place-prop : (pc : ℕ) → IsProp (IsPlace pc)

@@ -7,3 +7,9 @@ pub mod AnyStep
 pub mod Execs
 pub mod ChannelSteps
 pub mod HostSteps
+pub mod CallLaws
+pub mod Checked
+pub mod MovesShown
+pub mod SpeShown
+pub mod Bounds
+pub mod Places

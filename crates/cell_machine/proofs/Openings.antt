@@ -1,6 +1,6 @@
 -- How a machine begins.
 use Rattle.std.proofs.Common.{◌≡◌, ◌≢◌, ℕ, zero, suc, ◌<◌, ◌≤◌, ◌+◌, ◌*◌, ◌==◌, true, false, List, [], ◌∷◌, ◌++◌, map, length, arith, refl, sym, subst, ◌∙◌, slice_index_or, ap, take, drop}
-use Rattle.std.specs.Prelude.{All}
+use Rattle.std.specs.Prelude.{All, Some, slice_get}
 use Rattle.std.specs.List.{enumerate_from}
 use Rattle.std.proofs.lemmas.Bool.Decides.{nat_tests}
 use Rattle.std.proofs.lemmas.List.{length-replicate}
@@ -9,9 +9,12 @@ use Rattle.std.proofs.Math.ListN.{get_or-map, length-map}
 use Rattle.cell_base.specs.Bytes.{put, zeros}
 use Rattle.cell_base.specs.declared.steps.Step.{Step}
 use Rattle.cell_host.specs.Script.{Progress, opening as opening_host}
-use Rattle.cell_machine.specs.Opening.{Opening, opening, opening_spe, opening_spes, opening_memory, filled, InMemory, Placed, placed_in}
+use Rattle.cell_machine.specs.Opening.{Opening, opening, opening_spe, opening_spes, opening_memory, filled, InMemory, Placed, placed_in, no_moves}
 use Rattle.cell_machine.specs.Run.{replay}
-use Rattle.cell_machine.specs.Shows.{AllTwo, ShowsSpe, IsMachine}
+use Rattle.cell_machine.specs.Tags.{settled}
+use Rattle.cell_machine.specs.Shows.{AllTwo, ShowsSpe, IsMachine, IsBounded, AreBounded}
+use Rattle.cell_machine.proofs.Bounds.{map-got}
+use Rattle.cell_machine.proofs.MovesShown.{get-within}
 use Rattle.cell_machine.proofs.AllTwo.{two_length}
 use Rattle.cell_machine.specs.declared.processor.Processor.{Processor}
 use Rattle.cell_machine.specs.Limits.{shown, shown_memory, IsOpening, FitsStore, FitsMemory}
@@ -88,6 +91,16 @@ length-enumerate : {A : Type 0} (f : ℕ × ℕ → A) (n : ℕ) (xs : List ℕ)
 length-enumerate f n [] = refl
 length-enumerate f n (x ∷ xs) = ap suc (length-enumerate f (n + 1) xs)
 
+-- at the start all processors are settled, and no command was issued
+opening_settled : (S : Opening) (xs : List (ℕ × ℕ)) → map settled (map (opening_spe S) xs) ≡ map (opening_spe S) xs
+opening_settled S [] = refl
+opening_settled S (x ∷ xs) = ap (λ ys. opening_spe S x ∷ ys) (opening_settled S xs)
+
+opening_bounded : (S : Opening) → AreBounded S.lines 0 (opening_spes S)
+opening_bounded S p P at =
+    let g = map-got (opening_spe S) (enumerate_from 0 S.entries) p P at in
+    subst (IsBounded S.lines 0) g.2 (record { few = omega arith; fits = λ c d at2 pieces. absurd (let l = get-within no_moves.issued c d at2 in omega arith) })
+
 -- a machine at its start
 pub machine-new : (S : Opening) (processors : List Processor) (memory : List ℕ) (host : Progress) (steps : List Step) (capacity : ℕ) → IsOpening S
     → AllTwo ShowsSpe processors (opening_spes S) → opening_memory S ≡ memory → length memory ≡ 128 * S.lines → opening_host S.actions ≡ host
@@ -104,6 +117,8 @@ machine-new S processors memory host steps capacity is shows fills long begins n
       state = opening S;
       replayed = ap (replay (opening S)) none;
       shown = record { spes = shows; memory_is = fills; host_is = begins };
+      settled = opening_settled S (enumerate_from 0 S.entries);
+      bounded = rw none (opening_bounded S);
       long = long;
       script = ap (λ (h : Progress). h.script) (sym begins);
       actions = is.actions;

@@ -1,17 +1,22 @@
 -- A run goes on by one step.
 use Rattle.std.proofs.Common.{◌≡◌, slice_index_or, ℕ, ◌+◌, ◌<◌, ◌≤◌, List, [], ◌∷◌, ◌++◌, length, arith, refl, sym, subst, ◌∙◌, ap, length-append, suc, add-zero, zero-add}
-use Rattle.std.specs.Prelude.{Option, Some, None, IsSomeAnd, option_map, option_and_then}
+use Rattle.std.specs.Prelude.{Option, Some, None, IsSomeAnd, option_map, option_and_then, All, map}
 use Rattle.cell_base.specs.declared.steps.Step.{Step}
 use Rattle.cell_machine.specs.declared.processor.Processor.{Processor}
 use Rattle.cell_machine.specs.Spe.{Spe}
 use Rattle.cell_host.specs.Script.{Progress}
 use Rattle.cell_machine.specs.State.{State}
-use Rattle.cell_machine.specs.Next.{act, next, ended_by}
+use Rattle.cell_machine.specs.Next.{act, next, ended_by, settled_in, lines_of}
 use Rattle.cell_machine.specs.Opening.{Opening, opening}
 use Rattle.cell_machine.specs.Run.{Ran, replay, spe_of, state_of}
 use Rattle.cell_machine.specs.Tags.{settled}
-use Rattle.cell_machine.specs.Shows.{Shows, ShowsSpe, IsMachine, IsFit}
-use Rattle.cell_machine.proofs.AllTwo.{two_at, two_map, some_map, some_and}
+use Rattle.mfc_queue.specs.Calls.{issued}
+use Rattle.cell_machine.specs.Kept.{CanStep, MovesFit, IsKept}
+use Rattle.cell_machine.specs.Shows.{Shows, ShowsSpe, IsMachine, IsFit, CanGo, AreBounded}
+use Rattle.cell_machine.proofs.AllTwo.{two_at, some_and}
+use Rattle.cell_machine.proofs.Steps.{lines-is}
+use Rattle.cell_machine.proofs.SpeShown.{queue-kept}
+use Rattle.cell_machine.proofs.Bounds.{act-settled, act-bounded}
 
 none_last : (o : Option State) → option_and_then (λ N. Some N) o ≡ o
 none_last None = refl
@@ -44,39 +49,61 @@ replay-length M (s ∷ steps) N h = on (next M s) refl h (λ K. replay-length K 
         let rest : length N.steps ≡ length K.steps + length steps = k K g in
         omega arith
 
-shows-settled : (x : Processor) (P : Spe) → ShowsSpe x P → ShowsSpe x (settled P)
-shows-settled x P shows = shows
-
--- what each step does at its end changes nothing that is shown
-pub shows-ended : (processors : List Processor) (memory : List ℕ) (host : Progress) (M : State) (s : Step) (N : State) → Shows processors memory host N → Shows processors memory host (ended_by M s N)
-shows-ended processors memory host M s N shows = record {
-  spes = two_map ShowsSpe settled processors N.spes shows-settled shows.spes;
-  memory_is = shows.memory_is;
-  host_is = shows.host_is;
-}
-
 -- an allowed step takes a machine to a machine
 pub machine-step : (setup : Opening) (steps : List Step) (capacity : ℕ) (processors new : List Processor) (memory memory2 : List ℕ) (host host2 : Progress) (s : Step) (room : ℕ)
     → (old : IsMachine setup steps capacity processors memory host)
-    → IsSomeAnd (act old.state s) (Shows new memory2 host2) → length new ≡ length processors → length memory2 ≡ length memory → host2.script ≡ host.script
+    → IsSomeAnd (act old.state s) (λ N. Shows new memory2 host2 (settled_in N)) → length new ≡ length processors → length memory2 ≡ length memory → host2.script ≡ host.script
     → length steps < setup.budget → capacity ≤ room
     → IsMachine setup (steps ++ s ∷ []) room new memory2 host2
 machine-step setup steps capacity processors new memory memory2 host host2 s room old did same long script within grown =
-    let shows : State → Type 0 = Shows new memory2 host2 in
-    let end = some_and (next old.state s) shows (some_map (ended_by old.state s) (act old.state s) shows shows (shows-ended new memory2 host2 old.state s) did) in
+    let made = some_and (act old.state s) (λ N. Shows new memory2 host2 (settled_in N)) did in
+    let lines : lines_of old.state ≡ setup.lines = lines-is processors old.state setup.lines old.shown (sym old.long) in
+    let longer : length steps + 1 ≡ length (steps ++ s ∷ []) = sym (length-append steps (s ∷ [])) in
     record {
       room = omega arith;
       within = simp length-append (omega arith);
       small = old.small;
       many = omega arith;
       count = same ∙ old.count;
-      state = end.0;
-      replayed = replay-snoc (opening setup) steps s ∙ rw old.replayed end.1;
-      shown = end.2;
+      state = ended_by old.state s made.0;
+      replayed = replay-snoc (opening setup) steps s ∙ ap (option_and_then (λ N. next N s)) old.replayed ∙ ap (option_map (ended_by old.state s)) made.1;
+      shown = record { spes = made.2.spes; memory_is = made.2.memory_is; host_is = made.2.host_is };
+      settled = act-settled old.state s made.0 made.1 old.settled;
+      bounded = subst (λ n. AreBounded setup.lines n (map settled made.0.spes)) longer (act-bounded old.state s made.0 setup.lines (length steps) lines made.1 old.bounded);
       long = long ∙ old.long;
       script = script ∙ old.script;
       actions = old.actions;
     }
+
+-- each processor of a machine that isn't at the end of its budget can make a step
+pub machine-can : (setup : Opening) (steps : List Step) (capacity : ℕ) (processors : List Processor) (memory : List ℕ) (host : Progress)
+    → IsMachine setup steps capacity processors memory host → length steps < setup.budget → CanGo processors memory
+machine-can setup steps capacity processors memory host is within = record { lines = setup.lines; long = is.long; each = each }
+  where
+    each : All (λ c. CanStep setup.lines c.queue) processors
+    each k d h =
+        let two = two_at ShowsSpe processors is.state.spes k d is.shown.spes h in
+        let q = two.2.queue in
+        let bound = is.bounded k two.0 two.1 in
+        let few = bound.few in
+        let small = is.small in
+        let e : length (issued q.calls) ≡ length two.0.moves.issued = ap length q.moves.issued in
+        record {
+          kept = queue-kept setup.lines _ two.0 q (omega arith) bound.fits;
+          number = record { calls = q.calls; stands = q.stands; few = omega arith };
+          fits = record { calls = q.calls; stands = q.stands; fits = subst (MovesFit setup.lines) (sym q.moves.issued) bound.fits };
+        }
+
+-- what each processor of a machine knows of its queue
+pub machine-kept : {setup : Opening} {steps : List Step} {capacity : ℕ} {processors : List Processor} {memory : List ℕ} {host : Progress}
+    → IsMachine setup steps capacity processors memory host → All (λ c. IsKept c.queue) processors
+machine-kept is k d h =
+    let two = two_at ShowsSpe _ is.state.spes k d is.shown.spes h in
+    let bound = is.bounded k two.0 two.1 in
+    let few = bound.few in
+    let within = is.within in
+    let small = is.small in
+    queue-kept _ _ two.0 two.2.queue (omega arith) bound.fits
 
 -- each action of a machine's script fits it
 pub machine-fit : (setup : Opening) (steps : List Step) (capacity : ℕ) (processors : List Processor) (memory : List ℕ) (host : Progress)

@@ -1,62 +1,102 @@
-use Rattle.std.proofs.Common.{◌≡◌, ℕ, ◌<◌, ◌≤◌, List, length, refl, slice_index_or, slice_set, true, false, Bool}
-use Rattle.std.specs.Prelude.{None, IsSomeAnd, option_map, MatchBool}
-use Rattle.cell_base.specs.declared.steps.Step.TheVariants.{Exec, Piece, Elem, Retire, Atomic}
+-- A step of one processor, in the whole machine.
+use Rattle.std.proofs.Common.{◌≡◌, ℕ, zero, suc, ◌<◌, ◌≤◌, ◌*◌, ◌/◌, List, [], ◌∷◌, map, length, arith, refl, sym, ◌∙◌, ap, subst, slice_index_or, slice_set, true, false, Bool}
+use Rattle.std.specs.Prelude.{Option, Some, None, IsSomeAnd, MatchBool, slice_get, option_map, option_and_then}
+use Rattle.std.proofs.lemmas.List.{map-set}
+use Rattle.tag_groups.specs.declared.Tags.{Tags}
+use Rattle.tag_groups.specs.declared.Request.{Request}
+use Rattle.tag_groups.specs.Settle.{settled_tags, fixed_at, is_met}
+use Rattle.cell_base.specs.declared.steps.Step.TheVariants.{Exec, Piece, Elem, Retire, Atomic, Host}
+use Rattle.cell_host.specs.Script.{Progress}
 use Rattle.cell_machine.specs.declared.processor.Processor.{Processor}
 use Rattle.cell_machine.specs.Spe.{Spe}
-use Rattle.cell_host.specs.Script.{Progress}
 use Rattle.cell_machine.specs.State.{State, with_spe}
+use Rattle.cell_machine.specs.Tags.{settled}
 use Rattle.cell_machine.specs.Exec.{exec}
-use Rattle.cell_machine.specs.Transfers.{piece, elem, retire}
+use Rattle.cell_machine.specs.Transfers.{piece, elem, retire, Left}
 use Rattle.cell_machine.specs.Atomic.{atomic}
-use Rattle.cell_machine.specs.Next.{act}
-use Rattle.cell_machine.specs.Shows.{Shows, ShowsSpe}
+use Rattle.cell_machine.specs.Next.{act, lines_of, with_left, settled_in, in_spe}
+use Rattle.cell_machine.specs.Shows.{Shows, ShowsSpe, AllTwo, AreSettled}
 use Rattle.cell_machine.proofs.AllTwo.{two_at, two_none, two_set, two_and_then, some_map}
 
 -- a processor that isn't there makes no step
-pub act-no_spe : {memory : List ℕ} {host : Progress} (processors : List Processor) (M : State) (p : ℕ) → Shows processors memory host M → length processors ≤ p → act M (Exec p) ≡ None
-act-no_spe processors M p shows h = rw (two_none ShowsSpe processors M.spes p shows.spes h) refl
+pub act-absent : {memory : List ℕ} {host : Progress} {X : Type 0} (f : Spe → Option X) (processors : List Processor) (M : State) (p : ℕ) → Shows processors memory host M → length processors ≤ p → option_and_then f (slice_get M.spes p) ≡ None
+act-absent f processors M p shows h = ap (option_and_then f) (two_none ShowsSpe processors M.spes p shows.spes h)
+
+fixed-again : (busy issued : ℕ) (t : Tags) (r : Request) (b : Bool) → t.request ≡ Some r → is_met busy r ≡ b → settled_tags busy issued (fixed_at busy issued t (Some r)) ≡ fixed_at busy issued t (Some r)
+fixed-again busy issued t r true e m = rw m refl
+fixed-again busy issued t r false e m = rw m (ap (fixed_at busy issued t) e ∙ rw m refl)
+
+settled-again : (busy issued : ℕ) (t : Tags) (o : Option Request) → t.request ≡ o → settled_tags busy issued (fixed_at busy issued t o) ≡ fixed_at busy issued t o
+settled-again busy issued t None e = ap (fixed_at busy issued t) e
+settled-again busy issued t (Some r) e = fixed-again busy issued t r (is_met busy r) e refl
+
+-- what was settled stays
+settled-twice : (P : Spe) → settled (settled P) ≡ settled P
+settled-twice P = ap (λ t. record P { tags = t }) (settled-again _ _ P.tags P.tags.request refl)
+
+settled_once : (spes : List Spe) (p : ℕ) (P : Spe) → AreSettled spes → map settled (slice_set spes p P) ≡ slice_set spes p (settled P)
+settled_once spes p P all = map-set settled spes p P ∙ ap (λ xs. slice_set xs p (settled P)) all
+
+pub settled-set : (spes : List Spe) (p : ℕ) (P : Spe) → AreSettled spes → AreSettled (map settled (slice_set spes p P))
+settled-set spes p P all =
+    ap (map settled) (settled_once spes p P all) ∙ map-set settled spes p (settled P) ∙ ap (λ xs. slice_set xs p (settled (settled P))) all
+    ∙ ap (slice_set spes p) (settled-twice P) ∙ sym (settled_once spes p P all)
+
+state-step : {memory memory2 : List ℕ} {host : Progress} (processors : List Processor) (M N : State) (p : ℕ) (new : Processor) (P : Spe) → Shows processors memory host M → AreSettled M.spes
+    → N.spes ≡ slice_set M.spes p P → N.memory ≡ memory2 → N.host ≡ M.host → ShowsSpe new (settled P)
+    → Shows (slice_set processors p new) memory2 host (settled_in N)
+state-step processors M N p new P shows all spes is same one = record {
+  spes = subst (AllTwo ShowsSpe (slice_set processors p new)) (sym (ap (map settled) spes ∙ settled_once M.spes p P all)) (two_set ShowsSpe processors M.spes p new (settled P) shows.spes one);
+  memory_is = is;
+  host_is = same ∙ shows.host_is;
+}
 
 -- the call of the processor at p did the step, or left all as it was
-pub act-exec : {memory : List ℕ} {host : Progress} (processors : List Processor) (d new : Processor) (M : State) (p : ℕ) (made : Bool) → Shows processors memory host M → p < length processors
-    → ((P : Spe) → ShowsSpe (slice_index_or processors p d) P → MatchBool made (IsSomeAnd (exec P) (ShowsSpe new)) (exec P ≡ None))
-    → MatchBool made (IsSomeAnd (act M (Exec p)) (Shows (slice_set processors p new) memory host)) (act M (Exec p) ≡ None)
-act-exec processors d new M p true shows h does =
+pub act-in_spe : {memory : List ℕ} {host : Progress} (f : Spe → Option Spe) (processors : List Processor) (d new : Processor) (M : State) (p : ℕ) (made : Bool) → Shows processors memory host M → AreSettled M.spes → p < length processors
+    → ((P : Spe) → ShowsSpe (slice_index_or processors p d) P → MatchBool made (IsSomeAnd (f P) (λ Q. ShowsSpe new (settled Q))) (f P ≡ None))
+    → MatchBool made (IsSomeAnd (in_spe M p f) (λ N. Shows (slice_set processors p new) memory host (settled_in N))) (in_spe M p f ≡ None)
+act-in_spe f processors d new M p true shows all h does =
     let two = two_at ShowsSpe processors M.spes p d shows.spes h in
-    rw two.1 (some_map (with_spe M p) (exec two.0) (ShowsSpe new) (Shows (slice_set processors p new) _ _) (λ P r. record {
-      spes = two_set ShowsSpe processors M.spes p new P shows.spes r;
-      memory_is = shows.memory_is;
-      host_is = shows.host_is;
-    }) (does two.0 two.2))
-act-exec processors d new M p false shows h does =
+    rw two.1 (some_map (with_spe M p) (f two.0) (λ Q. ShowsSpe new (settled Q)) (λ N. Shows (slice_set processors p new) _ _ (settled_in N))
+    (λ Q r. state-step processors M (with_spe M p Q) p new Q shows all refl shows.memory_is refl r)
+    (does two.0 two.2))
+act-in_spe f processors d new M p false shows all h does =
     let two = two_at ShowsSpe processors M.spes p d shows.spes h in
-    let none : exec two.0 ≡ None = does two.0 two.2 in
+    let none : f two.0 ≡ None = does two.0 two.2 in
     rw (two.1, none) refl
 
--- no queued command and no atomic command has a step
-spe-piece : (M : State) (p c e k : ℕ) (x : Processor) (P : Spe) → ShowsSpe x P → option_map (with_spe M p) (piece P c e k) ≡ None
-unfolding piece
-spe-piece M p c e k x P shows = refl
+pub act-left : {memory : List ℕ} {host : Progress} (memory2 : List ℕ) (f : List ℕ → Spe → Option Left) (processors : List Processor) (d new : Processor) (M : State) (p : ℕ) (made : Bool) → Shows processors memory host M → AreSettled M.spes → p < length processors
+    → ((P : Spe) → ShowsSpe (slice_index_or processors p d) P → MatchBool made (IsSomeAnd (f memory P) (λ x. ShowsSpe new (settled x.spe) × (x.memory ≡ memory2))) (f memory P ≡ None))
+    → MatchBool made (IsSomeAnd (option_and_then (λ P. option_map (with_left M p) (f M.memory P)) (slice_get M.spes p)) (λ N. Shows (slice_set processors p new) memory2 host (settled_in N))) (option_and_then (λ P. option_map (with_left M p) (f M.memory P)) (slice_get M.spes p) ≡ None)
+act-left {memory = memory} {host = host} memory2 f processors d new M p true shows all h does =
+    let two = two_at ShowsSpe processors M.spes p d shows.spes h in
+    let e : f memory two.0 ≡ f M.memory two.0 = ap (λ m. f m two.0) (sym shows.memory_is) in
+    rw two.1 (subst (λ o. IsSomeAnd (option_map (with_left M p) o) (λ N. Shows (slice_set processors p new) memory2 host (settled_in N))) e
+    (some_map (with_left M p) (f memory two.0) (λ x. ShowsSpe new (settled x.spe) × (x.memory ≡ memory2)) (λ N. Shows (slice_set processors p new) memory2 host (settled_in N))
+    (λ x t. state-step processors M (with_left M p x) p new x.spe shows all refl t.1 refl t.0)
+    (does two.0 two.2)))
+act-left {memory = memory} memory2 f processors d new M p false shows all h does =
+    let two = two_at ShowsSpe processors M.spes p d shows.spes h in
+    let none : f M.memory two.0 ≡ None = ap (λ m. f m two.0) shows.memory_is ∙ does two.0 two.2 in
+    rw (two.1, none) refl
 
+pub lines-is : {memory : List ℕ} {host : Progress} (processors : List Processor) (M : State) (lines : ℕ) → Shows processors memory host M → 128 * lines ≡ length memory → lines_of M ≡ lines
+lines-is processors M lines shows long = let e : length M.memory ≡ 128 * lines = ap length shows.memory_is ∙ sym long in omega arith
+
+pub exec-lines : {memory : List ℕ} {host : Progress} (processors : List Processor) (M : State) (p lines : ℕ) → Shows processors memory host M → 128 * lines ≡ length memory → act M (Exec p) ≡ in_spe M p (exec lines)
+exec-lines processors M p lines shows long = ap (λ n. in_spe M p (exec n)) (lines-is processors M lines shows long)
+
+-- no list command and no atomic command has a step
 spe-elem : (M : State) (p c : ℕ) (x : Processor) (P : Spe) → ShowsSpe x P → option_map (with_spe M p) (elem P c) ≡ None
 unfolding elem
 spe-elem M p c x P shows = refl
-
-spe-retire : (M : State) (p c : ℕ) (x : Processor) (P : Spe) → ShowsSpe x P → option_map (with_spe M p) (retire P c) ≡ None
-unfolding retire
-spe-retire M p c x P shows = refl
 
 spe-atomic : (M : State) (p : ℕ) (x : Processor) (P : Spe) → ShowsSpe x P → option_map (with_spe M p) (atomic P) ≡ None
 unfolding atomic
 spe-atomic M p x P shows = refl
 
-pub act-piece : {memory : List ℕ} {host : Progress} (processors : List Processor) (M : State) (p c e k : ℕ) → Shows processors memory host M → act M (Piece p c e k) ≡ None
-act-piece processors M p c e k shows = two_and_then ShowsSpe (λ P. option_map (with_spe M p) (piece P c e k)) processors M.spes p (spe-piece M p c e k) shows.spes
-
 pub act-elem : {memory : List ℕ} {host : Progress} (processors : List Processor) (M : State) (p c : ℕ) → Shows processors memory host M → act M (Elem p c) ≡ None
 act-elem processors M p c shows = two_and_then ShowsSpe (λ P. option_map (with_spe M p) (elem P c)) processors M.spes p (spe-elem M p c) shows.spes
-
-pub act-retire : {memory : List ℕ} {host : Progress} (processors : List Processor) (M : State) (p c : ℕ) → Shows processors memory host M → act M (Retire p c) ≡ None
-act-retire processors M p c shows = two_and_then ShowsSpe (λ P. option_map (with_spe M p) (retire P c)) processors M.spes p (spe-retire M p c) shows.spes
 
 pub act-atomic : {memory : List ℕ} {host : Progress} (processors : List Processor) (M : State) (p : ℕ) → Shows processors memory host M → act M (Atomic p) ≡ None
 act-atomic processors M p shows = two_and_then ShowsSpe (λ P. option_map (with_spe M p) (atomic P)) processors M.spes p (spe-atomic M p) shows.spes

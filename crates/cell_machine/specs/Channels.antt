@@ -1,5 +1,5 @@
 -- What a channel instruction does.
-use Rattle.std.specs.Prelude.{ℕ, ◌-◌, ◌==◌, nat_lt, Bool, true, false, List, [], ◌∷◌, ◌++◌, length, slice_set, if◌then◌else◌, Option, Some, None, is_some}
+use Rattle.std.specs.Prelude.{ℕ, ◌-◌, ◌%◌, ◌==◌, ◌||◌, nat_lt, Bool, true, false, List, [], ◌∷◌, ◌++◌, length, slice_set, if◌then◌else◌, Option, Some, None, is_some, Result, Ok, Err}
 use Rattle.std.specs.Option.{option_map_or}
 use Rattle.cell_base.specs.Lanes.{in_first_word}
 use Rattle.cell_base.specs.declared.steps.ChannelOp.{ChannelOp}
@@ -8,14 +8,23 @@ use Rattle.spu_exec.specs.Places.{next_pc}
 use Rattle.cell_channels.specs.declared.ways.Way.{Way}
 use Rattle.cell_channels.specs.declared.ways.Way.TheVariants.{Read as Reads, Write as Writes}
 use Rattle.cell_channels.specs.declared.channels.Counts.{Counts}
-use Rattle.cell_channels.specs.State.{opening_channels, count_of}
+use Rattle.cell_channels.specs.State.{opening_channels, count_of, with_param}
 use Rattle.cell_channels.specs.Table.{way_of}
-use Rattle.cell_machine.specs.declared.status.Status.TheVariants.{BadChannel}
-use Rattle.cell_machine.specs.Spe.{Spe}
+use Rattle.mfc_command.specs.declared.command.Command.{Command}
+use Rattle.mfc_command.specs.declared.command.Order.{Order}
+use Rattle.mfc_command.specs.declared.command.Order.TheVariants.{Queued, Atomic}
+use Rattle.mfc_command.specs.declared.command.DmaFault.{DmaFault as Fault}
+use Rattle.mfc_command.specs.declared.command.DmaFault.TheVariants.{Opcode}
+use Rattle.mfc_command.specs.Check.{checked}
+use Rattle.tag_groups.specs.declared.TagStatus.{TagStatus}
+use Rattle.tag_groups.specs.Settle.{requested}
+use Rattle.cell_machine.specs.declared.status.Status.TheVariants.{BadChannel, DmaFault}
+use Rattle.cell_machine.specs.Spe.{Spe, Moves}
+use Rattle.cell_machine.specs.Moves.{outstanding}
 
--- the way of a channel that is there: those of the flow controller come with it
+-- the way of a channel that is there: 25 and 26 come with list commands, 27 with atomic ones
 unfoldable pub listed : ℕ → Option Way
-listed ch = if nat_lt ch 28 then None else way_of ch
+listed ch = if ch == 25 || ch == 26 || ch == 27 then None else way_of ch
 
 abbrev pub is_read : Option Way → Bool
 is_read None = false
@@ -27,11 +36,11 @@ is_write None = false
 is_write (Some Reads) = false
 is_write (Some Writes) = true
 
--- the values in the inbound mailbox, and the free places of the others
+-- the free places of the queue, whether a tag status is fixed, the values in the inbound mailbox, and the free places of the others
 abbrev pub counts : Spe → Counts
 counts P = record {
-  free = 16;
-  tags = false;
+  free = 16 - length (outstanding P);
+  tags = is_some P.tags.status;
   inbound = length P.inbound;
   outbound = 1 - length P.outbound;
   intr = 1 - length P.interrupt;
@@ -54,20 +63,57 @@ abbrev pub bad_channel : Spe → Spe
 bad_channel P = record P { status = BadChannel }
 
 -- a read takes the oldest value of the inbound mailbox
-abbrev pub read_by : Spe → ℕ → List ℕ → Option Spe
-read_by P rt [] = None
-read_by P rt (value ∷ later) = Some (given (record P { inbound = later }) rt value)
+abbrev pub read_inbound : Spe → ℕ → List ℕ → Option Spe
+read_inbound P rt [] = None
+read_inbound P rt (value ∷ later) = Some (given (record P { inbound = later }) rt value)
 
--- a write puts the value into a mailbox, behind the others
-abbrev pub written : Spe → ℕ → ℕ → Spe
-written P ch value =
-    went_on (if ch == 28 then record P { outbound = P.outbound ++ value ∷ [] } else record P { interrupt = P.interrupt ++ value ∷ [] })
+-- or the tag status
+abbrev pub read_status : Spe → ℕ → Option TagStatus → Option Spe
+read_status P rt None = None
+read_status P rt (Some status) = Some (given (record P { tags = record P.tags { status = None } }) rt status.groups)
+
+-- or the tag mask, which stays
+abbrev pub read_by : Spe → ℕ → ℕ → Option Spe
+read_by P rt ch =
+    if ch == 12 then Some (given P rt P.tags.mask)
+    else if ch == 24 then read_status P rt P.tags.status
+    else read_inbound P rt P.inbound
+
+-- PUT, PUTB, PUTF, GET, GETB, GETF and BARRIER
+unfoldable pub is_opcode : ℕ → Bool
+is_opcode op = op == 0x20 || op == 0x21 || op == 0x22 || op == 0x40 || op == 0x41 || op == 0x42 || op == 0xc0
+
+-- the PC stays at the instruction
+abbrev pub refused : Spe → Fault → Spe
+refused P kind = record P { status = DmaFault kind }
+
+abbrev pub with_issued : Moves → Command → Moves
+with_issued m d = record m { issued = m.issued ++ d ∷ [] }
+
+abbrev pub issued_by : Spe → Result Order Fault → Spe
+issued_by P (Ok (Queued d)) = went_on (record P { moves = with_issued P.moves d })
+issued_by P (Ok (Atomic a)) = refused P Opcode
+issued_by P (Err kind) = refused P kind
+
+-- the command of the parameters is issued, with the opcode in the lower halfword, or is at fault
+unfoldable pub commanded : ℕ → Spe → ℕ → Spe
+commanded lines P op = if is_opcode (op % 65536) then issued_by P (checked P.params op lines) else refused P Opcode
+
+-- a write issues a command, sets the tag mask, asks for a tag status, puts the value into a mailbox behind the others, or sets a parameter
+unfoldable pub written : ℕ → Spe → ℕ → ℕ → Spe
+written lines P ch value =
+    if ch == 21 then commanded lines P value
+    else if ch == 22 then went_on (record P { tags = record P.tags { mask = value } })
+    else if ch == 23 then went_on (record P { tags = requested P.tags value })
+    else if ch == 28 then went_on (record P { outbound = P.outbound ++ value ∷ [] })
+    else if ch == 30 then went_on (record P { interrupt = P.interrupt ++ value ∷ [] })
+    else went_on (record P { params = with_param P.params ch value })
 
 -- P after the operation, None where that isn't allowed: a read and a write are, where the channel's count is above 0;
--- a channel that isn't there or goes the other way is a bad channel
-unfoldable pub channel : Spe → ChannelOp → Option Spe
-channel P (Read rt ch) =
-    if is_read (listed ch) then (if nat_lt 0 (count P ch) then read_by P rt P.inbound else None) else Some (bad_channel P)
-channel P (Count rt ch) = if is_some (listed ch) then Some (given P rt (count P ch)) else Some (bad_channel P)
-channel P (Write ch value) =
-    if is_write (listed ch) then (if nat_lt 0 (count P ch) then Some (written P ch value) else None) else Some (bad_channel P)
+-- a channel that isn't there or goes the other way is a bad channel. The main memory has so many lines
+unfoldable pub channel : ℕ → Spe → ChannelOp → Option Spe
+channel lines P (Read rt ch) =
+    if is_read (listed ch) then (if nat_lt 0 (count P ch) then read_by P rt ch else None) else Some (bad_channel P)
+channel lines P (Count rt ch) = if is_some (listed ch) then Some (given P rt (count P ch)) else Some (bad_channel P)
+channel lines P (Write ch value) =
+    if is_write (listed ch) then (if nat_lt 0 (count P ch) then Some (written lines P ch value) else None) else Some (bad_channel P)

@@ -1,5 +1,5 @@
--- One instruction of one processor.
-use Rattle.std.specs.Prelude.{if◌then◌else◌, Option, Some, None}
+-- One instruction of one processor. The main memory has so many lines.
+use Rattle.std.specs.Prelude.{ℕ, if◌then◌else◌, Option, Some, None}
 use Rattle.cell_base.specs.declared.steps.ChannelOp.{ChannelOp}
 use Rattle.spu_decode.specs.declared.Instr.{Instr}
 use Rattle.spu_decode.specs.Spelling.{instr_of}
@@ -19,20 +19,20 @@ op_of (Halt next) = None
 op_of (Channel op) = Some op
 
 -- what comes after the instruction
-abbrev pub followed : Spe → Flow → Option Spe
-followed P (Next pc) = Some (record P { pc = pc })
-followed P (Stop code next) = Some (record P { status = Stopped code; pc = next })
-followed P (Halt next) = Some (record P { status = Halted; pc = next })
-followed P (Channel op) = channel P op
+abbrev pub followed : ℕ → Spe → Flow → Option Spe
+followed lines P (Next pc) = Some (record P { pc = pc })
+followed lines P (Stop code next) = Some (record P { status = Stopped code; pc = next })
+followed lines P (Halt next) = Some (record P { status = Halted; pc = next })
+followed lines P (Channel op) = channel lines P op
 
-abbrev pub outcome : Spe → Outcome → Option Spe
-outcome P o = followed (record P { registers = o.regs; store = o.store }) o.flow
+abbrev pub outcome : ℕ → Spe → Outcome → Option Spe
+outcome lines P o = followed lines (record P { registers = o.regs; store = o.store }) o.flow
 
 -- a word that spells no instruction is a bad word, with the PC at it
-abbrev pub exec_instr : Spe → Option Instr → Option Spe
-exec_instr P None = Some (record P { status = BadWord })
-exec_instr P (Some i) = outcome P (meaning i P.pc P.registers P.store)
+abbrev pub exec_instr : ℕ → Spe → Option Instr → Option Spe
+exec_instr lines P None = Some (record P { status = BadWord })
+exec_instr lines P (Some i) = outcome lines P (meaning i P.pc P.registers P.store)
 
 -- P after its next instruction, None where that isn't allowed
-unfoldable pub exec : Spe → Option Spe
-exec P = if is_running P.status then exec_instr P (instr_of (word_at P.store P.pc)) else None
+unfoldable pub exec : ℕ → Spe → Option Spe
+exec lines P = if is_running P.status then exec_instr lines P (instr_of (word_at P.store P.pc)) else None

@@ -1,6 +1,7 @@
 pub mod Spe
 pub mod State
 pub mod Moves
+pub mod Kept
 pub mod Tags
 pub mod Channels
 pub mod Exec
@@ -11,4 +12,5 @@ pub mod Next
 pub mod Opening
 pub mod Limits
 pub mod Run
+pub mod Choices
 pub mod Shows

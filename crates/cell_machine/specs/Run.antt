@@ -1,16 +1,17 @@
 -- Runs of the written machine, and how they end.
 use Rattle.std.specs.Prelude.{◌≡◌, ℕ, ◌<◌, ◌≤◌, ◌%◌, Bool, true, false, ◌==◌, nat_lt, if◌then◌else◌, List, [], ◌∷◌, ◌++◌, length, map, filter, flat_map, Option, Some, None, is_some, IsSome, slice_get}
 use Rattle.std.specs.List.{list_all, range_with_len}
-use Rattle.std.specs.Option.{option_and_then}
+use Rattle.std.specs.Option.{option_and_then, option_map_or}
 use Rattle.cell_base.specs.declared.steps.Actor.{Actor}
 use Rattle.cell_base.specs.declared.steps.Actor.TheVariants.{Spu, Mfc, Host as TheHost}
 use Rattle.cell_base.specs.declared.steps.Step.{Step}
-use Rattle.cell_base.specs.declared.steps.Step.TheVariants.{Exec, Atomic, Host}
+use Rattle.cell_base.specs.declared.steps.Step.TheVariants.{Exec, Piece, Retire, Atomic, Host}
 use Rattle.cell_machine.specs.declared.status.End.{End}
 use Rattle.cell_machine.specs.declared.status.End.TheVariants.{AllStopped, Stuck, Budget}
 use Rattle.cell_machine.specs.Spe.{Spe, is_running}
 use Rattle.cell_machine.specs.State.{State}
-use Rattle.cell_machine.specs.Moves.{outstanding}
+use Rattle.mfc_command.specs.declared.command.Command.{Command}
+use Rattle.cell_machine.specs.Moves.{outstanding, pieces_of}
 use Rattle.cell_machine.specs.Next.{next}
 use Rattle.cell_machine.specs.Opening.{Opening, opening}
 
@@ -39,14 +40,21 @@ spe_of m p = option_and_then (λ M. slice_get M.spes p) (state_of m)
 abbrev pub next_of : Ran → Step → Option State
 next_of m s = if nat_lt (length m.steps) m.setup.budget then option_and_then (λ M. next M s) (state_of m) else None
 
--- the steps that a processor's flow controller can come to make, in order: its atomic command, and then its queued ones
-abbrev pub steps_of_mfc : ℕ → List Step
-steps_of_mfc p = Atomic p ∷ []
+-- the steps that command c of processor p, which is d, can come to make, in order
+abbrev pub steps_of_command : ℕ → ℕ → Command → List Step
+steps_of_command p c d = Retire p c ∷ map (Piece p c 0) (range_with_len 0 (pieces_of d))
+
+abbrev pub steps_of_number : ℕ → Spe → ℕ → List Step
+steps_of_number p P c = option_map_or (steps_of_command p c) (slice_get P.moves.issued c) []
+
+-- the steps that a processor's flow controller can come to make, in order: its atomic command, and then its outstanding ones
+abbrev pub steps_of_mfc : ℕ → Spe → List Step
+steps_of_mfc p P = Atomic p ∷ flat_map (steps_of_number p P) (outstanding P)
 
 -- the steps that an actor can come to make, in order
 abbrev pub steps_of : State → Actor → List Step
 steps_of M (Spu p) = Exec p ∷ []
-steps_of M (Mfc p) = steps_of_mfc p
+steps_of M (Mfc p) = option_map_or (steps_of_mfc p) (slice_get M.spes p) []
 steps_of M TheHost = Host ∷ []
 
 -- those of them that are allowed

@@ -1,26 +1,32 @@
 //! The channel instructions of a processor.
 
-ghost use Rattle.std.specs.Prelude.{◌≡◌, ◌<◌, ℕ, List, [], ◌∷◌, length, is_some, true, None, IsSomeAnd, MatchBool};
+ghost use Rattle.std.specs.Prelude.{◌≡◌, ◌≢◌, ◌<◌, ◌≤◌, ◌+◌, ℕ, List, [], ◌∷◌, length, is_some, true, None, Some, IsSomeAnd, MatchBool, nat_le, ◌&&◌};
 ghost use Rattle.std.specs.Bool.{OnFalse};
 ghost use Rattle.spu_decode.specs.Spelling.{FieldsFit};
 ghost use Rattle.spu_exec.specs.Meaning.{meaning};
 ghost use Rattle.spu_exec.specs.Places.{RegisterFits};
 ghost use Rattle.cell_machine.specs.Spe.{Spe};
-ghost use Rattle.cell_machine.specs.Channels.{channel, listed, count, given, went_on, bad_channel};
+ghost use Rattle.mfc_command.specs.Check.{OrderFits};
+ghost use Rattle.mfc_command.specs.declared.command.Order.TheVariants.{Queued};
+ghost use Rattle.mfc_queue.specs.Calls.{Call, outstanding};
+ghost use Rattle.mfc_queue.specs.Stands.{StandsFor, HasNumber};
+ghost use Rattle.cell_machine.specs.Moves.{has_pieces, pieces_of};
+ghost use Rattle.mfc_command.specs.declared.command.Command.{Command};
+ghost use Rattle.cell_machine.specs.Channels.{channel, listed, count, given, went_on, bad_channel, read_inbound, read_status, is_opcode, commanded, with_issued};
 ghost use Rattle.cell_machine.specs.Exec.{op_of};
 
 use crate::processor::Processor;
 use crate::status::Status;
 use cell_base::{ChannelOp, Quad};
 use cell_channels::{
-    Channels, Counts, SPU_RD_IN_MBOX, SPU_WR_OUT_INTR_MBOX, SPU_WR_OUT_MBOX, Way, way,
+    Channels, Counts, MFC_CMD, MFC_LSA, MFC_RD_ATOMIC_STAT, MFC_RD_LIST_STALL_STAT,
+    MFC_RD_TAG_MASK, MFC_RD_TAG_STAT, MFC_TAG_ID, MFC_WR_LIST_STALL_ACK, MFC_WR_TAG_MASK,
+    MFC_WR_TAG_UPDATE, SPU_RD_IN_MBOX, SPU_WR_OUT_INTR_MBOX, SPU_WR_OUT_MBOX, Way, way,
 };
+use mfc_command::{Command, DmaFault, Kind, Order, check, parts};
 use spu_decode::{Instr, Row};
 use spu_exec::next_pc;
 use spu_regs::Regs;
-
-/// How many commands the queue of a flow controller takes.
-const QUEUE_PLACES: u32 = 16;
 
 /// How many values each of the two outbound mailboxes takes.
 const OUTBOUND_PLACES: u32 = 1;
@@ -47,22 +53,67 @@ pub(crate) fn operation(i: Instr, registers: &Regs) -> Option<ChannelOp>
 fn listed(ch: u8) -> Option<Way>
     ensures { result ≡ listed ch }
 {
-    if ch < SPU_WR_OUT_MBOX {
-        return None;
+    match ch {
+        MFC_RD_LIST_STALL_STAT => None,
+        MFC_WR_LIST_STALL_ACK => None,
+        MFC_RD_ATOMIC_STAT => None,
+        _ => way(ch),
     }
-    way(ch)
+}
+
+/// Whether a channel holds a parameter of the next command.
+fn is_param(ch: u8) -> bool
+    ensures { result ≡ (nat_le 16 ch && nat_le ch 20) }
+{
+    ch >= MFC_LSA && ch <= MFC_TAG_ID
+}
+
+/// Whether an opcode is that of PUT, PUTB, PUTF, GET, GETB, GETF or BARRIER.
+#[tactic(auto, unfolding(crate::specs::Channels::is_opcode))]
+fn is_opcode(opcode: u32) -> bool
+    ensures { result ≡ is_opcode opcode }
+{
+    matches!(opcode, 0x20 | 0x21 | 0x22 | 0x40 | 0x41 | 0x42 | 0xc0)
+}
+
+/// Whether a command is moved in pieces.
+fn has_pieces(command: &Command) -> bool
+    ensures { result ≡ has_pieces command.now }
+{
+    match command.kind {
+        Kind::Put => command.size != 0,
+        Kind::Get => command.size != 0,
+        Kind::PutList => false,
+        Kind::GetList => false,
+        Kind::Barrier => false,
+    }
+}
+
+/// How many pieces a command is moved in.
+#[tactic(auto, unfolding(crate::specs::Moves::pieces_of))]
+fn pieces_of(command: &Command) -> u32
+    requires few { command.now.size ≤ 16384 }
+    requires fits { command.now.ea + command.now.size < 4294967296 }
+    ensures count { result ≡ pieces_of command.now }
+    ensures few { result ≤ 129 }
+{
+    if has_pieces(command) {
+        parts(command.ea, command.size)
+    } else {
+        0
+    }
 }
 
 impl Processor {
-    ghost use Rattle.cell_machine.specs.Shows.{ShowsSpe, ShowsMailboxes};
+    ghost use Rattle.cell_machine.specs.Shows.{ShowsSpe, ShowsChannels};
 
     /// The count of a channel.
     fn count(&self, ch: u8) -> u32
         ensures { (P : Spe) → ShowsSpe self.now P → is_some (listed ch) ≡ true → result ≡ count P ch }
     {
         let counts = Counts {
-            free: QUEUE_PLACES,
-            tags: false,
+            free: self.queue.free(),
+            tags: self.tags.ready(),
             inbound: self.inbound.len(),
             outbound: OUTBOUND_PLACES - self.outbound.len(),
             intr: OUTBOUND_PLACES - self.interrupt.len(),
@@ -71,6 +122,13 @@ impl Processor {
             Ok(count) => count,
             Err(_) => 0,
         }
+    }
+
+    /// Goes on to the next instruction.
+    fn go_on(&mut self)
+        ensures { (P : Spe) → ShowsSpe self.old P → ShowsSpe self.new (went_on P) }
+    {
+        self.pc = next_pc(self.pc);
     }
 
     /// Goes on with a value in word 0 of a register, and zeros after it.
@@ -85,13 +143,48 @@ impl Processor {
     /// Reads a channel, and says whether that was allowed.
     fn read_channel(&mut self, rt: u8, ch: u8) -> bool
         requires { rt < 128 }
-        ensures made { (P : Spe) → ShowsSpe self.old P → MatchBool result (IsSomeAnd (channel P (ChannelOp.Read rt ch)) (ShowsSpe self.new)) (channel P (ChannelOp.Read rt ch) ≡ None) }
+        ensures made { (lines : ℕ) (P : Spe) → ShowsSpe self.old P → MatchBool result (IsSomeAnd (channel lines P (ChannelOp.Read rt ch)) (ShowsSpe self.new)) (channel lines P (ChannelOp.Read rt ch) ≡ None) }
         ensures refused { OnFalse result (self.new ≡ self.old) }
     {
-        if ch != SPU_RD_IN_MBOX {
-            self.status = Status::BadChannel;
-            return true;
+        match ch {
+            MFC_RD_TAG_MASK => {
+                let mask = self.tags.mask();
+                self.give(rt, mask);
+                true
+            }
+            MFC_RD_TAG_STAT => self.read_status(rt),
+            SPU_RD_IN_MBOX => self.read_inbound(rt),
+            _ => {
+                self.status = Status::BadChannel;
+                true
+            }
         }
+    }
+
+    /// Reads the tag status, if one is fixed.
+    fn read_status(&mut self, rt: u8) -> bool
+        requires { rt < 128 }
+        ensures made { (P : Spe) → ShowsSpe self.old P → MatchBool result (IsSomeAnd (read_status P rt P.tags.status) (ShowsSpe self.new)) (read_status P rt P.tags.status ≡ None) }
+        ensures refused { OnFalse result (self.new ≡ self.old) }
+    {
+        if !self.tags.ready() {
+            return false;
+        }
+        match self.tags.read() {
+            Ok(status) => {
+                self.give(rt, status.groups);
+                true
+            }
+            Err(_) => unreachable!(),
+        }
+    }
+
+    /// Reads the oldest value of the inbound mailbox, if there is one.
+    fn read_inbound(&mut self, rt: u8) -> bool
+        requires { rt < 128 }
+        ensures made { (P : Spe) → ShowsSpe self.old P → MatchBool result (IsSomeAnd (read_inbound P rt P.inbound) (ShowsSpe self.new)) (read_inbound P rt P.inbound ≡ None) }
+        ensures refused { OnFalse result (self.new ≡ self.old) }
+    {
         let Some(value) = self.inbound.take() else {
             return false;
         };
@@ -102,7 +195,7 @@ impl Processor {
     /// Reads the count of a channel.
     fn count_channel(&mut self, rt: u8, ch: u8)
         requires { rt < 128 }
-        ensures { (P : Spe) → ShowsSpe self.old P → IsSomeAnd (channel P (ChannelOp.Count rt ch)) (ShowsSpe self.new) }
+        ensures { (lines : ℕ) (P : Spe) → ShowsSpe self.old P → IsSomeAnd (channel lines P (ChannelOp.Count rt ch)) (ShowsSpe self.new) }
     {
         match listed(ch) {
             None => self.status = Status::BadChannel,
@@ -114,17 +207,101 @@ impl Processor {
     }
 
     /// Writes a value to a channel, and says whether that was allowed.
-    fn write_channel(&mut self, ch: u8, value: u32) -> bool
-        ensures made { (P : Spe) → ShowsSpe self.old P → MatchBool result (IsSomeAnd (channel P (ChannelOp.Write ch value)) (ShowsSpe self.new)) (channel P (ChannelOp.Write ch value) ≡ None) }
+    fn write_channel(&mut self, lines: u32, ch: u8, value: u32) -> bool
+        requires number { HasNumber self.old.queue }
+        requires lines { lines ≤ 524288 }
+        ensures made { (P : Spe) → ShowsSpe self.old P → MatchBool result (IsSomeAnd (channel lines P (ChannelOp.Write ch value)) (ShowsSpe self.new)) (channel lines P (ChannelOp.Write ch value) ≡ None) }
         ensures refused { OnFalse result (self.new ≡ self.old) }
     {
         match ch {
+            MFC_CMD => self.write_command(lines, value),
+            MFC_WR_TAG_MASK => {
+                self.tags.set_mask(value);
+                self.go_on();
+                true
+            }
+            MFC_WR_TAG_UPDATE => {
+                self.tags.request(value);
+                self.go_on();
+                true
+            }
             SPU_WR_OUT_MBOX => self.put_outbound(value),
             SPU_WR_OUT_INTR_MBOX => self.put_interrupt(value),
             _ => {
-                self.status = Status::BadChannel;
+                self.write_param(ch, value);
                 true
             }
+        }
+    }
+
+    /// Sets a parameter of the next command, where the channel holds one.
+    fn write_param(&mut self, ch: u8, value: u32)
+        requires other { (ch ≢ 21) × (ch ≢ 22) × (ch ≢ 23) × (ch ≢ 28) × (ch ≢ 30) }
+        ensures { (lines : ℕ) (P : Spe) → ShowsSpe self.old P → IsSomeAnd (channel lines P (ChannelOp.Write ch value)) (ShowsSpe self.new) }
+    {
+        if !is_param(ch) {
+            self.status = Status::BadChannel;
+            return;
+        }
+        self.channels.set_param(ch, value);
+        self.go_on();
+    }
+
+    /// Asks for a command, if the queue has a free place.
+    fn write_command(&mut self, lines: u32, op: u32) -> bool
+        requires number { HasNumber self.old.queue }
+        requires lines { lines ≤ 524288 }
+        ensures made { (P : Spe) → ShowsSpe self.old P → MatchBool result (IsSomeAnd (channel lines P (ChannelOp.Write 21 op)) (ShowsSpe self.new)) (channel lines P (ChannelOp.Write 21 op) ≡ None) }
+        ensures refused { OnFalse result (self.new ≡ self.old) }
+    {
+        if self.queue.free() == 0 {
+            return false;
+        }
+        self.command(lines, op);
+        true
+    }
+
+    /// Issues the command that is asked for and goes on, or comes to a fault.
+    #[tactic(auto, unfolding(crate::specs::Channels::commanded))]
+    fn command(&mut self, lines: u32, op: u32)
+        requires number { HasNumber self.old.queue }
+        requires lines { lines ≤ 524288 }
+        requires free { (calls : List Call) → StandsFor self.old.queue calls → length (outstanding calls) < 16 }
+        ensures { (P : Spe) → ShowsSpe self.old P → ShowsSpe self.new (commanded lines P op) }
+    {
+        if !is_opcode(op % 0x1_0000) {
+            self.refuse(DmaFault::Opcode);
+            return;
+        }
+        match check(self.channels.params(), op, lines) {
+            Ok(Order::Queued(command)) => {
+                self.issue(lines, command);
+                self.go_on();
+            }
+            Ok(Order::Atomic(_)) => self.refuse(DmaFault::Opcode),
+            Err(kind) => self.refuse(kind),
+        }
+    }
+
+    /// Comes to a fault, with the PC at the instruction.
+    fn refuse(&mut self, kind: DmaFault)
+        ensures { (P : Spe) → ShowsSpe self.old P → ShowsSpe self.new (record P { status = Status.DmaFault kind }) }
+    {
+        self.status = Status::DmaFault { kind };
+    }
+
+    /// Puts a command into the queue, which has a free place.
+    fn issue(&mut self, lines: u32, command: Command)
+        requires number { HasNumber self.old.queue }
+        requires lines { lines ≤ 524288 }
+        requires fits { OrderFits lines (Queued command) }
+        requires free { (calls : List Call) → StandsFor self.old.queue calls → length (outstanding calls) < 16 }
+        ensures { (P : Spe) → ShowsSpe self.old P → ShowsSpe self.new (record P { moves = with_issued P.moves command }) }
+    {
+        let pieces = pieces_of(&command);
+        match self.queue.issue(command) {
+            Ok(number) => self.queue.set_parts(number, pieces),
+            Err(_) => unreachable!(),
         }
     }
 
@@ -153,9 +330,11 @@ impl Processor {
     }
 
     /// Does a channel operation, and says whether it was allowed. Where it wasn't, nothing changes.
-    pub(crate) fn channel(&mut self, op: ChannelOp) -> bool
-        requires { RegisterFits op }
-        ensures made { (P : Spe) → ShowsSpe self.old P → MatchBool result (IsSomeAnd (channel P op) (ShowsSpe self.new)) (channel P op ≡ None) }
+    pub(crate) fn channel(&mut self, lines: u32, op: ChannelOp) -> bool
+        requires register { RegisterFits op }
+        requires number { HasNumber self.old.queue }
+        requires lines { lines ≤ 524288 }
+        ensures made { (P : Spe) → ShowsSpe self.old P → MatchBool result (IsSomeAnd (channel lines P op) (ShowsSpe self.new)) (channel lines P op ≡ None) }
         ensures refused { OnFalse result (self.new ≡ self.old) }
     {
         match op {
@@ -164,13 +343,13 @@ impl Processor {
                 self.count_channel(rt, ch);
                 true
             }
-            ChannelOp::Write { ch, value } => self.write_channel(ch, value),
+            ChannelOp::Write { ch, value } => self.write_channel(lines, ch, value),
         }
     }
 
     /// Whether a channel operation is allowed.
     pub(crate) fn is_ready(&self, op: ChannelOp) -> bool
-        ensures { (P : Spe) → ShowsMailboxes self.now P → result ≡ is_some (channel P op) }
+        ensures { (lines : ℕ) (P : Spe) → ShowsChannels self.now P → result ≡ is_some (channel lines P op) }
     {
         match op {
             ChannelOp::Read { ch, .. } => self.may_read(ch),
@@ -181,19 +360,21 @@ impl Processor {
 
     /// Whether a read of a channel is allowed.
     fn may_read(&self, ch: u8) -> bool
-        ensures { (P : Spe) (rt : ℕ) → ShowsMailboxes self.now P → result ≡ is_some (channel P (ChannelOp.Read rt ch)) }
+        ensures { (lines : ℕ) (P : Spe) (rt : ℕ) → ShowsChannels self.now P → result ≡ is_some (channel lines P (ChannelOp.Read rt ch)) }
     {
-        if ch != SPU_RD_IN_MBOX {
-            return true;
+        match ch {
+            MFC_RD_TAG_STAT => self.tags.ready(),
+            SPU_RD_IN_MBOX => self.inbound.len() > 0,
+            _ => true,
         }
-        self.inbound.len() > 0
     }
 
     /// Whether a write to a channel is allowed.
     fn may_write(&self, ch: u8) -> bool
-        ensures { (P : Spe) (value : ℕ) → ShowsMailboxes self.now P → result ≡ is_some (channel P (ChannelOp.Write ch value)) }
+        ensures { (lines : ℕ) (P : Spe) (value : ℕ) → ShowsChannels self.now P → result ≡ is_some (channel lines P (ChannelOp.Write ch value)) }
     {
         match ch {
+            MFC_CMD => self.queue.free() > 0,
             SPU_WR_OUT_MBOX => self.outbound.len() < OUTBOUND_PLACES,
             SPU_WR_OUT_INTR_MBOX => self.interrupt.len() < OUTBOUND_PLACES,
             _ => true,

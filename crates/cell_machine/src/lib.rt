@@ -8,6 +8,8 @@ mod machine;
 mod processor;
 mod setup;
 mod status;
+mod transfers;
+mod walks;
 
 pub use cell_host::{Host, HostAction, Took};
 pub use error::MachineError;

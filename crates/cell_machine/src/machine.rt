@@ -4,7 +4,10 @@ ghost use Rattle.std.specs.Prelude.{◌≡◌, ℕ, ◌+◌, ◌*◌, ◌<◌, �
 ghost use Rattle.std.specs.Bool.{OnFalse};
 ghost use Rattle.cell_base.specs.declared.steps.Step.{Step};
 ghost use Rattle.cell_machine.specs.State.{State};
-ghost use Rattle.cell_machine.specs.Next.{act};
+ghost use Rattle.cell_machine.specs.Next.{act, settled_in};
+ghost use Rattle.cell_machine.specs.Moves.{outstanding};
+ghost use Rattle.cell_machine.specs.Kept.{IsKept};
+ghost use Rattle.cell_machine.specs.Choices.{all_of_spus, all_of_mfcs};
 ghost use Rattle.spu_exec.specs.Places.{IsPlace};
 ghost use Rattle.spu_regs.specs.Registers.{register};
 ghost use Rattle.cell_base.specs.Bytes.{zeros};
@@ -12,7 +15,7 @@ ghost use Rattle.cell_host.specs.Script.{Progress};
 ghost use Rattle.cell_machine.specs.Opening.{Opening, opening_spes, filled};
 ghost use Rattle.cell_machine.specs.Limits.{shown, shown_memory};
 ghost use Rattle.cell_machine.specs.Run.{Ran, IsRun, state_of, next_of, spe_of, picked_of, first_of, first_allowed, picked, allowed, is_quiet, IsEnd};
-ghost use Rattle.cell_machine.specs.Shows.{Shows, AllTwo, ShowsSpe, IsFit};
+ghost use Rattle.cell_machine.specs.Shows.{Shows, AllTwo, ShowsSpe, IsFit, CanGo, AreSettled};
 
 use crate::error::MachineError;
 use crate::hosts::{act_host, may_act_host};
@@ -51,22 +54,39 @@ impl Model for Machine {
 
 /// Does the step, or leaves all as it is where it isn't allowed.
 fn act(processors: &mut [Processor], memory: &mut Memory, host: &mut Host, s: Step) -> bool
-    requires { IsFit (length processors.old) memory.old host.old }
-    ensures made { (M : State) → Shows processors.old memory.old host.old M → MatchBool result (IsSomeAnd (act M s) (Shows processors.new memory.new host.new)) (act M s ≡ None) }
+    requires fit { IsFit (length processors.old) memory.old host.old }
+    requires can { CanGo processors.old memory.old }
+    ensures made { (M : State) → Shows processors.old memory.old host.old M → AreSettled M.spes → MatchBool result (IsSomeAnd (act M s) (λ N. Shows processors.new memory.new host.new (settled_in N))) (act M s ≡ None) }
     ensures refused { OnFalse result ((processors.new ≡ processors.old) × (memory.new ≡ memory.old) × (host.new ≡ host.old)) }
     ensures long { length memory.new ≡ length memory.old }
     ensures script { host.new.script ≡ host.old.script }
 {
+    let lines = memory.lines();
     match s {
         Step::Exec { spe } => {
             if spe as usize >= processors.len() {
                 return false;
             }
-            processors[spe as usize].exec()
+            processors[spe as usize].exec_step(lines)
         }
-        Step::Piece { .. } => false,
+        Step::Piece {
+            spe,
+            cmd,
+            elem,
+            part,
+        } => {
+            if spe as usize >= processors.len() {
+                return false;
+            }
+            processors[spe as usize].piece_step(memory, cmd, elem, part)
+        }
         Step::Elem { .. } => false,
-        Step::Retire { .. } => false,
+        Step::Retire { spe, cmd } => {
+            if spe as usize >= processors.len() {
+                return false;
+            }
+            processors[spe as usize].retire_step(cmd)
+        }
         Step::Atomic { .. } => false,
         Step::Host => act_host(processors, memory, host),
     }
@@ -106,8 +126,25 @@ fn opening_memory(alloc: Global, lines: u32, pieces: &[MemoryBytes]) -> Result<M
 
 /// The first allowed step of the first actor that has one.
 fn first_step(processors: &[Processor], host: &Host) -> Option<Step>
-    requires { length processors.now ≤ 8 }
+    requires many { length processors.now ≤ 8 }
+    requires kept { All (λ c. IsKept c.queue) processors.now }
     ensures { (memory : List ℕ) (M : State) → Shows processors.now memory host.now M → result ≡ first_allowed M }
+{
+    let of_spus = first_of_spus(processors);
+    if of_spus.is_some() {
+        return of_spus;
+    }
+    let of_mfcs = first_of_mfcs(processors);
+    if of_mfcs.is_some() {
+        return of_mfcs;
+    }
+    first_of_host(processors, host)
+}
+
+/// The first allowed instruction.
+fn first_of_spus(processors: &[Processor]) -> Option<Step>
+    requires { length processors.now ≤ 8 }
+    ensures { (memory : List ℕ) (host : Progress) (M : State) → Shows processors.now memory host M → result ≡ slice_get (all_of_spus M) 0 }
 {
     for spe in 0..processors.len() {
         let processor = &processors[spe];
@@ -115,7 +152,23 @@ fn first_step(processors: &[Processor], host: &Host) -> Option<Step>
             return Some(Step::Exec { spe: spe as u8 });
         }
     }
-    first_of_host(processors, host)
+    None
+}
+
+/// The first allowed step of the first flow controller that has one.
+fn first_of_mfcs(processors: &[Processor]) -> Option<Step>
+    requires many { length processors.now ≤ 8 }
+    requires kept { All (λ c. IsKept c.queue) processors.now }
+    ensures { (memory : List ℕ) (host : Progress) (M : State) → Shows processors.now memory host M → result ≡ slice_get (all_of_mfcs M) 0 }
+{
+    for spe in 0..processors.len() {
+        let processor = &processors[spe];
+        let first = processor.first_of_mfc(spe as u8);
+        if first.is_some() {
+            return first;
+        }
+    }
+    None
 }
 
 /// The host's step, if it is allowed.
@@ -129,7 +182,7 @@ fn first_of_host(processors: &[Processor], host: &Host) -> Option<Step>
     }
 }
 
-/// Whether no processor runs, no command is outstanding and no slot is taken.
+/// Whether no processor runs and no command is outstanding.
 fn is_quiet(processors: &[Processor]) -> bool
     ensures { (memory : List ℕ) (host : Progress) (M : State) → Shows processors.now memory host M → result ≡ is_quiet M }
 {
@@ -143,6 +196,7 @@ fn is_quiet(processors: &[Processor]) -> bool
 
 /// The allowed step of the actor at the place that is the choice's remainder.
 fn nth_step(processors: &[Processor], host: &Host, actor: Actor, choice: u64) -> Option<Step>
+    requires { All (λ c. IsKept c.queue) processors.now }
     ensures { (memory : List ℕ) (M : State) → Shows processors.now memory host.now M → result ≡ picked M actor choice }
 {
     match actor {
@@ -157,7 +211,13 @@ fn nth_step(processors: &[Processor], host: &Host, actor: Actor, choice: u64) ->
                 None
             }
         }
-        Actor::Mfc(_) => None,
+        Actor::Mfc(spe) => {
+            if spe as usize >= processors.len() {
+                return None;
+            }
+            let processor = &processors[spe as usize];
+            processor.pick_of_mfc(spe, choice)
+        }
         Actor::Host => first_of_host(processors, host),
     }
 }
@@ -230,6 +290,14 @@ impl Machine {
         ensures { IsSomeAnd (spe_of self.now spe) (λ P. P.pc ≡ result) }
     {
         self.processors[spe as usize].pc
+    }
+
+    /// How many queued commands are outstanding in a processor that is there.
+    pub fn queued(&self, spe: u8) -> u32
+        requires { spe < length self.now.setup.entries }
+        ensures { IsSomeAnd (spe_of self.now spe) (λ P. result ≡ length (outstanding P)) }
+    {
+        self.processors[spe as usize].queued()
     }
 
     /// Register `r`, below 128, of a processor that is there.

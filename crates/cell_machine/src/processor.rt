@@ -4,7 +4,10 @@ ghost use Rattle.std.specs.Prelude.{◌≡◌, ℕ, ◌+◌, ◌≤◌, List, le
 ghost use Rattle.std.specs.Bool.{OnFalse};
 ghost use Rattle.spu_exec.specs.Places.{IsPlace, LeadsToPlace, RegisterFits};
 ghost use Rattle.cell_base.specs.declared.steps.ChannelOp.{ChannelOp};
+ghost use Rattle.mfc_queue.specs.Stands.{HasNumber};
 ghost use Rattle.cell_machine.specs.Spe.{Spe, is_running};
+ghost use Rattle.cell_machine.specs.Moves.{outstanding};
+ghost use Rattle.cell_machine.specs.Tags.{settled};
 ghost use Rattle.cell_machine.specs.Exec.{exec, followed, op_of};
 ghost use Rattle.cell_machine.specs.Opening.{placed_in};
 ghost use Rattle.cell_machine.specs.Limits.{shown};
@@ -13,12 +16,18 @@ use crate::channels::operation;
 use crate::error::MachineError;
 use crate::setup::PlacedBytes;
 use crate::status::Status;
+use cell_channels::Channels;
 use local_store::LocalStore;
 use mailboxes::Mailbox;
+use mfc_queue::Queue;
 use spu_decode::decode;
 use spu_exec::{Flow, exec};
 use spu_regs::Regs;
 use std::alloc::Global;
+use tag_groups::Tags;
+
+/// How many places the queue has.
+const QUEUE_PLACES: u32 = 16;
 
 /// A processor as it stands.
 #[derive(Drop)]
@@ -30,6 +39,9 @@ pub(crate) struct Processor {
     pub(crate) inbound: Mailbox<4>,
     pub(crate) outbound: Mailbox<1>,
     pub(crate) interrupt: Mailbox<1>,
+    pub(crate) channels: Channels,
+    pub(crate) tags: Tags,
+    pub(crate) queue: Queue,
     ghost here: { IsPlace pc },
 }
 
@@ -73,6 +85,9 @@ impl Processor {
             inbound: Mailbox::new(),
             outbound: Mailbox::new(),
             interrupt: Mailbox::new(),
+            channels: Channels::new(),
+            tags: Tags::new(),
+            queue: Queue::new(),
         })
     }
 
@@ -83,10 +98,12 @@ impl Processor {
     }
 
     /// Goes where an instruction leads, and says whether that was allowed.
-    fn follow(&mut self, flow: Flow) -> bool
+    fn follow(&mut self, lines: u32, flow: Flow) -> bool
         requires leads { LeadsToPlace flow }
+        requires number { HasNumber self.old.queue }
+        requires lines { lines ≤ 524288 }
         requires channel { (op : ChannelOp) → flow ≡ Flow.Channel op → RegisterFits op }
-        ensures made { (P : Spe) → ShowsSpe self.old P → MatchBool result (IsSomeAnd (followed P flow) (ShowsSpe self.new)) (followed P flow ≡ None) }
+        ensures made { (P : Spe) → ShowsSpe self.old P → MatchBool result (IsSomeAnd (followed lines P flow) (ShowsSpe self.new)) (followed lines P flow ≡ None) }
         ensures refused { OnFalse result (self.new ≡ self.old) }
         ensures only { OnFalse result (IsSome (op_of flow)) }
     {
@@ -105,13 +122,15 @@ impl Processor {
                 self.pc = next;
                 true
             }
-            Flow::Channel(op) => self.channel(op),
+            Flow::Channel(op) => self.channel(lines, op),
         }
     }
 
     /// Makes the next instruction, and says whether it was allowed. Where it wasn't, nothing changes.
-    pub(crate) fn exec(&mut self) -> bool
-        ensures made { (P : Spe) → ShowsSpe self.old P → MatchBool result (IsSomeAnd (exec P) (ShowsSpe self.new)) (exec P ≡ None) }
+    fn exec(&mut self, lines: u32) -> bool
+        requires number { HasNumber self.old.queue }
+        requires lines { lines ≤ 524288 }
+        ensures made { (P : Spe) → ShowsSpe self.old P → MatchBool result (IsSomeAnd (exec lines P) (ShowsSpe self.new)) (exec lines P ≡ None) }
         ensures refused { OnFalse result (self.new ≡ self.old) }
     {
         if !self.is_running() {
@@ -122,12 +141,26 @@ impl Processor {
             return true;
         };
         let flow = exec(instruction, self.pc, &mut self.registers, &mut self.store);
-        self.follow(flow)
+        self.follow(lines, flow)
+    }
+
+    /// Makes the next instruction and settles, or leaves all as it is where the instruction isn't allowed.
+    pub(crate) fn exec_step(&mut self, lines: u32) -> bool
+        requires number { HasNumber self.old.queue }
+        requires lines { lines ≤ 524288 }
+        ensures made { (P : Spe) → ShowsSpe self.old P → MatchBool result (IsSomeAnd (exec lines P) (λ Q. ShowsSpe self.new (settled Q))) (exec lines P ≡ None) }
+        ensures refused { OnFalse result (self.new ≡ self.old) }
+    {
+        if !self.exec(lines) {
+            return false;
+        }
+        self.settle();
+        true
     }
 
     /// Whether its next instruction is allowed.
     pub(crate) fn may_exec(&self) -> bool
-        ensures { (P : Spe) → ShowsSpe self.now P → result ≡ is_some (exec P) }
+        ensures { (lines : ℕ) (P : Spe) → ShowsSpe self.now P → result ≡ is_some (exec lines P) }
     {
         if !self.is_running() {
             return false;
@@ -145,6 +178,16 @@ impl Processor {
     pub(crate) fn is_quiet(&self) -> bool
         ensures { (P : Spe) → ShowsSpe self.now P → result ≡ is_quiet_spe P }
     {
-        !self.is_running()
+        if self.is_running() {
+            return false;
+        }
+        self.queued() == 0
+    }
+
+    /// How many queued commands are outstanding.
+    pub(crate) fn queued(&self) -> u32
+        ensures { (P : Spe) → ShowsSpe self.now P → result ≡ length (outstanding P) }
+    {
+        QUEUE_PLACES.saturating_sub(self.queue.free())
     }
 }

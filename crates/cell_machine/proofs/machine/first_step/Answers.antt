@@ -1,12 +1,12 @@
-use Rattle.std.proofs.Common.{arith, sym, ◌∙◌}
-use Rattle.cell_machine.proofs.Choices.{from-on, first-found, first-none}
+use Rattle.std.proofs.Common.{sym, ◌∙◌}
+use Rattle.cell_machine.proofs.Choices.{first-spu, first-mfc, first-host}
 use Rattle.cell_machine.proofs.machine.first_step.Goals as goal
 
-pub returns-then-may_exec : goal.returns-then-may_exec
-returns-then-may_exec c = λ memory M shows. first-found _ M c.loop-spe.spe _ _ shows (omega arith) c.index-processors-spe.is c.may_exec.ensures c.if-may_exec.true (c.loop-spe.invariant memory M shows)
+pub returns-then-is_some : goal.returns-then-is_some
+returns-then-is_some c = λ memory M shows. first-spu M _ (c.first_of_spus-of_spus.ensures memory _ M shows) (sym c.is_some.ensures ∙ c.if-is_some.true)
 
-pub loop-spe-preserved : goal.loop-spe-preserved
-loop-spe-preserved c = λ memory M shows. from-on _ M c.loop-spe.spe _ _ shows (omega arith) c.index-processors-spe.is c.may_exec.ensures c.if-may_exec.false (c.loop-spe.invariant memory M shows)
+pub returns-then-is_some-2 : goal.returns-then-is_some-2
+returns-then-is_some-2 c = λ memory M shows. first-mfc M _ _ (c.first_of_spus-of_spus.ensures memory _ M shows) (sym c.is_some.ensures ∙ c.if-is_some.false) (c.first_of_mfcs-of_mfcs.ensures memory _ M shows) (sym c.is_some-2.ensures ∙ c.if-is_some-2.true)
 
 pub returns : goal.returns
-returns c = λ memory M shows. c.first_of_host.ensures memory M shows ∙ sym (first-none _ M c.loop-spe.spe shows (omega arith) (c.loop-spe.invariant memory M shows))
+returns c = λ memory M shows. first-host M _ _ _ (c.first_of_spus-of_spus.ensures memory _ M shows) (sym c.is_some.ensures ∙ c.if-is_some.false) (c.first_of_mfcs-of_mfcs.ensures memory _ M shows) (sym c.is_some-2.ensures ∙ c.if-is_some-2.false) (c.first_of_host.ensures memory M shows)

@@ -1,6 +1,7 @@
 use Rattle.std.proofs.Common.{length, arith, ap}
 use Rattle.cell_machine.specs.Run.{Ran}
 use Rattle.cell_machine.proofs.AnyStep.{machine-replayed, any-allowed, any-none}
+use Rattle.cell_machine.proofs.Replays.{machine-kept}
 use Rattle.cell_machine.proofs.machine.Machine.any_step.Goals as goal
 
 pub returns-clause-allowed : goal.returns-clause-allowed
@@ -14,3 +15,6 @@ returns-clause-none c =
     any-none _ _ c.args.self.now c.self.invariant.state c.self.invariant.shown (machine-replayed _ _ _ _ _ c.self.invariant c.self.view_is)
     (let e = ap (λ (n : Ran). n.setup.budget) c.self.view_is in let l = ap (λ (n : Ran). length n.steps) c.self.view_is in omega arith)
     (c.first_step.ensures c.self.inside.memory c.self.invariant.state (rw c.deref.ensures.value c.self.invariant.shown))
+
+pub first_step-requires-clause-kept : goal.first_step-requires-clause-kept
+first_step-requires-clause-kept c = rw c.deref.ensures.value (machine-kept c.self.invariant)

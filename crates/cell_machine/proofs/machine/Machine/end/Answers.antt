@@ -2,6 +2,7 @@ use Rattle.std.proofs.Common.{sym, ap, ◌∙◌, arith}
 use Rattle.cell_machine.specs.Run.{Ran}
 use Rattle.cell_machine.proofs.Replays.{machine-state}
 use Rattle.cell_machine.proofs.Choices.{can_go_on, ended_at}
+use Rattle.cell_machine.proofs.Replays.{machine-kept}
 use Rattle.cell_machine.proofs.machine.Machine.end.Goals as goal
 
 pub returns-then-len-budget : goal.returns-then-len-budget
@@ -19,3 +20,6 @@ returns-then-is_quiet c = machine-state _ _ _ _ _ _ c.self.invariant c.self.view
 pub returns-else-is_quiet : goal.returns-else-is_quiet
 returns-else-is_quiet c = machine-state _ _ _ _ _ _ c.self.invariant c.self.view_is (λ M shows long.
     (ended_at _ M c.first_step.result shows (c.first_step.ensures c.self.inside.memory M (rw c.deref.ensures.value shows)) (sym c.is_some.ensures ∙ c.if-is_some.false), sym (c.is_quiet.ensures c.self.inside.memory c.self.inside.host M (rw c.deref-else-is_some.ensures.value shows)) ∙ c.if-is_quiet.false))
+
+pub first_step-requires-clause-kept : goal.first_step-requires-clause-kept
+first_step-requires-clause-kept c = rw c.deref.ensures.value (machine-kept c.self.invariant)

@@ -1,6 +1,7 @@
 use Rattle.std.proofs.Common.{length, arith, ap}
 use Rattle.cell_machine.specs.Run.{Ran}
 use Rattle.cell_machine.proofs.AnyStep.{machine-replayed, picked-is, pick-allowed}
+use Rattle.cell_machine.proofs.Replays.{machine-kept}
 use Rattle.cell_machine.proofs.machine.Machine.pick.Goals as goal
 
 pub returns-clause-allowed : goal.returns-clause-allowed
@@ -14,3 +15,6 @@ returns-clause-picked c =
     picked-is _ c.args.self.now c.self.invariant.state c.args.actor c.args.choice (machine-replayed _ _ _ _ _ c.self.invariant c.self.view_is)
     (let e = ap (λ (n : Ran). n.setup.budget) c.self.view_is in let l = ap (λ (n : Ran). length n.steps) c.self.view_is in omega arith)
     (c.nth_step.ensures c.self.inside.memory c.self.invariant.state (rw c.deref.ensures.value c.self.invariant.shown))
+
+pub nth_step-requires : goal.nth_step-requires
+nth_step-requires c = rw c.deref.ensures.value (machine-kept c.self.invariant)

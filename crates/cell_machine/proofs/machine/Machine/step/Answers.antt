@@ -1,12 +1,12 @@
 use Rattle.std.proofs.Common.{◌≡◌, arith, take, drop, length, ◌++◌, ◌∷◌, [], true}
 use Rattle.std.specs.Prelude.{is_ok, vec_capacity}
 use Rattle.std.proofs.Math.Seq.{take-append_seam}
-use Rattle.cell_machine.proofs.Replays.{machine-step, machine-fit}
+use Rattle.cell_machine.proofs.Replays.{machine-step, machine-fit, machine-can}
 use Rattle.cell_machine.proofs.machine.Machine.step.Goals as goal
 
 pub invariant_of-self-2 : goal.invariant_of-self-2
 invariant_of-self-2 c =
-    let made = rw c.if-not-act.false at (c.act.ensures.made c.self.invariant.state (rw c.deref_mut.ensures.value c.self.invariant.shown)) in
+    let made = rw c.if-not-act.false at (c.act.ensures.made c.self.invariant.state (rw c.deref_mut.ensures.value c.self.invariant.shown) c.self.invariant.settled) in
     let ok : is_ok c.push.result ≡ true = c.push.ensures.succeeds (omega arith) in
     let items : c.push.new.self.items ≡ c.self.inside.steps.items ++ c.args.s ∷ [] = rw ok at c.push.ensures.items in
     let long : c.self.inside.processors.len ≡ length c.act.new.processors = omega arith in
@@ -14,5 +14,8 @@ invariant_of-self-2 c =
     rw long (take-append_seam c.act.new.processors _) in
     rw (items, parts) (machine-step _ _ (vec_capacity c.self.inside.steps) c.self.inside.processors.items _ _ _ _ _ c.args.s _ c.self.invariant made (omega arith) c.act.ensures.long c.act.ensures.script (omega arith) c.push.ensures.capacity)
 
-pub act-requires : goal.act-requires
-act-requires c = rw c.deref_mut.ensures.value (machine-fit _ _ _ _ _ _ c.self.invariant)
+pub act-requires-clause-can : goal.act-requires-clause-can
+act-requires-clause-can c = rw c.deref_mut.ensures.value (machine-can _ _ _ _ _ _ c.self.invariant (omega arith))
+
+pub act-requires-clause-fit : goal.act-requires-clause-fit
+act-requires-clause-fit c = rw c.deref_mut.ensures.value (machine-fit _ _ _ _ _ _ c.self.invariant)

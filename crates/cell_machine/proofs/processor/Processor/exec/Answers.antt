@@ -7,21 +7,21 @@ use Rattle.cell_machine.proofs.Execs.{exec-stopped, exec-bad_word, exec-follows,
 use Rattle.cell_machine.proofs.processor.Processor.exec.Goals as goal
 
 pub returns-then-not-is_running-clause-made : goal.returns-then-not-is_running-clause-made
-returns-then-not-is_running-clause-made c = λ P shows. exec-stopped P (ap is_running shows.status ∙ sym c.is_running.ensures ∙ c.if-not-is_running.true)
+returns-then-not-is_running-clause-made c = λ P shows. exec-stopped c.args.lines P (ap is_running shows.status ∙ sym c.is_running.ensures ∙ c.if-not-is_running.true)
 
 pub returns-in_default-clause-made : goal.returns-in_default-clause-made
 returns-in_default-clause-made c = λ P shows.
     let none : instr_of (word_at c.args.self.now.store c.args.self.now.pc) ≡ None =
     ap instr_of (sym c.word.ensures) ∙ sym c.decode.ensures.means ∙ none_there c.decode.result c.in_default.not-Some in
-    let bad = exec-bad_word c.args.self.now P shows (sym c.is_running.ensures ∙ c.if-not-is_running.false) none in
-    rw bad (record { status = refl; pc = shows.pc; registers = shows.registers; store = shows.store; inbound = shows.inbound; outbound = shows.outbound; interrupt = shows.interrupt })
+    let bad = exec-bad_word c.args.lines c.args.self.now P shows (sym c.is_running.ensures ∙ c.if-not-is_running.false) none in
+    rw bad (record { status = refl; pc = shows.pc; registers = shows.registers; store = shows.store; inbound = shows.inbound; outbound = shows.outbound; interrupt = shows.interrupt; params = shows.params; tags = shows.tags; queue = shows.queue })
 
 pub returns-clause-made : goal.returns-clause-made
 returns-clause-made c = λ P shows.
-    exec-follows c.args.self.now P c.in-Some.instruction _ _ _ shows (sym c.is_running.ensures ∙ c.if-not-is_running.false)
+    exec-follows c.args.lines c.args.self.now P c.in-Some.instruction _ _ _ shows (sym c.is_running.ensures ∙ c.if-not-is_running.false)
     (ap instr_of (sym c.word.ensures) ∙ sym c.decode.ensures.means ∙ c.in-Some.is)
     c.exec-flow.ensures.means
-    (c.follow.ensures.made (record P { registers = c.exec-flow.new.regs; store = c.exec-flow.new.ls }) (record { status = shows.status; pc = shows.pc; registers = refl; store = refl; inbound = shows.inbound; outbound = shows.outbound; interrupt = shows.interrupt }))
+    (c.follow.ensures.made (record P { registers = c.exec-flow.new.regs; store = c.exec-flow.new.ls }) (record { status = shows.status; pc = shows.pc; registers = refl; store = refl; inbound = shows.inbound; outbound = shows.outbound; interrupt = shows.interrupt; params = shows.params; tags = shows.tags; queue = shows.queue }))
 
 pub returns-clause-refused : goal.returns-clause-refused
 returns-clause-refused c =

@@ -3,4 +3,4 @@ use Rattle.cell_machine.proofs.ChannelSteps.{count-some}
 use Rattle.cell_machine.proofs.processor.Processor.is_ready.Goals as goal
 
 pub returns-in-Count : goal.returns-in-Count
-returns-in-Count c = λ P shows. rw c.in-Count.is (sym (count-some P _ _))
+returns-in-Count c = λ lines P shows. rw c.in-Count.is (sym (count-some lines P _ _))

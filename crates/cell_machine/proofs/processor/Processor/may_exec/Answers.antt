@@ -6,21 +6,21 @@ use Rattle.cell_machine.proofs.Execs.{exec-stopped, may-bad_word, may-operate, m
 use Rattle.cell_machine.proofs.processor.Processor.may_exec.Goals as goal
 
 pub returns-then-not-is_running : goal.returns-then-not-is_running
-returns-then-not-is_running c = λ P shows. sym (ap is_some (exec-stopped P (ap is_running shows.status ∙ sym c.is_running.ensures ∙ c.if-not-is_running.true)))
+returns-then-not-is_running c = λ lines P shows. sym (ap is_some (exec-stopped lines P (ap is_running shows.status ∙ sym c.is_running.ensures ∙ c.if-not-is_running.true)))
 
 pub returns-in_default : goal.returns-in_default
-returns-in_default c = λ P shows.
-    may-bad_word c.args.self.now P shows (sym c.is_running.ensures ∙ c.if-not-is_running.false)
+returns-in_default c = λ lines P shows.
+    may-bad_word lines c.args.self.now P shows (sym c.is_running.ensures ∙ c.if-not-is_running.false)
     (ap instr_of (sym c.word.ensures) ∙ sym c.decode.ensures.means ∙ none_there c.decode.result c.in_default.not-Some)
 
 pub returns-in-Some-operation : goal.returns-in-Some-operation
-returns-in-Some-operation c = λ P shows.
-    may-operate c.args.self.now P c.in-Some.instruction c.in-Some-operation.op _ shows (sym c.is_running.ensures ∙ c.if-not-is_running.false)
+returns-in-Some-operation c = λ lines P shows.
+    may-operate lines c.args.self.now P c.in-Some.instruction c.in-Some-operation.op _ shows (sym c.is_running.ensures ∙ c.if-not-is_running.false)
     (ap instr_of (sym c.word.ensures) ∙ sym c.decode.ensures.means ∙ c.in-Some.is)
     (sym c.in-Some-operation.is ∙ c.operation.ensures c.args.self.now.pc c.args.self.now.store) c.is_ready.ensures
 
 pub returns-in-None : goal.returns-in-None
-returns-in-None c = λ P shows.
-    may-go_on c.args.self.now P c.in-Some.instruction shows (sym c.is_running.ensures ∙ c.if-not-is_running.false)
+returns-in-None c = λ lines P shows.
+    may-go_on lines c.args.self.now P c.in-Some.instruction shows (sym c.is_running.ensures ∙ c.if-not-is_running.false)
     (ap instr_of (sym c.word.ensures) ∙ sym c.decode.ensures.means ∙ c.in-Some.is)
     (sym c.in-None.is ∙ c.operation.ensures c.args.self.now.pc c.args.self.now.store)

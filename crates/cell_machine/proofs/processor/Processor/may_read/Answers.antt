@@ -1,11 +1,17 @@
-use Rattle.std.proofs.Common.{length, sym, ap, ◌∙◌}
+use Rattle.std.proofs.Common.{◌≢◌, length, sym, ap, ◌∙◌, arith}
 use Rattle.std.specs.Prelude.{is_some, nat_lt}
-use Rattle.cell_machine.proofs.ChannelSteps.{read-bad, read-ready}
+use Rattle.tag_groups.specs.declared.Tags.{Tags}
+use Rattle.cell_machine.proofs.ChannelSteps.{status-ready, read-ready, read-always}
 use Rattle.cell_machine.proofs.processor.Processor.may_read.Goals as goal
 
-pub returns-then-ch-ne-SPU_RD_IN_MBOX : goal.returns-then-ch-ne-SPU_RD_IN_MBOX
-returns-then-ch-ne-SPU_RD_IN_MBOX c = λ P rt shows. sym (ap is_some (read-bad P rt c.args.ch c.if-ch-ne-SPU_RD_IN_MBOX.true))
+pub returns-in-24 : goal.returns-in-24
+returns-in-24 c = λ lines P rt shows. rw c.in-24.is (c.ready.ensures ∙ ap (λ (t : Tags). is_some t.status) (sym shows.tags) ∙ sym (status-ready lines P rt))
 
-pub returns : goal.returns
-returns c = λ P rt shows.
-    rw c.if-ch-ne-SPU_RD_IN_MBOX.false (ap (nat_lt 0) (c.len.ensures.count ∙ ap length (sym shows.inbound)) ∙ sym (read-ready P rt))
+pub returns-in-29 : goal.returns-in-29
+returns-in-29 c = λ lines P rt shows. rw c.in-29.is (ap (nat_lt 0) (c.len.ensures.count ∙ ap length (sym shows.inbound)) ∙ sym (read-ready lines P rt))
+
+pub returns-in_default : goal.returns-in_default
+returns-in_default c = λ lines P rt shows.
+    let a : c.args.ch ≢ 24 = omega arith in
+    let b : c.args.ch ≢ 29 = omega arith in
+    sym (read-always lines P rt c.args.ch a b)

@@ -2,6 +2,9 @@ use Rattle.std.proofs.Common.{refl, ap, sym, ◌∙◌}
 use Rattle.cell_base.specs.Bytes.{zeros}
 use Rattle.cell_machine.specs.Opening.{placed_in}
 use Rattle.cell_machine.specs.Limits.{shown}
+use Rattle.std.proofs.Common.{[]}
+use Rattle.cell_channels.specs.declared.channels.Channels.{Channels}
+use Rattle.cell_machine.proofs.MovesShown.{no_calls}
 use Rattle.cell_machine.proofs.processor.Processor.new.Goals as goal
 
 pub returns : goal.returns
@@ -15,4 +18,7 @@ returns c = λ S placed. record {
   inbound = sym c.new-3.ensures;
   outbound = sym c.new-4.ensures;
   interrupt = sym c.new-5.ensures;
+  params = sym (ap (λ (x : Channels). x.params) c.new-6.ensures);
+  tags = sym c.new-7.ensures;
+  queue = record { calls = []; stands = c.new-8.ensures; moves = no_calls };
 }

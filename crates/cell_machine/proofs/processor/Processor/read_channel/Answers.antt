@@ -1,20 +1,22 @@
-use Rattle.std.proofs.Common.{◌∙◌, refl}
-use Rattle.cell_machine.proofs.Execs.{none_there}
-use Rattle.cell_machine.proofs.ChannelSteps.{read-bad, read-taken, read-none}
+use Rattle.std.proofs.Common.{◌≢◌, ◌∙◌, ap, refl, sym, subst, arith}
+use Rattle.cell_machine.specs.Channels.{given}
+use Rattle.cell_machine.specs.Shows.{ShowsSpe}
+use Rattle.tag_groups.specs.declared.Tags.{Tags}
+use Rattle.cell_machine.proofs.ChannelSteps.{read-bad, read-mask, read-status, read-inbound}
 use Rattle.cell_machine.proofs.processor.Processor.read_channel.Goals as goal
 
-pub returns-then-ch-ne-SPU_RD_IN_MBOX-clause-made : goal.returns-then-ch-ne-SPU_RD_IN_MBOX-clause-made
-returns-then-ch-ne-SPU_RD_IN_MBOX-clause-made c = λ P shows. rw (read-bad P c.args.rt c.args.ch c.if-ch-ne-SPU_RD_IN_MBOX.true)
-    (record { status = refl; pc = shows.pc; registers = shows.registers; store = shows.store; inbound = shows.inbound; outbound = shows.outbound; interrupt = shows.interrupt })
+pub returns-in-12-clause-made : goal.returns-in-12-clause-made
+returns-in-12-clause-made c = λ lines P shows. rw (c.in-12.is, read-mask lines P c.args.rt) (subst (λ n. ShowsSpe c.give.new.self (given P c.args.rt n)) (c.mask-mask.ensures ∙ ap (λ (t : Tags). t.mask) (sym shows.tags)) (c.give.ensures P shows))
+
+pub returns-in-24-clause-made : goal.returns-in-24-clause-made
+returns-in-24-clause-made c = λ lines P shows. rw (c.in-24.is, read-status lines P c.args.rt) (c.read_status.ensures.made P shows)
+
+pub returns-in-29-clause-made : goal.returns-in-29-clause-made
+returns-in-29-clause-made c = λ lines P shows. rw (c.in-29.is, read-inbound lines P c.args.rt) (c.read_inbound.ensures.made P shows)
 
 pub returns-in_default-clause-made : goal.returns-in_default-clause-made
-returns-in_default-clause-made c = λ P shows.
-    let empty = rw (none_there c.take.result c.in_default.not-Some) at c.take.ensures.none in
-    rw c.if-ch-ne-SPU_RD_IN_MBOX.false (read-none P c.args.rt (shows.inbound ∙ empty.0))
-
-pub returns-clause-made : goal.returns-clause-made
-returns-clause-made c = λ P shows.
-    let oldest = rw c.in-Some.is at c.take.ensures.some in
-    rw c.if-ch-ne-SPU_RD_IN_MBOX.false (rw (read-taken P c.args.rt c.in-Some.value c.take.new.self (shows.inbound ∙ oldest))
-    (c.give.ensures (record P { inbound = c.take.new.self })
-    (record { status = shows.status; pc = shows.pc; registers = shows.registers; store = shows.store; inbound = refl; outbound = shows.outbound; interrupt = shows.interrupt })))
+returns-in_default-clause-made c = λ lines P shows.
+    let a : c.args.ch ≢ 12 = omega arith in
+    let b : c.args.ch ≢ 24 = omega arith in
+    let d : c.args.ch ≢ 29 = omega arith in
+    rw (read-bad lines P c.args.rt c.args.ch a b d) (record { status = refl; pc = shows.pc; registers = shows.registers; store = shows.store; inbound = shows.inbound; outbound = shows.outbound; interrupt = shows.interrupt; params = shows.params; tags = shows.tags; queue = shows.queue })

@@ -1,16 +1,25 @@
-use Rattle.std.proofs.Common.{◌≢◌, arith, refl}
-use Rattle.cell_machine.proofs.ChannelSteps.{write-bad, write-outbound, write-interrupt}
+use Rattle.std.proofs.Common.{ap, sym, ◌∙◌}
+use Rattle.tag_groups.specs.declared.Tags.{Tags}
+use Rattle.tag_groups.specs.Settle.{requested}
+use Rattle.cell_machine.proofs.ChannelSteps.{write-mask, write-request, write-outbound, write-interrupt}
 use Rattle.cell_machine.proofs.processor.Processor.write_channel.Goals as goal
 
+pub returns-in-21-clause-made : goal.returns-in-21-clause-made
+returns-in-21-clause-made c = λ P shows. rw c.in-21.is (c.write_command.ensures.made P shows)
+
+pub returns-in-22-clause-made : goal.returns-in-22-clause-made
+returns-in-22-clause-made c = λ P shows. rw (c.in-22.is, write-mask c.args.lines P c.args.value)
+    (c.go_on.ensures (record P { tags = record P.tags { mask = c.args.value } }) (record { status = shows.status; pc = shows.pc; registers = shows.registers; store = shows.store; inbound = shows.inbound; outbound = shows.outbound; interrupt = shows.interrupt; params = shows.params; tags = ap (λ (t : Tags). record t { mask = c.args.value }) shows.tags ∙ sym c.set_mask.ensures; queue = shows.queue }))
+
+pub returns-in-23-clause-made : goal.returns-in-23-clause-made
+returns-in-23-clause-made c = λ P shows. rw (c.in-23.is, write-request c.args.lines P c.args.value)
+    (c.go_on-in-23.ensures (record P { tags = requested P.tags c.args.value }) (record { status = shows.status; pc = shows.pc; registers = shows.registers; store = shows.store; inbound = shows.inbound; outbound = shows.outbound; interrupt = shows.interrupt; params = shows.params; tags = ap (λ (t : Tags). requested t c.args.value) shows.tags ∙ sym c.request.ensures; queue = shows.queue }))
+
 pub returns-in-28-clause-made : goal.returns-in-28-clause-made
-returns-in-28-clause-made c = λ P shows. rw c.in-28.is (write-outbound _ P _ _ (c.put_outbound.ensures.made P shows))
+returns-in-28-clause-made c = λ P shows. rw c.in-28.is (write-outbound c.args.lines _ P _ _ (c.put_outbound.ensures.made P shows))
 
 pub returns-in-30-clause-made : goal.returns-in-30-clause-made
-returns-in-30-clause-made c = λ P shows. rw c.in-30.is (write-interrupt _ P _ _ (c.put_interrupt.ensures.made P shows))
+returns-in-30-clause-made c = λ P shows. rw c.in-30.is (write-interrupt c.args.lines _ P _ _ (c.put_interrupt.ensures.made P shows))
 
 pub returns-in_default-clause-made : goal.returns-in_default-clause-made
-returns-in_default-clause-made c = λ P shows.
-    let a : c.args.ch ≢ 28 = omega arith in
-    let b : c.args.ch ≢ 30 = omega arith in
-    rw (write-bad P c.args.ch c.args.value a b)
-    (record { status = refl; pc = shows.pc; registers = shows.registers; store = shows.store; inbound = shows.inbound; outbound = shows.outbound; interrupt = shows.interrupt })
+returns-in_default-clause-made c = λ P shows. c.write_param.ensures c.args.lines P shows

@@ -1,0 +1,211 @@
+-- The places of a flow controller's allowed steps.
+use Rattle.std.proofs.Common.{◌≡◌, ◌≢◌, ℕ, zero, suc, ◌+◌, ◌-◌, ◌%◌, ◌<◌, ◌≤◌, ◌==◌, ◌&&◌, not, Bool, true, false, List, [], ◌∷◌, ◌++◌, length, map, arith, refl, sym, ◌∙◌, ap, subst, true≢false, length-append}
+use Rattle.std.specs.Prelude.{Option, Some, None, slice_get, nat_lt, nat_le, filter, cond, find, flat_map, Result, Ok, Err}
+use Rattle.std.specs.Result.{result_ok}
+use Rattle.std.proofs.Math.Nat.{mod-eq_of_lt}
+use Rattle.std.specs.List.{range_with_len}
+use Rattle.std.proofs.lemmas.Bool.Decides.{nat_tests}
+use Rattle.cell_base.specs.declared.steps.Step.{Step}
+use Rattle.cell_base.specs.declared.steps.Step.TheVariants.{Exec, Piece, Elem, Retire, Atomic, Host}
+use Rattle.mfc_command.specs.declared.command.Command.{Command}
+use Rattle.mfc_command.specs.Order.{outstanding as outstanding_of}
+use Rattle.mfc_queue.specs.Calls.{Call, outstanding as outstanding_calls, is_outstanding, is_retired, issued, parts}
+use Rattle.cell_machine.specs.Spe.{Spe}
+use Rattle.cell_machine.specs.Moves.{outstanding, is_complete, pieces_of}
+use Rattle.cell_machine.specs.Transfers.{may_piece, may_retire}
+use Rattle.cell_machine.specs.Run.{steps_of_command, steps_of_number}
+use Rattle.cell_machine.specs.Choices.{may, allowed_of_number, allowed_of_mfc, IsAt}
+use Rattle.cell_machine.specs.Shows.{ShowsMoves}
+use Rattle.cell_machine.proofs.SpeShown.{left-facts, issued-is, outstanding-same}
+use Rattle.cell_machine.proofs.MovesShown.{no-pieces}
+
+pub filter-both : {X : Type 0} (t : X → Bool) (xs ys : List X) → filter t (xs ++ ys) ≡ filter t xs ++ filter t ys
+filter-both t [] ys = refl
+filter-both t (x ∷ xs) ys = on (t x) (filter-both t xs ys)
+  where
+    on : (b : Bool) → filter t (xs ++ ys) ≡ filter t xs ++ filter t ys → cond b (x ∷ filter t (xs ++ ys)) (filter t (xs ++ ys)) ≡ cond b (x ∷ filter t xs) (filter t xs) ++ filter t ys
+    on true h = ap (λ zs. x ∷ zs) h
+    on false h = h
+
+-- the place in two lists, one behind the other
+get_here : (xs ys : List Step) (n : ℕ) (s : Step) → slice_get xs n ≡ Some s → slice_get (xs ++ ys) n ≡ Some s
+get_here [] ys n s h = absurd (cc)
+get_here (x ∷ xs) ys zero s h = h
+get_here (x ∷ xs) ys (suc n) s h = get_here xs ys n s h
+
+get_behind : (xs ys : List Step) (n rest : ℕ) → n ≡ length xs + rest → slice_get (xs ++ ys) n ≡ slice_get ys rest
+get_behind [] ys n rest h = let e : n ≡ rest = omega arith in ap (slice_get ys) e
+get_behind (x ∷ xs) ys zero rest h = absurd (omega arith)
+get_behind (x ∷ xs) ys (suc n) rest h = get_behind xs ys n rest (omega arith)
+
+pub at-here : (r : Result Step ℕ) (n : ℕ) (xs ys : List Step) (s : Step) → r ≡ Ok s → IsAt r n xs → IsAt (Ok s) n (xs ++ ys)
+at-here (Err rest) n xs ys s e h = absurd (cc)
+at-here (Ok t) n xs ys s e h = let same : t ≡ s = cc in get_here xs ys n s (subst (λ u. slice_get xs n ≡ Some u) same h)
+
+pub at-behind : (r : Result Step ℕ) (n rest : ℕ) (xs ys : List Step) → n ≡ length xs + rest → IsAt r rest ys → IsAt r n (xs ++ ys)
+at-behind (Ok s) n rest xs ys e h = get_behind xs ys n rest e ∙ h
+at-behind (Err k) n rest xs ys e h = let a = length-append xs ys in omega arith
+
+pub behind-of : (r : Result Step ℕ) (n rest : ℕ) (xs : List Step) → r ≡ Err rest → IsAt r n xs → n ≡ length xs + rest
+behind-of (Ok s) n rest xs e h = absurd (cc)
+behind-of (Err k) n rest xs e h = let same : k ≡ rest = cc in subst (λ j. n ≡ length xs + j) same h
+
+pub ok-of : (r : Result Step ℕ) (n : ℕ) (xs : List Step) (s : Step) → r ≡ Ok s → IsAt r n xs → slice_get xs n ≡ Some s
+ok-of (Err k) n xs s e h = absurd (cc)
+ok-of (Ok t) n xs s e h = let same : t ≡ s = cc in subst (λ u. slice_get xs n ≡ Some u) same h
+
+get_past : (xs : List Step) (n k : ℕ) → n ≡ length xs + k → slice_get xs n ≡ None
+get_past [] n k h = refl
+get_past (x ∷ xs) zero k h = absurd (omega arith)
+get_past (x ∷ xs) (suc n) k h = get_past xs n k (omega arith)
+
+pub first-at : (r : Result Step ℕ) (n : ℕ) (xs : List Step) → IsAt r n xs → result_ok r ≡ slice_get xs n
+first-at (Ok s) n xs h = sym h
+first-at (Err k) n xs h = sym (get_past xs n k h)
+
+-- the choice within the allowed steps is its own remainder
+got_within : (xs : List Step) (n : ℕ) (s : Step) → slice_get xs n ≡ Some s → n < length xs
+got_within [] n s h = absurd (cc)
+got_within (x ∷ xs) zero s h = omega arith
+got_within (x ∷ xs) (suc n) s h = let r = got_within xs n s h in omega arith
+
+remainder_small : (n m : ℕ) → n < m → n % m ≡ n
+remainder_small n m h = mod-eq_of_lt h
+
+pub picked-at : (r : Result Step ℕ) (n : ℕ) (xs : List Step) (s : Step) → r ≡ Ok s → IsAt r n xs → Some s ≡ slice_get xs (n % length xs)
+picked-at r n xs s e h =
+    let g = ok-of r n xs s e h in
+    sym (ap (slice_get xs) (remainder_small n (length xs) (got_within xs n s g)) ∙ g)
+
+pub picked-none : (n rest count : ℕ) (xs : List Step) → n ≡ length xs + rest → count ≡ n - rest → count ≡ 0 → None ≡ slice_get xs (n % length xs)
+picked-none n rest count [] a b c = refl
+picked-none n rest count (x ∷ xs) a b c = absurd (omega arith)
+
+pub picked-left : (r : Result Step ℕ) (n rest count at : ℕ) (xs : List Step) → n ≡ length xs + rest → count ≡ n - rest → at ≡ n % count → IsAt r at xs → result_ok r ≡ slice_get xs (n % length xs)
+picked-left r n rest count at xs a b c h =
+    let e : count ≡ length xs = omega arith in
+    first-at r at xs h ∙ ap (slice_get xs) (c ∙ ap (λ k. n % k) e)
+
+-- the allowed pieces of a command from k on
+abbrev pub pieces_from : Spe → ℕ → ℕ → ℕ → ℕ → List Step
+pieces_from P p c k n = filter (may P) (map (Piece p c 0) (range_with_len k (n - k)))
+
+pub piece-skip : (P : Spe) (p c k n : ℕ) → k < n → may_piece P c 0 k ≡ false → pieces_from P p c k n ≡ pieces_from P p c (k + 1) n
+piece-skip P p c k n l h = let e : n - k ≡ suc (n - (k + 1)) = omega arith in rw e (rw h refl)
+
+pub piece-here : (P : Spe) (p c k n : ℕ) → k < n → may_piece P c 0 k ≡ true → pieces_from P p c k n ≡ Piece p c 0 k ∷ pieces_from P p c (k + 1) n
+piece-here P p c k n l h = let e : n - k ≡ suc (n - (k + 1)) = omega arith in rw e (rw h refl)
+
+pub piece-end : (P : Spe) (p c k n : ℕ) → n ≤ k → pieces_from P p c k n ≡ []
+piece-end P p c k n l = let e : n - k ≡ 0 = omega arith in rw e refl
+
+pub pieces-all : (P : Spe) (p c n m : ℕ) → n ≡ m → pieces_from P p c 0 n ≡ filter (may P) (map (Piece p c 0) (range_with_len 0 m))
+pieces-all P p c n m e = let z : n - 0 ≡ m = omega arith in ap (λ k. filter (may P) (map (Piece p c 0) (range_with_len 0 k))) z
+
+-- a place behind the first is a place in what comes after it
+pub at-next : (r : Result Step ℕ) (n : ℕ) (x : Step) (xs : List Step) → n ≢ 0 → IsAt r (n - 1) xs → IsAt r n (x ∷ xs)
+at-next r n x xs some h = at-behind r n (n - 1) (x ∷ []) xs (let e : n ≡ 1 + (n - 1) = omega arith in e) h
+
+pub number-retire : (p : ℕ) (P : Spe) (c : ℕ) → may_retire P c ≡ true → allowed_of_number p P c ≡ Retire p c ∷ []
+number-retire p P c h = let f = left-facts P c h in rw (f.1, no-pieces f.0 f.2, h) refl
+
+pub number-pieces : (calls : List Call) (p : ℕ) (P : Spe) (c : ℕ) → ShowsMoves calls P.moves → is_outstanding calls c ≡ true → may_retire P c ≡ false
+    → allowed_of_number p P c ≡ filter (may P) (map (Piece p c 0) (range_with_len 0 (parts calls c)))
+number-pieces calls p P c shows open_yet h =
+    let d = issued-is calls P.moves c shows open_yet in
+    rw (d.1, h) (ap (λ n. filter (may P) (map (Piece p c 0) (range_with_len 0 n))) (sym (shows.parts c d.0 d.1)))
+
+-- walks over the outstanding commands
+
+found-passes : {X : Type 0} (t : X → Bool) (xs : List X) (x : X) → find t xs ≡ Some x → t x ≡ true
+found-passes t [] x h = absurd (cc)
+found-passes t (y ∷ xs) x h = on (t y) refl h (λ g. found-passes t xs x g)
+  where
+    on : (b : Bool) → t y ≡ b → cond b (Some y) (find t xs) ≡ Some x → (find t xs ≡ Some x → t x ≡ true) → t x ≡ true
+    on true e g k = let same : y ≡ x = cc in subst (λ z. t z ≡ true) same e
+    on false e g k = k g
+
+none-found : {X : Type 0} (t : X → Bool) (xs : List X) → find t xs ≡ None → filter t xs ≡ []
+none-found t [] h = refl
+none-found t (y ∷ xs) h = on (t y) refl h (λ g. none-found t xs g)
+  where
+    on : (b : Bool) → t y ≡ b → cond b (Some y) (find t xs) ≡ None → (find t xs ≡ None → filter t xs ≡ []) → cond b (y ∷ filter t xs) (filter t xs) ≡ []
+    on true e g k = absurd (cc)
+    on false e g k = k g
+
+-- all of a range from a on are at or above k, where k is at most a
+keep_on : (a k : ℕ) (rest : List ℕ) (b : Bool) → k ≤ a → filter (nat_le k) rest ≡ rest → filter (nat_le k) (cond b (a ∷ rest) rest) ≡ cond b (a ∷ rest) rest
+keep_on a k rest true low r = let l : nat_le k a ≡ true = grind (arith, nat_tests) in rw l (ap (λ xs. a ∷ xs) r)
+keep_on a k rest false low r = r
+
+keep : (t : ℕ → Bool) (a n k : ℕ) → k ≤ a → filter (nat_le k) (filter t (range_with_len a n)) ≡ filter t (range_with_len a n)
+keep t a zero k low = refl
+keep t a (suc n) k low = keep_on a k (filter t (range_with_len (a + 1) n)) (t a) low (keep t (a + 1) n k (omega arith))
+
+next_at : (a k c : ℕ) (rest : List ℕ) (b : Bool) → nat_le k a ≡ b → cond b (Some a) (find (nat_le k) rest) ≡ Some c → ((j : ℕ) → j ≤ a + 1 → filter (nat_le j) rest ≡ rest) → (find (nat_le k) rest ≡ Some c → filter (nat_le k) rest ≡ c ∷ filter (nat_le (c + 1)) rest)
+    → cond b (a ∷ filter (nat_le k) rest) (filter (nat_le k) rest) ≡ c ∷ filter (nat_le (c + 1)) (a ∷ rest)
+next_at a k c rest true e h all later =
+    let same : a ≡ c = cc in
+    let low : k ≤ a = grind (arith, nat_tests) in
+    let off : nat_le (c + 1) a ≡ false = grind (arith, nat_tests) in
+    let left : filter (nat_le k) rest ≡ rest = all k (omega arith) in
+    let right : filter (nat_le (c + 1)) rest ≡ rest = all (c + 1) (omega arith) in
+    rw (off, left, right) (ap (λ x. x ∷ rest) same)
+next_at a k c rest false e h all later =
+    let above : nat_le k c ≡ true = found-passes (nat_le k) rest c h in
+    let off : nat_le (c + 1) a ≡ false = grind (arith, nat_tests) in
+    rw off (later h)
+
+next_on : (a k c : ℕ) (rest : List ℕ) (b : Bool) → find (nat_le k) (cond b (a ∷ rest) rest) ≡ Some c → ((j : ℕ) → j ≤ a + 1 → filter (nat_le j) rest ≡ rest) → (find (nat_le k) rest ≡ Some c → filter (nat_le k) rest ≡ c ∷ filter (nat_le (c + 1)) rest)
+    → filter (nat_le k) (cond b (a ∷ rest) rest) ≡ c ∷ filter (nat_le (c + 1)) (cond b (a ∷ rest) rest)
+next_on a k c rest true h all later = next_at a k c rest (nat_le k a) refl h all later
+next_on a k c rest false h all later = later h
+
+-- the numbers from the found one on
+next-of : (t : ℕ → Bool) (a n k c : ℕ) → find (nat_le k) (filter t (range_with_len a n)) ≡ Some c → filter (nat_le k) (filter t (range_with_len a n)) ≡ c ∷ filter (nat_le (c + 1)) (filter t (range_with_len a n))
+next-of t a zero k c h = absurd (cc)
+next-of t a (suc n) k c h = next_on a k c (filter t (range_with_len (a + 1) n)) (t a) h (λ j low. keep t (a + 1) n j low) (λ g. next-of t (a + 1) n k c g)
+
+-- the allowed steps of the outstanding commands from k on
+abbrev pub steps_from : ℕ → Spe → ℕ → List Step
+steps_from p P k = filter (may P) (flat_map (steps_of_number p P) (filter (nat_le k) (outstanding P)))
+
+pub from-start : (p : ℕ) (P : Spe) → steps_from p P 0 ≡ allowed_of_mfc p P
+unfolding outstanding_of
+from-start p P = ap (λ xs. filter (may P) (flat_map (steps_of_number p P) xs)) (keep (λ c. not (is_complete P.moves c)) 0 (length P.moves.issued) 0 (omega arith))
+
+pub from-none : (p : ℕ) (P : Spe) (k : ℕ) → find (nat_le k) (outstanding P) ≡ None → steps_from p P k ≡ []
+from-none p P k h = ap (λ xs. filter (may P) (flat_map (steps_of_number p P) xs)) (none-found (nat_le k) (outstanding P) h)
+
+pub from-next : (p : ℕ) (P : Spe) (k c : ℕ) → find (nat_le k) (outstanding P) ≡ Some c → steps_from p P k ≡ allowed_of_number p P c ++ steps_from p P (c + 1)
+unfolding outstanding_of
+from-next p P k c h =
+    ap (λ xs. filter (may P) (flat_map (steps_of_number p P) xs)) (next-of (λ j. not (is_complete P.moves j)) 0 (length P.moves.issued) k c h)
+    ∙ filter-both (may P) (steps_of_number p P c) (flat_map (steps_of_number p P) (filter (nat_le (c + 1)) (filter (λ j. not (is_complete P.moves j)) (range_with_len 0 (length P.moves.issued)))))
+
+pub found-is : (calls : List Call) (P : Spe) (k : ℕ) (o : Option ℕ) → ShowsMoves calls P.moves → o ≡ find (nat_le k) (outstanding_calls calls) → find (nat_le k) (outstanding P) ≡ o
+found-is calls P k o shows h = ap (find (nat_le k)) (sym (outstanding-same calls P shows)) ∙ sym h
+
+found_on : (t u : ℕ → Bool) (a n c : ℕ) (rest : List ℕ) (b : Bool) → t a ≡ b → find u (cond b (a ∷ rest) rest) ≡ Some c → (find u rest ≡ Some c → (t c ≡ true) × (a + 1 ≤ c) × (c < a + 1 + n)) → (t c ≡ true) × (a ≤ c) × (c < a + suc n)
+found_on t u a n c rest true e h later = on (u a) h
+  where
+    on : (b : Bool) → cond b (Some a) (find u rest) ≡ Some c → (t c ≡ true) × (a ≤ c) × (c < a + suc n)
+    on true g = let same : a ≡ c = cc in (subst (λ j. t j ≡ true) same e, omega arith, omega arith)
+    on false g = let r = later g in let low = r.1 in let high = r.2 in (r.0, omega arith, omega arith)
+found_on t u a n c rest false e h later = let r = later h in let low = r.1 in let high = r.2 in (r.0, omega arith, omega arith)
+
+found-in : (t u : ℕ → Bool) (a n c : ℕ) → find u (filter t (range_with_len a n)) ≡ Some c → (t c ≡ true) × (a ≤ c) × (c < a + n)
+found-in t u a zero c h = absurd (cc)
+found-in t u a (suc n) c h = found_on t u a n c (filter t (range_with_len (a + 1) n)) (t a) refl h (λ g. found-in t u (a + 1) n c g)
+
+-- a number that was found is of an outstanding command, at or above k
+pub found-outstanding : (calls : List Call) (k c : ℕ) (o : Option ℕ) → o ≡ find (nat_le k) (outstanding_calls calls) → o ≡ Some c → (is_outstanding calls c ≡ true) × (k ≤ c) × (c < length (issued calls))
+unfolding outstanding_of
+found-outstanding calls k c o h is =
+    let g : find (nat_le k) (outstanding_calls calls) ≡ Some c = sym h ∙ is in
+    let r = found-in (λ j. not (is_retired calls j)) (nat_le k) 0 (length (issued calls)) c g in
+    let high = r.2 in
+    let l : c < length (issued calls) = omega arith in
+    let t : nat_lt c (length (issued calls)) ≡ true = grind (arith, nat_tests) in
+    let p : nat_le k c ≡ true = found-passes (nat_le k) (outstanding_calls calls) c g in
+    (rw (t, r.0) refl, grind (arith, nat_tests), l)

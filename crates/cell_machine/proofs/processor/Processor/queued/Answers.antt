@@ -1,0 +1,11 @@
+use Rattle.std.proofs.Common.{◌≡◌, ◌-◌, ◌≤◌, length, sym, ap, ◌∙◌, arith}
+use Rattle.cell_machine.proofs.SpeShown.{outstanding-same, few-outstanding}
+use Rattle.cell_machine.proofs.processor.Processor.queued.Goals as goal
+
+pub returns : goal.returns
+returns c = λ P shows.
+    let q = shows.queue in
+    let free = c.free.ensures q.calls q.stands in
+    let few = few-outstanding _ q.calls q.stands in
+    let same = ap length (outstanding-same q.calls P q.moves) in
+    omega arith

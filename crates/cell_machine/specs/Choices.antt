@@ -1,0 +1,40 @@
+-- The allowed steps of a flow controller, by their places.
+use Rattle.std.specs.Prelude.{◌≡◌, ℕ, ◌+◌, Bool, false, List, length, filter, flat_map, map, Some, Result, Ok, Err, slice_get}
+use Rattle.std.specs.List.{range_with_len}
+use Rattle.cell_base.specs.declared.steps.Actor.TheVariants.{Spu, Mfc}
+use Rattle.cell_base.specs.declared.steps.Step.{Step}
+use Rattle.cell_base.specs.declared.steps.Step.TheVariants.{Exec, Piece, Elem, Retire, Atomic, Host}
+use Rattle.cell_machine.specs.Spe.{Spe}
+use Rattle.cell_machine.specs.Moves.{outstanding}
+use Rattle.cell_machine.specs.Transfers.{may_piece, may_retire}
+use Rattle.cell_machine.specs.State.{State}
+use Rattle.cell_machine.specs.Run.{steps_of_number, allowed}
+
+-- whether the flow controller of P may make the step
+abbrev pub may : Spe → Step → Bool
+may P (Piece p c e k) = may_piece P c e k
+may P (Retire p c) = may_retire P c
+may P (Exec p) = false
+may P (Elem p c) = false
+may P (Atomic p) = false
+may P Host = false
+
+-- the allowed steps of command c of processor p
+abbrev pub allowed_of_number : ℕ → Spe → ℕ → List Step
+allowed_of_number p P c = filter (may P) (steps_of_number p P c)
+
+-- the allowed steps of the commands of processor p
+abbrev pub allowed_of_mfc : ℕ → Spe → List Step
+allowed_of_mfc p P = filter (may P) (flat_map (steps_of_number p P) (outstanding P))
+
+-- the step at place n, or how far n is behind the last one
+abbrev pub IsAt : Result Step ℕ → ℕ → List Step → Type 0
+IsAt (Ok s) n steps = slice_get steps n ≡ Some s
+IsAt (Err rest) n steps = n ≡ length steps + rest
+
+-- the allowed steps of all processors, and of all flow controllers
+abbrev pub all_of_spus : State → List Step
+all_of_spus M = flat_map (allowed M) (map Spu (range_with_len 0 (length M.spes)))
+
+abbrev pub all_of_mfcs : State → List Step
+all_of_mfcs M = flat_map (allowed M) (map Mfc (range_with_len 0 (length M.spes)))
