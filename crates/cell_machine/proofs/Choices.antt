@@ -70,13 +70,13 @@ retire_may : (P : Spe) (c : ℕ) (b : Bool) → may_retire P c ≡ b → is_some
 retire_may P c true h = ap is_some (retire-some P c h)
 retire_may P c false h = ap is_some (retire-none P c h)
 
-next-piece : (M : State) (p c e k : ℕ) (P : Spe) → slice_get M.spes p ≡ Some P → is_some (next M (Piece p c e k)) ≡ may_piece P c e k
+pub next-piece : (M : State) (p c e k : ℕ) (P : Spe) → slice_get M.spes p ≡ Some P → is_some (next M (Piece p c e k)) ≡ may_piece P c e k
 next-piece M p c e k P at =
     is_some_map (ended_by M (Piece p c e k)) (act M (Piece p c e k))
     ∙ ap (λ o. is_some (option_and_then (λ Q. option_map (with_left M p) (piece M.memory Q c e k)) o)) at
     ∙ is_some_map (with_left M p) (piece M.memory P c e k) ∙ piece_may M.memory P c e k (may_piece P c e k) refl
 
-next-retire : (M : State) (p c : ℕ) (P : Spe) → slice_get M.spes p ≡ Some P → is_some (next M (Retire p c)) ≡ may_retire P c
+pub next-retire : (M : State) (p c : ℕ) (P : Spe) → slice_get M.spes p ≡ Some P → is_some (next M (Retire p c)) ≡ may_retire P c
 next-retire M p c P at =
     is_some_map (ended_by M (Retire p c)) (act M (Retire p c))
     ∙ ap (λ o. is_some (option_and_then (λ Q. option_map (with_spe M p) (retire Q c)) o)) at
