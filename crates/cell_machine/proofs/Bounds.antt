@@ -1,6 +1,6 @@
 -- What a step does to the commands and the tags of the processors.
-use Rattle.std.proofs.Common.{◌≡◌, ℕ, zero, suc, ◌+◌, ◌*◌, ◌%◌, ◌<◌, ◌≤◌, ◌==◌, List, [], ◌∷◌, ◌++◌, map, length, arith, refl, sym, ◌∙◌, ap, subst, slice_set, true, false, Bool, ◌⊎◌, inl, inr, length-append, true≢false}
-use Rattle.std.specs.Prelude.{Option, Some, None, IsSomeAnd, IfSome, MatchBool, slice_get, slice_index_or, option_map, option_and_then, nat_lt, is_some, cond, Result, Ok, Err, All}
+use Rattle.std.proofs.Common.{◌≡◌, ℕ, zero, suc, ◌+◌, ◌<◌, ◌≤◌, ◌==◌, List, [], ◌∷◌, ◌++◌, map, length, arith, refl, sym, ◌∙◌, ap, subst, slice_set, true, false, Bool, ◌⊎◌, inl, inr, length-append, true≢false}
+use Rattle.std.specs.Prelude.{Option, Some, None, IsSomeAnd, IfSome, MatchBool, slice_get, option_map, option_and_then, nat_lt, is_some, cond, Result, Ok, Err}
 use Rattle.mfc_command.specs.declared.command.Command.{Command}
 use Rattle.mfc_command.specs.declared.command.Kind.{Kind}
 use Rattle.mfc_command.specs.declared.command.Kind.TheVariants.{Put, Get, PutList, GetList, Barrier}
@@ -8,7 +8,6 @@ use Rattle.mfc_command.specs.declared.command.Order.{Order}
 use Rattle.mfc_command.specs.declared.command.Order.TheVariants.{Queued, Atomic as AtomicOrder}
 use Rattle.mfc_command.specs.declared.command.DmaFault.{DmaFault as Fault}
 use Rattle.mfc_command.specs.Check.{TransferFits, OrderFits, KindFits, checked}
-use Rattle.mfc_command.specs.declared.command.Params.{Params}
 use Rattle.mfc_command.specs.Parts.{part_of}
 use Rattle.mfc_command.specs.declared.range.Part.{Part}
 use Rattle.tag_groups.specs.Settle.{settled_tags}
@@ -30,12 +29,12 @@ use Rattle.cell_machine.specs.Spe.{Spe, is_running}
 use Rattle.cell_machine.specs.State.{State, with_spe}
 use Rattle.cell_machine.specs.Moves.{has_pieces, busy}
 use Rattle.cell_machine.specs.Tags.{settled}
-use Rattle.cell_machine.specs.Channels.{given as with_value, bad_channel, listed, is_read, is_write, count, channel, read_inbound, read_status, read_by, issued_by, commanded, written, is_opcode}
-use Rattle.cell_machine.specs.Exec.{exec, exec_instr, followed, outcome}
-use Rattle.cell_machine.specs.Transfers.{piece, elem, retire, copied, is_put, Left, may_piece, may_retire, with_done}
+use Rattle.cell_machine.specs.Channels.{given as with_value, bad_channel, listed, is_read, is_write, count, channel, read_inbound, read_status, issued_by, commanded, written}
+use Rattle.cell_machine.specs.Exec.{exec, exec_instr, followed}
+use Rattle.cell_machine.specs.Transfers.{piece, elem, retire, copied, is_put, may_piece, may_retire, with_done}
 use Rattle.cell_machine.specs.Atomic.{atomic}
 use Rattle.cell_machine.specs.Hosts.{Given, Acted, taken_of, taken_interrupt_of, given, at_spe, acted, after_action, host as host_step}
-use Rattle.cell_machine.specs.Next.{act, lines_of, with_left, settled_in, in_spe}
+use Rattle.cell_machine.specs.Next.{act, lines_of, with_left, settled_in}
 use Rattle.cell_machine.specs.Kept.{MovesFit}
 use Rattle.cell_host.specs.Script.{Progress}
 use Rattle.cell_machine.specs.declared.processor.Processor.{Processor}
@@ -112,7 +111,7 @@ unfolding channel
 channel_grown lines P (Read rt ch) =
     if_cond (is_read (listed ch)) _ _ (Grown lines P)
     (if_cond (nat_lt 0 (count P ch)) _ _ (Grown lines P)
-      (if_cond (ch == 12) _ _ (Grown lines P) (inl refl) (if_cond (ch == 24) _ _ (Grown lines P) (status_grown lines P rt P.tags.status) (inbound_grown lines P rt P.inbound))) tt)
+    (if_cond (ch == 12) _ _ (Grown lines P) (inl refl) (if_cond (ch == 24) _ _ (Grown lines P) (status_grown lines P rt P.tags.status) (inbound_grown lines P rt P.inbound))) tt)
     (inl refl)
 channel_grown lines P (Count rt ch) = if_cond (is_some (listed ch)) (Some (with_value P rt (count P ch))) (Some (bad_channel P)) (Grown lines P) (inl refl) (inl refl)
 channel_grown lines P (Write ch value) =
@@ -190,6 +189,7 @@ in_changes R f spe_of spes p make each sets = on (slice_get spes p) refl
     made : (P : Spe) → slice_get spes p ≡ Some P → (o : Option _) → IfSome o (λ x. R P (spe_of x)) → IfSome (option_map make o) (λ N. Changes R spes N.spes)
     made P at None h = tt
     made P at (Some x) h = inr (record { p = p; was = P; is = spe_of x; at = at; set = sets x; how = h })
+
     on : (o : Option Spe) → slice_get spes p ≡ o → IfSome (option_and_then (λ P. option_map make (f P)) o) (λ N. Changes R spes N.spes)
     on None at = tt
     on (Some P) at = made P at (f P) (each P)
@@ -200,6 +200,7 @@ at_changes M p a = on (slice_get M.spes p) refl
     made : (P : Spe) → slice_get M.spes p ≡ Some P → (o : Option Given) → IfSome o (λ g. IsLike P g.spe) → IfSome (option_map (λ g. record { state = with_spe M p g.spe; took = g.took }) o) (λ (d : Acted). Changes IsLike M.spes d.state.spes)
     made P at None h = tt
     made P at (Some g) h = inr (record { p = p; was = P; is = g.spe; at = at; set = refl; how = h })
+
     on : (o : Option Spe) → slice_get M.spes p ≡ o → IfSome (option_and_then (λ P. option_map (λ g. record { state = with_spe M p g.spe; took = g.took }) (given a P)) o) (λ (d : Acted). Changes IsLike M.spes d.state.spes)
     on None at = tt
     on (Some P) at = made P at (given a P) (given_like a P)
@@ -261,7 +262,7 @@ like_settled : (P Q : Spe) → IsLike P Q → settled P ≡ P → settled Q ≡ 
 like_settled P Q like h =
     let tags : (settled P).tags ≡ P.tags = ap (λ (x : Spe). x.tags) h in
     ap (λ t. record Q { tags = t }) (ap (λ t. settled_tags (busy Q.moves) (length Q.moves.issued) t) like.0
-      ∙ ap (λ m. settled_tags (busy m) (length m.issued) P.tags) like.1 ∙ tags ∙ sym like.0)
+    ∙ ap (λ m. settled_tags (busy m) (length m.issued) P.tags) like.1 ∙ tags ∙ sym like.0)
 
 set_settled : (spes : List Spe) (p : ℕ) (Q : Spe) → AreSettled spes → settled Q ≡ Q → AreSettled (slice_set spes p Q)
 set_settled spes p Q all h = map-set settled spes p Q ∙ ap (λ xs. slice_set xs p (settled Q)) all ∙ ap (slice_set spes p) h
@@ -327,4 +328,4 @@ settled_bounded lines n spes all p P at =
 pub act-bounded : (M : State) (s : Step) (N : State) (lines n : ℕ) → lines_of M ≡ lines → act M s ≡ Some N → AreBounded lines n M.spes → AreBounded lines (n + 1) (map settled N.spes)
 act-bounded M s N lines n same e all =
     settled_bounded lines (n + 1) N.spes (bounded_after lines n M.spes N.spes all
-      (subst (λ k. Changes (Grown k) M.spes N.spes) same (if_is (act M s) N (λ K. Changes (Grown (lines_of M)) M.spes K.spes) e (act_changes M s))))
+    (subst (λ k. Changes (Grown k) M.spes N.spes) same (if_is (act M s) N (λ K. Changes (Grown (lines_of M)) M.spes K.spes) e (act_changes M s))))

@@ -1,5 +1,5 @@
 -- The channels that are there, and their counts.
-use Rattle.std.proofs.Common.{◌≡◌, ◌≢◌, ℕ, ◌-◌, ◌%◌, ◌==◌, ◌≤◌, ◌<◌, ◌&&◌, ◌||◌, Bool, true, false, List, [], ◌∷◌, length, arith, refl, sym, ◌∙◌, ap, subst, ◌++◌, true≢false}
+use Rattle.std.proofs.Common.{◌≡◌, ◌≢◌, ℕ, ◌-◌, ◌%◌, ◌==◌, ◌≤◌, ◌&&◌, ◌||◌, Bool, true, false, List, [], ◌∷◌, length, arith, refl, sym, ◌∙◌, ap, subst, true≢false}
 use Rattle.std.specs.Prelude.{MatchBool, Option, Some, None, nat_lt, nat_le, is_some, IsSomeAnd, cond, Ok, Err}
 use Rattle.std.proofs.lemmas.Bool.Decides.{nat_tests}
 use Rattle.cell_channels.specs.State.{opening_channels, count_of, with_param}
@@ -22,7 +22,7 @@ use Rattle.cell_channels.specs.declared.channels.Channels.{Channels}
 use Rattle.cell_channels.specs.declared.channels.Counts.{Counts}
 use Rattle.cell_machine.specs.declared.processor.Processor.{Processor}
 use Rattle.cell_machine.specs.Shows.{ShowsSpe}
-use Rattle.cell_machine.specs.Channels.{listed, is_read, is_write, count, counts, channel, bad_channel, given, went_on, read_by, read_inbound, read_status, is_opcode, refused, with_issued, commanded, written}
+use Rattle.cell_machine.specs.Channels.{listed, is_read, is_write, count, counts, channel, bad_channel, given, went_on, read_inbound, read_status, is_opcode, refused, with_issued, commanded, written}
 
 off : (ch k : ℕ) → ch ≢ k → (ch == k) ≡ false
 off ch k h = grind (arith, nat_tests)

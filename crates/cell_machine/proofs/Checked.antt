@@ -1,11 +1,11 @@
 -- A command that is checked fits.
-use Rattle.std.proofs.Common.{◌≡◌, ℕ, ◌+◌, ◌*◌, ◌%◌, ◌<◌, ◌≤◌, ◌==◌, Bool, true, false, not, arith, refl, subst, sym, ◌∙◌, true≢false}
+use Rattle.std.proofs.Common.{◌≡◌, ℕ, ◌+◌, ◌*◌, ◌%◌, ◌≤◌, ◌==◌, Bool, true, false, not, arith, refl, subst, sym, ◌∙◌, true≢false}
 use Rattle.std.specs.Prelude.{Option, Some, None, Ok, nat_lt, cond}
 use Rattle.std.proofs.lemmas.Bool.Decides.{nat_tests}
 use Rattle.mfc_command.specs.declared.command.Params.{Params}
 use Rattle.mfc_command.specs.declared.command.Command.{Command}
 use Rattle.mfc_command.specs.declared.command.Mark.TheVariants.{Plain, Fenced, Barred}
-use Rattle.mfc_command.specs.declared.command.Kind.TheVariants.{Put, Get, PutList, GetList, Barrier}
+use Rattle.mfc_command.specs.declared.command.Kind.TheVariants.{Put, Get}
 use Rattle.mfc_command.specs.declared.command.Order.{Order}
 use Rattle.mfc_command.specs.declared.command.AtomicOp.{AtomicOp}
 use Rattle.mfc_command.specs.declared.command.Order.TheVariants.{Queued, Atomic}
@@ -69,19 +69,19 @@ pub checked-fits : (p : Params) (op lines : ℕ) (d : Command) → checked p op 
 unfolding checked asked_of
 checked-fits p op lines d h pieces =
     (on_cond (op % 65536 == 0x20) _ _ (λ o. checked_for p lines o ≡ Ok (Queued d) → TransferFits lines d) (λ g. transfer_fits lines (record { kind = Put; mark = Plain; tag = p.tag; ls = p.lsa; ea = p.eal; size = p.size }) d (tag_fault p) (high_fault p) g)
-        (on_cond (op % 65536 == 0x21) _ _ (λ o. checked_for p lines o ≡ Ok (Queued d) → TransferFits lines d) (λ g. transfer_fits lines (record { kind = Put; mark = Barred; tag = p.tag; ls = p.lsa; ea = p.eal; size = p.size }) d (tag_fault p) (high_fault p) g)
-        (on_cond (op % 65536 == 0x22) _ _ (λ o. checked_for p lines o ≡ Ok (Queued d) → TransferFits lines d) (λ g. transfer_fits lines (record { kind = Put; mark = Fenced; tag = p.tag; ls = p.lsa; ea = p.eal; size = p.size }) d (tag_fault p) (high_fault p) g)
-        (on_cond (op % 65536 == 0x24) _ _ (λ o. checked_for p lines o ≡ Ok (Queued d) → TransferFits lines d) (λ g. bare lines _ d _ refl g pieces)
-        (on_cond (op % 65536 == 0x25) _ _ (λ o. checked_for p lines o ≡ Ok (Queued d) → TransferFits lines d) (λ g. bare lines _ d _ refl g pieces)
-        (on_cond (op % 65536 == 0x26) _ _ (λ o. checked_for p lines o ≡ Ok (Queued d) → TransferFits lines d) (λ g. bare lines _ d _ refl g pieces)
-        (on_cond (op % 65536 == 0x40) _ _ (λ o. checked_for p lines o ≡ Ok (Queued d) → TransferFits lines d) (λ g. transfer_fits lines (record { kind = Get; mark = Plain; tag = p.tag; ls = p.lsa; ea = p.eal; size = p.size }) d (tag_fault p) (high_fault p) g)
-        (on_cond (op % 65536 == 0x41) _ _ (λ o. checked_for p lines o ≡ Ok (Queued d) → TransferFits lines d) (λ g. transfer_fits lines (record { kind = Get; mark = Barred; tag = p.tag; ls = p.lsa; ea = p.eal; size = p.size }) d (tag_fault p) (high_fault p) g)
-        (on_cond (op % 65536 == 0x42) _ _ (λ o. checked_for p lines o ≡ Ok (Queued d) → TransferFits lines d) (λ g. transfer_fits lines (record { kind = Get; mark = Fenced; tag = p.tag; ls = p.lsa; ea = p.eal; size = p.size }) d (tag_fault p) (high_fault p) g)
-        (on_cond (op % 65536 == 0x44) _ _ (λ o. checked_for p lines o ≡ Ok (Queued d) → TransferFits lines d) (λ g. bare lines _ d _ refl g pieces)
-        (on_cond (op % 65536 == 0x45) _ _ (λ o. checked_for p lines o ≡ Ok (Queued d) → TransferFits lines d) (λ g. bare lines _ d _ refl g pieces)
-        (on_cond (op % 65536 == 0x46) _ _ (λ o. checked_for p lines o ≡ Ok (Queued d) → TransferFits lines d) (λ g. bare lines _ d _ refl g pieces)
-        (on_cond (op % 65536 == 0xc0) _ _ (λ o. checked_for p lines o ≡ Ok (Queued d) → TransferFits lines d) (λ g. bare lines _ d _ refl g pieces)
-        (on_cond (op % 65536 == 0xb0) _ _ (λ o. checked_for p lines o ≡ Ok (Queued d) → TransferFits lines d) (λ g. line lines d _ _ g)
-        (on_cond (op % 65536 == 0xb4) _ _ (λ o. checked_for p lines o ≡ Ok (Queued d) → TransferFits lines d) (λ g. line lines d _ _ g)
-        (on_cond (op % 65536 == 0xd0) _ _ (λ o. checked_for p lines o ≡ Ok (Queued d) → TransferFits lines d) (λ g. line lines d _ _ g)
-        (λ g. absurd (cc)))))))))))))))))) h
+    (on_cond (op % 65536 == 0x21) _ _ (λ o. checked_for p lines o ≡ Ok (Queued d) → TransferFits lines d) (λ g. transfer_fits lines (record { kind = Put; mark = Barred; tag = p.tag; ls = p.lsa; ea = p.eal; size = p.size }) d (tag_fault p) (high_fault p) g)
+    (on_cond (op % 65536 == 0x22) _ _ (λ o. checked_for p lines o ≡ Ok (Queued d) → TransferFits lines d) (λ g. transfer_fits lines (record { kind = Put; mark = Fenced; tag = p.tag; ls = p.lsa; ea = p.eal; size = p.size }) d (tag_fault p) (high_fault p) g)
+    (on_cond (op % 65536 == 0x24) _ _ (λ o. checked_for p lines o ≡ Ok (Queued d) → TransferFits lines d) (λ g. bare lines _ d _ refl g pieces)
+    (on_cond (op % 65536 == 0x25) _ _ (λ o. checked_for p lines o ≡ Ok (Queued d) → TransferFits lines d) (λ g. bare lines _ d _ refl g pieces)
+    (on_cond (op % 65536 == 0x26) _ _ (λ o. checked_for p lines o ≡ Ok (Queued d) → TransferFits lines d) (λ g. bare lines _ d _ refl g pieces)
+    (on_cond (op % 65536 == 0x40) _ _ (λ o. checked_for p lines o ≡ Ok (Queued d) → TransferFits lines d) (λ g. transfer_fits lines (record { kind = Get; mark = Plain; tag = p.tag; ls = p.lsa; ea = p.eal; size = p.size }) d (tag_fault p) (high_fault p) g)
+    (on_cond (op % 65536 == 0x41) _ _ (λ o. checked_for p lines o ≡ Ok (Queued d) → TransferFits lines d) (λ g. transfer_fits lines (record { kind = Get; mark = Barred; tag = p.tag; ls = p.lsa; ea = p.eal; size = p.size }) d (tag_fault p) (high_fault p) g)
+    (on_cond (op % 65536 == 0x42) _ _ (λ o. checked_for p lines o ≡ Ok (Queued d) → TransferFits lines d) (λ g. transfer_fits lines (record { kind = Get; mark = Fenced; tag = p.tag; ls = p.lsa; ea = p.eal; size = p.size }) d (tag_fault p) (high_fault p) g)
+    (on_cond (op % 65536 == 0x44) _ _ (λ o. checked_for p lines o ≡ Ok (Queued d) → TransferFits lines d) (λ g. bare lines _ d _ refl g pieces)
+    (on_cond (op % 65536 == 0x45) _ _ (λ o. checked_for p lines o ≡ Ok (Queued d) → TransferFits lines d) (λ g. bare lines _ d _ refl g pieces)
+    (on_cond (op % 65536 == 0x46) _ _ (λ o. checked_for p lines o ≡ Ok (Queued d) → TransferFits lines d) (λ g. bare lines _ d _ refl g pieces)
+    (on_cond (op % 65536 == 0xc0) _ _ (λ o. checked_for p lines o ≡ Ok (Queued d) → TransferFits lines d) (λ g. bare lines _ d _ refl g pieces)
+    (on_cond (op % 65536 == 0xb0) _ _ (λ o. checked_for p lines o ≡ Ok (Queued d) → TransferFits lines d) (λ g. line lines d _ _ g)
+    (on_cond (op % 65536 == 0xb4) _ _ (λ o. checked_for p lines o ≡ Ok (Queued d) → TransferFits lines d) (λ g. line lines d _ _ g)
+    (on_cond (op % 65536 == 0xd0) _ _ (λ o. checked_for p lines o ≡ Ok (Queued d) → TransferFits lines d) (λ g. line lines d _ _ g)
+    (λ g. absurd (cc)))))))))))))))))) h

@@ -1,9 +1,8 @@
 -- The steps that are allowed.
-use Rattle.std.proofs.Common.{◌≡◌, ◌≢◌, ℕ, zero, suc, ◌<◌, ◌≤◌, ◌+◌, ◌-◌, ◌%◌, ◌==◌, ◌&&◌, not, List, [], ◌∷◌, ◌++◌, map, length, arith, refl, sym, subst, ◌∙◌, slice_index_or, ap, true, false, Bool, ◌⊎◌, inl, inr, true≢false}
-use Rattle.std.specs.Prelude.{slice_get, Option, Some, None, is_some, option_map, option_and_then, filter, flat_map, cond, nat_lt}
+use Rattle.std.proofs.Common.{◌≡◌, ◌≢◌, ℕ, zero, suc, ◌<◌, ◌≤◌, ◌+◌, ◌-◌, ◌%◌, ◌==◌, not, List, [], ◌∷◌, ◌++◌, map, length, arith, refl, sym, subst, ◌∙◌, slice_index_or, ap, true, false, Bool, ◌⊎◌, inl, inr, true≢false}
+use Rattle.std.specs.Prelude.{slice_get, Option, Some, None, is_some, option_map, option_and_then, filter, flat_map, cond}
 use Rattle.std.specs.List.{range_with_len}
 use Rattle.std.specs.Option.{option_map_or}
-use Rattle.std.proofs.lemmas.Bool.Decides.{nat_tests}
 use Rattle.cell_base.specs.declared.steps.Actor.{Actor}
 use Rattle.cell_base.specs.declared.steps.Actor.TheVariants.{Spu, Mfc, Host as TheHost}
 use Rattle.cell_base.specs.declared.steps.Step.{Step}
@@ -16,13 +15,13 @@ use Rattle.cell_host.specs.Script.{Progress}
 use Rattle.cell_machine.specs.State.{State, with_spe}
 use Rattle.cell_machine.specs.Exec.{exec}
 use Rattle.cell_machine.specs.Moves.{outstanding, is_complete, pieces_of}
-use Rattle.cell_machine.specs.Transfers.{piece, retire, may_piece, may_retire, copied}
+use Rattle.cell_machine.specs.Transfers.{piece, retire, may_piece, may_retire}
 use Rattle.cell_machine.specs.Next.{act, next, ended_by, lines_of, with_left}
 use Rattle.cell_machine.specs.Hosts.{host as host_step}
 use Rattle.cell_machine.specs.Run.{steps_of, steps_of_mfc, steps_of_number, steps_of_command, allowed, picked, actors, first_allowed, HasEnded, CanGoOn}
 use Rattle.cell_machine.specs.Choices.{may, allowed_of_number, allowed_of_mfc, all_of_spus, all_of_mfcs}
 use Rattle.cell_machine.specs.Shows.{Shows, ShowsSpe}
-use Rattle.cell_machine.proofs.AllTwo.{two_at, two_none, two_length, two_found, is_some_map, none_of}
+use Rattle.cell_machine.proofs.AllTwo.{two_at, two_none, two_length, is_some_map, none_of}
 use Rattle.cell_machine.proofs.Steps.{act-absent, act-elem, act-atomic}
 use Rattle.cell_machine.proofs.SpeShown.{piece-none, piece-some, piece-facts, part-there, retire-none, retire-some, left-facts, get-either, complete_or}
 use Rattle.cell_machine.proofs.MovesShown.{get-within, eq_is, eq_not}
@@ -71,13 +70,13 @@ retire_may : (P : Spe) (c : ℕ) (b : Bool) → may_retire P c ≡ b → is_some
 retire_may P c true h = ap is_some (retire-some P c h)
 retire_may P c false h = ap is_some (retire-none P c h)
 
-next-piece : (M : State) (p c e k : ℕ) (P : Spe) → slice_get M.spes p ≡ Some P → is_some (next M (Piece p c e k)) ≡ may_piece P c e k
+pub next-piece : (M : State) (p c e k : ℕ) (P : Spe) → slice_get M.spes p ≡ Some P → is_some (next M (Piece p c e k)) ≡ may_piece P c e k
 next-piece M p c e k P at =
     is_some_map (ended_by M (Piece p c e k)) (act M (Piece p c e k))
     ∙ ap (λ o. is_some (option_and_then (λ Q. option_map (with_left M p) (piece M.memory Q c e k)) o)) at
     ∙ is_some_map (with_left M p) (piece M.memory P c e k) ∙ piece_may M.memory P c e k (may_piece P c e k) refl
 
-next-retire : (M : State) (p c : ℕ) (P : Spe) → slice_get M.spes p ≡ Some P → is_some (next M (Retire p c)) ≡ may_retire P c
+pub next-retire : (M : State) (p c : ℕ) (P : Spe) → slice_get M.spes p ≡ Some P → is_some (next M (Retire p c)) ≡ may_retire P c
 next-retire M p c P at =
     is_some_map (ended_by M (Retire p c)) (act M (Retire p c))
     ∙ ap (λ o. is_some (option_and_then (λ Q. option_map (with_spe M p) (retire Q c)) o)) at
@@ -260,14 +259,14 @@ spe_none : {memory : List ℕ} {host : Progress} (processors : List Processor) (
     → ((P : Spe) → slice_get M.spes p ≡ Some P → allowed_of_mfc p P ≡ [] → next M s ≡ None) → next M s ≡ None
 spe_none processors M p s shows all absent there =
     get-either M.spes p (next M s ≡ None) absent (λ P at.
-        there P at (sym (allowed_mfc processors M p P shows at) ∙ actor_none M Mfc (length M.spes) p all (get-within M.spes p P at)))
+    there P at (sym (allowed_mfc processors M p P shows at) ∙ actor_none M Mfc (length M.spes) p all (get-within M.spes p P at)))
 
 -- where no step is first, the machine has ended
 pub has_ended : {memory : List ℕ} {host : Progress} (processors : List Processor) (M : State) → Shows processors memory host M → first_allowed M ≡ None → HasEnded M
 has_ended processors M shows h (Exec p) =
     let all = append_none (all_of_spus M) (all_of_mfcs M ++ allowed M TheHost) (sym (all_parts M) ∙ first_none (flat_map (allowed M) (actors M)) h) in
     get-either M.spes p (next M (Exec p) ≡ None) (λ none. rw none refl) (λ P at.
-        none_of (next M (Exec p)) (filter_none (λ s. is_some (next M s)) (Exec p) [] (actor_none M Spu (length M.spes) p all.0 (get-within M.spes p P at))).0)
+    none_of (next M (Exec p)) (filter_none (λ s. is_some (next M s)) (Exec p) [] (actor_none M Spu (length M.spes) p all.0 (get-within M.spes p P at))).0)
 has_ended processors M shows h (Piece p c e k) =
     let all = append_none (all_of_spus M) (all_of_mfcs M ++ allowed M TheHost) (sym (all_parts M) ∙ first_none (flat_map (allowed M) (actors M)) h) in
     spe_none processors M p (Piece p c e k) shows (append_none (all_of_mfcs M) (allowed M TheHost) all.1).0 (λ none. rw none refl)

@@ -13,3 +13,4 @@ pub mod MovesShown
 pub mod SpeShown
 pub mod Bounds
 pub mod Places
+pub mod Completion

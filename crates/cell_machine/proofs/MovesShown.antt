@@ -7,8 +7,7 @@ use Rattle.std.proofs.lemmas.List.Folds.{list_any-append}
 use Rattle.std.proofs.lemmas.Bool.Decides.{nat_tests}
 use mathlib.Core.Path.{fun_ext}
 use Rattle.mfc_command.specs.declared.command.Command.{Command}
-use Rattle.mfc_command.specs.Parts.{parts_of}
-use Rattle.mfc_queue.specs.Calls.{Call, Issue, SetParts, Mark, Retire, issued, is_retired, is_outstanding, parts, is_marked, all_marked}
+use Rattle.mfc_queue.specs.Calls.{Call, Issue, SetParts, Mark, Retire, issued, is_retired, parts, is_marked, all_marked}
 use Rattle.cell_machine.proofs.CallLaws.{parts-more, marked-more, retired-more, issued-same, issued-marked, issued-retired, issued-issued, retired-same, retired-marked, retired-issued}
 use Rattle.cell_machine.specs.Spe.{Moves, PartDone}
 use Rattle.cell_machine.specs.Moves.{is_done, is_transfer, has_pieces, pieces_of, is_complete_by, is_complete}
@@ -199,7 +198,7 @@ moves-retire calls m c d shows at none = record {
   parts = λ c2 d2 at2. parts-more calls (Retire c) c2 ∙ shows.parts c2 d2 at2;
   marked = λ c2 j. marked-more calls (Retire c) c2 j ∙ shows.marked c2 j;
   fresh = λ c2 past. let old = shows.fresh c2 past in let differs : c ≢ c2 = (let l = get-within m.issued c d at in omega arith) in
-    record { done = old.done; retired = retired-other m.retired c c2 differs ∙ old.retired };
+      record { done = old.done; retired = retired-other m.retired c c2 differs ∙ old.retired };
 }
   where
     now : is_complete (with_retired m c) c ≡ true
@@ -223,6 +222,7 @@ complete-issued m d k fresh = on (nat_lt k (length m.issued)) (k == length m.iss
   where
     f : Command → Bool
     f = is_complete_by (is_done m k) m.retired k
+
     on : (a b : Bool) → nat_lt k (length m.issued) ≡ a → (k == length m.issued) ≡ b → option_map_or f (slice_get m.issued k) false ≡ option_map_or f (slice_get (m.issued ++ d ∷ []) k) false
     on true b e g = let l : k < length m.issued = grind (arith, nat_tests) in ap (λ o. option_map_or f o false) (sym (get-left m.issued (d ∷ []) k l))
     on false true e g =
@@ -249,12 +249,14 @@ moves-issue calls m d shows = record {
   where
     n : ℕ
     n = length m.issued
+
     parts_on : (c2 : ℕ) (d2 : Command) (b : Bool) → (n == c2) ≡ b → slice_get (m.issued ++ d ∷ []) c2 ≡ Some d2
         → cond b (pieces_of d) (parts (calls ++ Issue d ∷ []) c2) ≡ pieces_of d2
     parts_on c2 d2 true e at2 = get-cases m.issued d d2 c2 (pieces_of d ≡ pieces_of d2) at2 (λ k same. ap pieces_of (sym same))
         (λ old. absurd (let l = get-within m.issued c2 d2 old in let g = eq_is n c2 e in omega arith))
     parts_on c2 d2 false e at2 = get-cases m.issued d d2 c2 _ at2 (λ k same. absurd (eq_not n c2 e (sym k)))
         (λ old. parts-more calls (Issue d) c2 ∙ shows.parts c2 d2 old)
+
     marked_on : (c2 j : ℕ) (b : Bool) → (n == c2) ≡ b → cond b false (is_marked (calls ++ Issue d ∷ []) c2 j) ≡ is_done m c2 j
     marked_on c2 j true e = sym ((shows.fresh c2 (let l = eq_is n c2 e in omega arith)).done j)
     marked_on c2 j false e = marked-more calls (Issue d) c2 j ∙ shows.marked c2 j

@@ -1,19 +1,18 @@
 -- The places of a flow controller's allowed steps.
-use Rattle.std.proofs.Common.{◌≡◌, ◌≢◌, ℕ, zero, suc, ◌+◌, ◌-◌, ◌%◌, ◌<◌, ◌≤◌, ◌==◌, ◌&&◌, not, Bool, true, false, List, [], ◌∷◌, ◌++◌, length, map, arith, refl, sym, ◌∙◌, ap, subst, true≢false, length-append}
+use Rattle.std.proofs.Common.{◌≡◌, ◌≢◌, ℕ, zero, suc, ◌+◌, ◌-◌, ◌%◌, ◌<◌, ◌≤◌, not, Bool, true, false, List, [], ◌∷◌, ◌++◌, length, map, arith, refl, sym, ◌∙◌, ap, subst, length-append}
 use Rattle.std.specs.Prelude.{Option, Some, None, slice_get, nat_lt, nat_le, filter, cond, find, flat_map, Result, Ok, Err}
 use Rattle.std.specs.Result.{result_ok}
 use Rattle.std.proofs.Math.Nat.{mod-eq_of_lt}
 use Rattle.std.specs.List.{range_with_len}
 use Rattle.std.proofs.lemmas.Bool.Decides.{nat_tests}
 use Rattle.cell_base.specs.declared.steps.Step.{Step}
-use Rattle.cell_base.specs.declared.steps.Step.TheVariants.{Exec, Piece, Elem, Retire, Atomic, Host}
-use Rattle.mfc_command.specs.declared.command.Command.{Command}
+use Rattle.cell_base.specs.declared.steps.Step.TheVariants.{Piece, Retire}
 use Rattle.mfc_command.specs.Order.{outstanding as outstanding_of}
 use Rattle.mfc_queue.specs.Calls.{Call, outstanding as outstanding_calls, is_outstanding, is_retired, issued, parts}
 use Rattle.cell_machine.specs.Spe.{Spe}
-use Rattle.cell_machine.specs.Moves.{outstanding, is_complete, pieces_of}
+use Rattle.cell_machine.specs.Moves.{outstanding, is_complete}
 use Rattle.cell_machine.specs.Transfers.{may_piece, may_retire}
-use Rattle.cell_machine.specs.Run.{steps_of_command, steps_of_number}
+use Rattle.cell_machine.specs.Run.{steps_of_number}
 use Rattle.cell_machine.specs.Choices.{may, allowed_of_number, allowed_of_mfc, IsAt}
 use Rattle.cell_machine.specs.Shows.{ShowsMoves}
 use Rattle.cell_machine.proofs.SpeShown.{left-facts, issued-is, outstanding-same}

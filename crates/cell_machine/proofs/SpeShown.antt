@@ -1,9 +1,8 @@
 -- What the code's processor shows of its commands.
 use Rattle.std.proofs.Common.{◌≡◌, ◌≢◌, ℕ, zero, suc, ◌+◌, ◌-◌, ◌/◌, ◌<◌, ◌≤◌, ◌==◌, ◌&&◌, not, Bool, true, false, List, [], ◌∷◌, ◌++◌, length, arith, refl, sym, ◌∙◌, ap, subst, length-append, true≢false}
-use Rattle.std.specs.Prelude.{Option, Some, None, slice_get, nat_lt, IsSomeAnd, MatchBool, cond, is_some, slice_range}
+use Rattle.std.specs.Prelude.{Option, Some, None, slice_get, nat_lt, IsSomeAnd, MatchBool, is_some, slice_range}
 use Rattle.std.specs.Bool.{OnTrue}
 use Rattle.std.specs.List.{list_any, list_all, range_with_len}
-use Rattle.std.specs.Option.{option_map_or}
 use Rattle.std.proofs.lemmas.Bool.Decides.{nat_tests}
 use Rattle.std.proofs.Math.ListN.{length-map}
 use Rattle.mfc_command.specs.declared.command.Command.{Command}
@@ -15,16 +14,16 @@ use Rattle.mfc_command.specs.Parts.{part_of, parts_of}
 use Rattle.mfc_queue.specs.declared.Queue.{Queue}
 use Rattle.mfc_queue.specs.Calls.{Call, Issue, SetParts, Mark, Retire, issued, is_retired, is_outstanding, outstanding as outstanding_calls, parts, is_marked, all_marked, may_begin as may_begin_calls, busy as busy_calls}
 use Rattle.cell_machine.proofs.CallLaws.{issued-issued, retired-issued}
-use Rattle.mfc_queue.specs.Stands.{StandsFor, IsOneOf, HasPart, HasNumber}
+use Rattle.mfc_queue.specs.Stands.{StandsFor, IsOneOf}
 use Rattle.cell_machine.specs.declared.processor.Processor.{Processor}
 use Rattle.cell_machine.specs.Spe.{Spe, Moves, is_faulted}
 use Rattle.cell_machine.specs.Moves.{is_done, has_pieces, pieces_of, is_complete, may_begin, outstanding, busy}
-use Rattle.cell_machine.specs.Transfers.{has_part, may_piece, is_left, may_retire, with_done, with_retired, piece, retire, copied, is_put, Left}
+use Rattle.cell_machine.specs.Transfers.{has_part, may_piece, is_left, may_retire, with_done, with_retired, piece, retire, copied, is_put}
 use Rattle.cell_machine.specs.Channels.{with_issued, read_status}
 use Rattle.tag_groups.specs.declared.TagStatus.{TagStatus}
 use Rattle.cell_machine.specs.Kept.{IsKept, MovesFit}
-use Rattle.cell_machine.specs.Shows.{ShowsSpe, ShowsMoves, ShowsQueue, IsUntouched}
-use Rattle.cell_machine.proofs.MovesShown.{moves-issue, moves-retire, moves-mark, moves-mark_last, complete-now, complete-pieces, complete-retires, complete-none, get-within, get-past, some-pieces, no-pieces, eq_is, eq_off}
+use Rattle.cell_machine.specs.Shows.{ShowsSpe, ShowsMoves, ShowsQueue}
+use Rattle.cell_machine.proofs.MovesShown.{moves-issue, moves-retire, moves-mark, moves-mark_last, complete-now, complete-pieces, complete-retires, get-within, some-pieces, no-pieces, eq_is, eq_off}
 
 pub first_of_both : (a b : Bool) → (a && b) ≡ true → a ≡ true
 first_of_both true b h = refl
@@ -111,8 +110,8 @@ complete_or false Q yes_it no_it = no_it refl
 pub closed-no_part : (calls : List Call) (m : Moves) (c k : ℕ) → ShowsMoves calls m → is_outstanding calls c ≡ false → has_part m c k ≡ false
 closed-no_part calls m c k shows closed =
     get-either m.issued c (has_part m c k ≡ false) (part-none m c k) (λ d at.
-        complete_or (is_complete m c) (has_part m c k ≡ false) (λ h. complete-no_part m c k d at h)
-        (λ h. absurd (true≢false (sym (outstanding-is calls m c d shows at h) ∙ closed))))
+    complete_or (is_complete m c) (has_part m c k ≡ false) (λ h. complete-no_part m c k d at h)
+    (λ h. absurd (true≢false (sym (outstanding-is calls m c d shows at h) ∙ closed))))
 
 -- where the controller is at fault, or the command has no such part, the piece isn't allowed
 pub piece-faulted : (P : Spe) (c e k : ℕ) → is_faulted P.status ≡ true → may_piece P c e k ≡ false
@@ -174,6 +173,7 @@ part-facts calls m c k shows has =
     pieces : (d : Command) → k < pieces_of d → (b : Bool) → has_pieces d ≡ b → has_pieces d ≡ true
     pieces d l true e = e
     pieces d l false e = absurd (let z = no-pieces d e in omega arith)
+
     facts : (d : Command) → slice_get m.issued c ≡ Some d → (b : Bool) → is_complete m c ≡ b
         → (d : Command) × (slice_get m.issued c ≡ Some d) × (is_outstanding calls c ≡ true) × (k < pieces_of d) × (is_complete m c ≡ false) × (has_pieces d ≡ true)
     facts d at true g = absurd (true≢false (sym has ∙ complete-no_part m c k d at g))
@@ -243,6 +243,7 @@ left-of calls m c shows open_yet = by (issued-is calls m c shows open_yet)
     on : (d : Command) → slice_get m.issued c ≡ Some d → (b : Bool) → has_pieces d ≡ b → is_left m c ≡ (pieces_of d == 0)
     on d at true h = left-pieces m c d at h ∙ sym (eq_off (pieces_of d) 0 (let e = some-pieces d h in let differs : pieces_of d ≢ 0 = omega arith in differs))
     on d at false h = left-bare m c d at h ∙ ap not (open-of calls m c shows open_yet) ∙ rw (no-pieces d h) refl
+
     by : (d : Command) × (slice_get m.issued c ≡ Some d) → is_left m c ≡ (parts calls c == 0)
     by f = on f.0 f.1 (has_pieces f.0) refl ∙ ap (λ n. n == 0) (sym (shows.parts c f.0 f.1))
 
@@ -331,6 +332,7 @@ queue-kept lines q P shows few fits = record {
     beyond [] i h = omega arith
     beyond (x ∷ xs) zero h = absurd (cc)
     beyond (x ∷ xs) (suc i) h = let r = beyond xs i h in omega arith
+
     past : (c : ℕ) → slice_get P.moves.issued c ≡ None → length (issued shows.calls) ≤ c
     past c none = let e = ap length shows.moves.issued in let l = beyond P.moves.issued c none in omega arith
 
@@ -338,8 +340,8 @@ queue-kept lines q P shows few fits = record {
 pub part-there : (m : Moves) (c k : ℕ) → has_part m c k ≡ true → (d : Command) × (slice_get m.issued c ≡ Some d) × (k < pieces_of d) × (is_complete m c ≡ false)
 part-there m c k has =
     get-either m.issued c _ (λ at. absurd (true≢false (sym has ∙ part-none m c k at))) (λ d at.
-        complete_or (is_complete m c) _ (λ h. absurd (true≢false (sym has ∙ complete-no_part m c k d at h)))
-        (λ h. (d, at, below k (pieces_of d) (first_of_both (nat_lt k (pieces_of d)) (not (is_done m c k)) (sym (part-is m c k d at) ∙ has)), h)))
+    complete_or (is_complete m c) _ (λ h. absurd (true≢false (sym has ∙ complete-no_part m c k d at h)))
+    (λ h. (d, at, below k (pieces_of d) (first_of_both (nat_lt k (pieces_of d)) (not (is_done m c k)) (sym (part-is m c k d at) ∙ has)), h)))
 
 -- at most sixteen commands are outstanding
 pub few-outstanding : (q : Queue) (calls : List Call) → StandsFor q calls → length (outstanding_calls calls) ≤ 16
@@ -371,7 +373,7 @@ pub piece-made : (y z : Processor) (P : Spe) (memory memory2 store store2 : List
     → IsSomeAnd (piece memory P c e k) (λ x. ShowsSpe z x.spe × (x.memory ≡ memory2))
 piece-made y z P memory memory2 store store2 c e k d may at same copies shows marks =
     let some : piece memory P c e k ≡ Some (record { spe = record P { store = store2; moves = with_done P.moves c k }; memory = memory2 }) =
-        piece-some memory P c e k d may at ∙ ap (λ r. Some r) (copies (record P { moves = with_done P.moves c k }) same) in
+    piece-some memory P c e k d may at ∙ ap (λ r. Some r) (copies (record P { moves = with_done P.moves c k }) same) in
     rw some (marks (record P { store = store2 }) shows (piece-facts P c e k may).1, refl)
 
 pub status-off : (P : Spe) (rt : ℕ) (o : Option TagStatus) → is_some o ≡ false → read_status P rt o ≡ None

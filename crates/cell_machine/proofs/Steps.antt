@@ -1,18 +1,18 @@
 -- A step of one processor, in the whole machine.
-use Rattle.std.proofs.Common.{◌≡◌, ℕ, zero, suc, ◌<◌, ◌≤◌, ◌*◌, ◌/◌, List, [], ◌∷◌, map, length, arith, refl, sym, ◌∙◌, ap, subst, slice_index_or, slice_set, true, false, Bool}
+use Rattle.std.proofs.Common.{◌≡◌, ℕ, ◌<◌, ◌≤◌, ◌*◌, List, map, length, arith, refl, sym, ◌∙◌, ap, subst, slice_index_or, slice_set, true, false, Bool}
 use Rattle.std.specs.Prelude.{Option, Some, None, IsSomeAnd, MatchBool, slice_get, option_map, option_and_then}
 use Rattle.std.proofs.lemmas.List.{map-set}
 use Rattle.tag_groups.specs.declared.Tags.{Tags}
 use Rattle.tag_groups.specs.declared.Request.{Request}
 use Rattle.tag_groups.specs.Settle.{settled_tags, fixed_at, is_met}
-use Rattle.cell_base.specs.declared.steps.Step.TheVariants.{Exec, Piece, Elem, Retire, Atomic, Host}
+use Rattle.cell_base.specs.declared.steps.Step.TheVariants.{Exec, Elem, Atomic}
 use Rattle.cell_host.specs.Script.{Progress}
 use Rattle.cell_machine.specs.declared.processor.Processor.{Processor}
 use Rattle.cell_machine.specs.Spe.{Spe}
 use Rattle.cell_machine.specs.State.{State, with_spe}
 use Rattle.cell_machine.specs.Tags.{settled}
 use Rattle.cell_machine.specs.Exec.{exec}
-use Rattle.cell_machine.specs.Transfers.{piece, elem, retire, Left}
+use Rattle.cell_machine.specs.Transfers.{elem, Left}
 use Rattle.cell_machine.specs.Atomic.{atomic}
 use Rattle.cell_machine.specs.Next.{act, lines_of, with_left, settled_in, in_spe}
 use Rattle.cell_machine.specs.Shows.{Shows, ShowsSpe, AllTwo, AreSettled}

@@ -13,4 +13,5 @@ pub mod Opening
 pub mod Limits
 pub mod Run
 pub mod Choices
+pub mod Order
 pub mod Shows

@@ -1,5 +1,5 @@
 -- What the code's parts stand for.
-use Rattle.std.specs.Prelude.{◌≡◌, ℕ, ◌*◌, ◌≤◌, Bool, false, ◌==◌, map, List, [], ◌∷◌, length, Option, Some, None, All, slice_get}
+use Rattle.std.specs.Prelude.{◌≡◌, ℕ, ◌*◌, ◌≤◌, false, ◌==◌, map, List, [], ◌∷◌, length, Option, Some, None, All, slice_get}
 use Rattle.cell_base.specs.declared.steps.Step.{Step}
 use Rattle.cell_machine.specs.declared.processor.Processor.{Processor}
 use Rattle.std.specs.List.{list_any}
@@ -10,7 +10,7 @@ use Rattle.mfc_queue.specs.Stands.{StandsFor}
 use Rattle.cell_machine.specs.Spe.{Spe, Moves}
 use Rattle.cell_machine.specs.Moves.{is_done, is_complete, pieces_of}
 use Rattle.cell_machine.specs.Tags.{settled}
-use Rattle.cell_machine.specs.Kept.{MovesFit, CanStep, IsKept}
+use Rattle.cell_machine.specs.Kept.{MovesFit, CanStep}
 use Rattle.cell_machine.specs.State.{State}
 use Rattle.cell_machine.specs.Opening.{Opening, opening}
 use Rattle.cell_machine.specs.Limits.{FitsAction}

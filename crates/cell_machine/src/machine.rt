@@ -15,6 +15,7 @@ ghost use Rattle.cell_host.specs.Script.{Progress};
 ghost use Rattle.cell_machine.specs.Opening.{Opening, opening_spes, filled};
 ghost use Rattle.cell_machine.specs.Limits.{shown, shown_memory};
 ghost use Rattle.cell_machine.specs.Run.{Ran, IsRun, state_of, next_of, spe_of, picked_of, first_of, first_allowed, picked, allowed, is_quiet, IsEnd};
+ghost use Rattle.cell_machine.specs.Order.{IsInOrder};
 ghost use Rattle.cell_machine.specs.Shows.{Shows, AllTwo, ShowsSpe, IsFit, CanGo, AreSettled};
 
 use crate::error::MachineError;
@@ -268,10 +269,12 @@ impl Machine {
         &self.setup
     }
 
-    /// The steps made so far, which are a run from its setup.
+    /// The steps made so far, which are a run from its setup. Each step of a queued command comes after the commands that go
+    /// before it are complete.
     pub fn steps(&self) -> &[Step]
         ensures steps { result.now ≡ self.now.steps }
         ensures run { IsRun self.now.setup self.now.steps }
+        ensures order { IsInOrder self.now }
     {
         &self.steps
     }

@@ -1,4 +1,4 @@
-use Rattle.std.proofs.Common.{arith, sym}
+use Rattle.std.proofs.Common.{arith}
 use Rattle.cell_machine.specs.Exec.{exec}
 use Rattle.cell_machine.specs.Transfers.{piece, retire}
 use Rattle.cell_machine.proofs.Steps.{act-absent, act-in_spe, act-left, act-elem, act-atomic, exec-lines}

@@ -1,4 +1,4 @@
-use Rattle.std.proofs.Common.{arith, sym, ◌∙◌}
+use Rattle.std.proofs.Common.{arith}
 use Rattle.cell_base.specs.declared.steps.Actor.TheVariants.{Spu}
 use Rattle.cell_machine.proofs.Choices.{spu-on, spu-found, none-left, none-before}
 use Rattle.cell_machine.proofs.machine.first_of_spus.Goals as goal

@@ -1,5 +1,3 @@
-use Rattle.std.proofs.Common.{◌≡◌, arith, refl, sym, ◌∙◌, ap}
-use Rattle.cell_machine.specs.Transfers.{is_put}
 use Rattle.cell_machine.proofs.SpeShown.{copied-put, copied-get}
 use Rattle.cell_machine.proofs.transfers.copy.Goals as goal
 

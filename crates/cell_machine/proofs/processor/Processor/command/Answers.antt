@@ -1,4 +1,4 @@
-use Rattle.std.proofs.Common.{◌≡◌, ap, sym, ◌∙◌}
+use Rattle.std.proofs.Common.{ap, sym, ◌∙◌}
 use Rattle.std.specs.Prelude.{Ok}
 use Rattle.mfc_command.specs.Check.{checked}
 use Rattle.cell_machine.specs.Channels.{with_issued}
@@ -12,17 +12,17 @@ returns-then-not-is_opcode c = λ P shows.
 pub returns-in-Ok-Queued : goal.returns-in-Ok-Queued
 returns-in-Ok-Queued c = λ P shows.
     rw (commanded-queued c.args.lines P c.args.op c.in-Ok-Queued.command (sym c.is_opcode.ensures ∙ c.if-not-is_opcode.false)
-      (ap (λ p. checked p c.args.op c.args.lines) (shows.params ∙ sym c.params.ensures) ∙ sym c.check.ensures.checked ∙ c.in-Ok-Queued.is ∙ ap Ok c.in-Ok-Queued.field-0-is))
+    (ap (λ p. checked p c.args.op c.args.lines) (shows.params ∙ sym c.params.ensures) ∙ sym c.check.ensures.checked ∙ c.in-Ok-Queued.is ∙ ap Ok c.in-Ok-Queued.field-0-is))
     (c.go_on.ensures (record P { moves = with_issued P.moves c.in-Ok-Queued.command }) (c.issue.ensures P shows))
 
 pub returns-in-Ok-Atomic : goal.returns-in-Ok-Atomic
 returns-in-Ok-Atomic c = λ P shows.
     rw (commanded-atomic c.args.lines P c.args.op _ (sym c.is_opcode.ensures ∙ c.if-not-is_opcode.false)
-      (ap (λ p. checked p c.args.op c.args.lines) (shows.params ∙ sym c.params.ensures) ∙ sym c.check.ensures.checked ∙ c.in-Ok-Atomic.is ∙ ap Ok c.in-Ok-Atomic.field-0-is))
+    (ap (λ p. checked p c.args.op c.args.lines) (shows.params ∙ sym c.params.ensures) ∙ sym c.check.ensures.checked ∙ c.in-Ok-Atomic.is ∙ ap Ok c.in-Ok-Atomic.field-0-is))
     (c.refuse-in-Ok-Atomic.ensures P shows)
 
 pub returns-in-Err : goal.returns-in-Err
 returns-in-Err c = λ P shows.
     rw (commanded-fault c.args.lines P c.args.op c.in-Err.kind (sym c.is_opcode.ensures ∙ c.if-not-is_opcode.false)
-      (ap (λ p. checked p c.args.op c.args.lines) (shows.params ∙ sym c.params.ensures) ∙ sym c.check.ensures.checked ∙ c.in-Err.is))
+    (ap (λ p. checked p c.args.op c.args.lines) (shows.params ∙ sym c.params.ensures) ∙ sym c.check.ensures.checked ∙ c.in-Err.is))
     (c.refuse-in-Err.ensures P shows)

@@ -1,4 +1,4 @@
-use Rattle.std.proofs.Common.{◌∙◌, sym}
+use Rattle.std.proofs.Common.{◌∙◌}
 use Rattle.cell_machine.proofs.Places.{first-at}
 use Rattle.cell_machine.proofs.processor.Processor.first_of_mfc.Goals as goal
 

@@ -24,6 +24,14 @@ pub returns : goal.returns
 returns c = λ P shows.
     let q = shows.queue in
     record {
-      status = shows.status; pc = shows.pc; registers = shows.registers; store = shows.store; inbound = shows.inbound; outbound = shows.outbound; interrupt = shows.interrupt; params = shows.params; tags = shows.tags;
+      status = shows.status;
+      pc = shows.pc;
+      registers = shows.registers;
+      store = shows.store;
+      inbound = shows.inbound;
+      outbound = shows.outbound;
+      interrupt = shows.interrupt;
+      params = shows.params;
+      tags = shows.tags;
       queue = queue-issue _ P.moves q.calls c.args.command c.in-Ok.number c.pieces_of-pieces.result q.moves (c.in-Ok.ensures.number q.calls q.stands) c.pieces_of-pieces.ensures.count (c.set_parts.ensures.stands _ (c.in-Ok.ensures.issued q.calls q.stands));
     }

@@ -1,5 +1,5 @@
 use Rattle.std.proofs.Common.{◌≡◌, ◌≢◌, ◌-◌, length, sym, ap, ◌∙◌, arith}
-use Rattle.std.specs.Prelude.{is_some, nat_lt}
+use Rattle.std.specs.Prelude.{nat_lt}
 use Rattle.cell_machine.proofs.SpeShown.{outstanding-same}
 use Rattle.cell_machine.proofs.ChannelSteps.{command-ready, outbound-ready, interrupt-ready, write-always}
 use Rattle.cell_machine.proofs.processor.Processor.may_write.Goals as goal

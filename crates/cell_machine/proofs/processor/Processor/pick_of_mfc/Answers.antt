@@ -1,5 +1,4 @@
-use Rattle.std.proofs.Common.{◌∙◌, sym, arith}
-use Rattle.cell_machine.proofs.Places.{behind-of, picked-at, picked-none, picked-left}
+use Rattle.cell_machine.proofs.Places.{picked-at}
 use Rattle.cell_machine.proofs.processor.Processor.pick_of_mfc.Goals as goal
 
 pub returns-in-Ok : goal.returns-in-Ok

@@ -1,9 +1,8 @@
-use Rattle.std.proofs.Common.{◌≡◌, ◌≢◌, ℕ, ◌-◌, ◌+◌, map, arith, refl, sym, ◌∙◌, ap, subst}
-use Rattle.std.specs.Prelude.{filter, Ok, Err}
-use Rattle.std.specs.List.{range_with_len}
+use Rattle.std.proofs.Common.{◌≡◌, ◌+◌, arith, refl, sym, ◌∙◌, subst}
+use Rattle.std.specs.Prelude.{Ok, Err}
 use Rattle.cell_base.specs.declared.steps.Step.TheVariants.{Piece}
-use Rattle.cell_machine.specs.Choices.{may, IsAt}
-use Rattle.cell_machine.proofs.Places.{piece-skip, piece-here, piece-end, at-next, pieces_from, pieces-all}
+use Rattle.cell_machine.specs.Choices.{IsAt}
+use Rattle.cell_machine.proofs.Places.{piece-skip, piece-here, piece-end, at-next, pieces-all}
 use Rattle.cell_machine.proofs.processor.Processor.piece_at.Goals as goal
 
 pub loop-k-init : goal.loop-k-init

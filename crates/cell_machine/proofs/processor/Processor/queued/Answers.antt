@@ -1,4 +1,4 @@
-use Rattle.std.proofs.Common.{◌≡◌, ◌-◌, ◌≤◌, length, sym, ap, ◌∙◌, arith}
+use Rattle.std.proofs.Common.{length, ap, arith}
 use Rattle.cell_machine.proofs.SpeShown.{outstanding-same, few-outstanding}
 use Rattle.cell_machine.proofs.processor.Processor.queued.Goals as goal
 

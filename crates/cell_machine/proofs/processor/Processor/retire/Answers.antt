@@ -12,6 +12,14 @@ pub returns-clause-made : goal.returns-clause-made
 returns-clause-made c = λ P shows.
     let may = sym (c.may_retire.ensures.may P shows) ∙ c.if-not-may_retire.false in
     rw (retire-some P c.args.cmd may) (record {
-      status = shows.status; pc = shows.pc; registers = shows.registers; store = shows.store; inbound = shows.inbound; outbound = shows.outbound; interrupt = shows.interrupt; params = shows.params; tags = shows.tags;
+      status = shows.status;
+      pc = shows.pc;
+      registers = shows.registers;
+      store = shows.store;
+      inbound = shows.inbound;
+      outbound = shows.outbound;
+      interrupt = shows.interrupt;
+      params = shows.params;
+      tags = shows.tags;
       queue = queue-retire _ P shows.queue.calls c.args.cmd shows.queue.moves may (c.retire.ensures.stands shows.queue.calls shows.queue.stands);
     })

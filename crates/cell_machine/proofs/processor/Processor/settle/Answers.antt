@@ -1,5 +1,4 @@
 use Rattle.std.proofs.Common.{◌≡◌, length, sym, ap, ◌∙◌}
-use Rattle.tag_groups.specs.Settle.{settled_tags}
 use Rattle.cell_machine.specs.Moves.{busy}
 use Rattle.cell_machine.proofs.SpeShown.{busy-same}
 use Rattle.cell_machine.proofs.processor.Processor.settle.Goals as goal
@@ -10,7 +9,14 @@ returns c = λ P shows.
     let b : busy P.moves ≡ c.busy-busy.result = sym (busy-same q.calls P.moves q.moves) ∙ sym (c.busy-busy.ensures q.calls q.stands) in
     let n : length P.moves.issued ≡ c.issued.result = sym (ap length q.moves.issued) ∙ sym (c.issued.ensures q.calls q.stands) in
     record {
-      status = shows.status; pc = shows.pc; registers = shows.registers; store = shows.store; inbound = shows.inbound; outbound = shows.outbound; interrupt = shows.interrupt; params = shows.params;
+      status = shows.status;
+      pc = shows.pc;
+      registers = shows.registers;
+      store = shows.store;
+      inbound = shows.inbound;
+      outbound = shows.outbound;
+      interrupt = shows.interrupt;
+      params = shows.params;
       tags = rw (b, n, shows.tags) (sym c.settle.ensures);
       queue = shows.queue;
     }

@@ -1,4 +1,4 @@
-use Rattle.std.proofs.Common.{◌≡◌, ◌-◌, ◌<◌, length, sym, ap, ◌∙◌, arith}
+use Rattle.std.proofs.Common.{◌-◌, length, ap, ◌∙◌, arith}
 use Rattle.cell_machine.proofs.SpeShown.{outstanding-same}
 use Rattle.cell_machine.proofs.ChannelSteps.{command-full, command-taken}
 use Rattle.cell_machine.proofs.processor.Processor.write_command.Goals as goal

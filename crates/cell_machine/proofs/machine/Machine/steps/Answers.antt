@@ -1,0 +1,5 @@
+use Rattle.cell_machine.proofs.Completion.{machine-in_order}
+use Rattle.cell_machine.proofs.machine.Machine.steps.Goals as goal
+
+pub returns-clause-order : goal.returns-clause-order
+returns-clause-order c = machine-in_order _ _ _ _ _ _ _ c.self.invariant c.self.view_is
