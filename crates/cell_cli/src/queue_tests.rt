@@ -103,33 +103,36 @@ const R0: Step = Step::Retire { spe: 0, cmd: 0 };
 
 const R1: Step = Step::Retire { spe: 0, cmd: 1 };
 
+/// A step, and whether it is allowed.
+type Try = (Step, bool);
+
 /// The opcode of command 0, which has tag 0; the tag and the opcode of command 1; and steps that are tried one after the other,
 /// each with whether it is allowed.
-type Order = (u32, u32, u32, [(Step, bool); 4]);
+type Order = (u32, u32, u32, Try, Try, Try, Try);
 
 #[rattlefmt::skip]
 static ORDERS: [Order; 15] = [
     // A fence or a barrier waits for the earlier command of its tag,
-    (PUT, 0, GETF, [(P1, false), (P0, true), (P1, true), (P1, false)]),
-    (PUT, 0, GETB, [(P1, false), (P0, true), (P1, true), (P0, false)]),
-    (GET, 0, PUTF, [(P1, false), (P0, true), (P1, true), (P0, false)]),
+    (PUT, 0, GETF, (P1, false), (P0, true), (P1, true), (P1, false)),
+    (PUT, 0, GETB, (P1, false), (P0, true), (P1, true), (P0, false)),
+    (GET, 0, PUTF, (P1, false), (P0, true), (P1, true), (P0, false)),
     // not for that of another.
-    (PUT, 1, GETF, [(P1, true), (P1, false), (P0, true), (P0, false)]),
-    (PUT, 1, GETB, [(P1, true), (P1, false), (P0, true), (P0, false)]),
+    (PUT, 1, GETF, (P1, true), (P1, false), (P0, true), (P0, false)),
+    (PUT, 1, GETB, (P1, true), (P1, false), (P0, true), (P0, false)),
     // Without them both orders are allowed.
-    (PUT, 0, GET, [(P1, true), (P1, false), (P0, true), (P0, false)]),
-    (PUT, 0, GET, [(P0, true), (P0, false), (P1, true), (P1, false)]),
+    (PUT, 0, GET, (P1, true), (P1, false), (P0, true), (P0, false)),
+    (PUT, 0, GET, (P0, true), (P0, false), (P1, true), (P1, false)),
     // The later command of its tag waits for a barrier, and not for a fence.
-    (PUTB, 0, GET, [(P1, false), (P0, true), (P0, false), (P1, true)]),
-    (PUTB, 1, GET, [(P1, true), (P1, false), (P0, true), (P0, false)]),
-    (PUTF, 0, GET, [(P1, true), (P1, false), (P0, true), (P0, false)]),
+    (PUTB, 0, GET, (P1, false), (P0, true), (P0, false), (P1, true)),
+    (PUTB, 1, GET, (P1, true), (P1, false), (P0, true), (P0, false)),
+    (PUTF, 0, GET, (P1, true), (P1, false), (P0, true), (P0, false)),
     // BARRIER waits for commands of all tags, and they for its retirement.
-    (GET, 1, BARRIER, [(R1, false), (P0, true), (R1, true), (R1, false)]),
-    (BARRIER, 1, GET, [(P1, false), (R0, true), (P1, true), (P1, false)]),
-    (BARRIER, 1, BARRIER, [(R1, false), (R0, true), (R0, false), (R1, true)]),
+    (GET, 1, BARRIER, (R1, false), (P0, true), (R1, true), (R1, false)),
+    (BARRIER, 1, GET, (P1, false), (R0, true), (P1, true), (P1, false)),
+    (BARRIER, 1, BARRIER, (R1, false), (R0, true), (R0, false), (R1, true)),
     // A command with pieces isn't retired, and BARRIER has no piece.
-    (GET, 0, GET, [(R0, false), (P0, true), (R0, false), (P1, true)]),
-    (BARRIER, 1, GET, [(P0, false), (R0, true), (R1, false), (P1, true)]),
+    (GET, 0, GET, (R0, false), (P0, true), (R0, false), (P1, true)),
+    (BARRIER, 1, GET, (P0, false), (R0, true), (R1, false), (P1, true)),
 ];
 
 fn orders() -> &'static [Order] {
@@ -139,14 +142,14 @@ fn orders() -> &'static [Order] {
 #[test]
 fn a_command_waits_for_those_that_go_before_it(rt: HostRuntime) -> Result<(), Fail> {
     let alloc = rt.alloc();
-    for &(first, tag, second, tries) in orders() {
+    for &(first, tag, second, one, two, three, four) in orders() {
         let source = format!(in alloc;
             "il $3,128\nwrch $ch16,$3\nwrch $ch19,$3\nil $4,{first}\nwrch $ch21,$4\nil $5,{tag}\nwrch $ch20,$5\nil $6,0x400\nwrch $ch16,$6\nil $7,{second}\nwrch $ch21,$7\n"
         )?;
         let mut m = machine(alloc, source.as_str())?;
         exec(&mut m, 11)?;
         assert_eq!(rt; queued(&m), Some(2));
-        for (step, allowed) in tries {
+        for (step, allowed) in [one, two, three, four] {
             let made = m.step(step);
             assert_eq!(rt; made.is_ok(), allowed, "{first} {second}");
             assert_eq!(rt; made == Err(Refused::NotAllowed), !allowed);
