@@ -27,7 +27,7 @@ use Rattle.cell_host.specs.declared.HostAction.{HostAction}
 use Rattle.cell_host.specs.declared.HostAction.TheVariants.{Send, Take, TakeIntr, Store, Await}
 use Rattle.cell_machine.specs.Spe.{Spe, is_running}
 use Rattle.cell_machine.specs.State.{State, with_spe}
-use Rattle.cell_machine.specs.Moves.{has_pieces, busy}
+use Rattle.cell_machine.specs.Moves.{has_pieces, busy, is_complete}
 use Rattle.cell_machine.specs.Tags.{settled}
 use Rattle.cell_machine.specs.Channels.{given as with_value, bad_channel, listed, is_read, is_write, count, channel, read_inbound, read_status, issued_by, commanded, written}
 use Rattle.cell_machine.specs.Exec.{exec, exec_instr, followed}
@@ -40,7 +40,8 @@ use Rattle.cell_host.specs.Script.{Progress}
 use Rattle.cell_machine.specs.declared.processor.Processor.{Processor}
 use Rattle.cell_machine.specs.Shows.{Shows, ShowsSpe, AllTwo, AreSettled, IsBounded, AreBounded}
 use Rattle.cell_machine.proofs.MovesShown.{get-cases}
-use Rattle.cell_machine.proofs.Checked.{checked-fits}
+use Rattle.mfc_command.proofs.CheckLemmas.{checked-fits}
+use Rattle.cell_machine.proofs.Staying.{Keeps, issued-keeps, done-keeps, retired-keeps}
 use Rattle.cell_machine.proofs.Steps.{settled-set}
 
 -- what holds of each outcome holds of the one that comes
@@ -61,8 +62,16 @@ if_is None x R e h = absurd (cc)
 if_is (Some y) x R e h = let same : y ≡ x = cc in subst R same h
 
 -- no command was issued, or one that fits
+abbrev HasIssued : ℕ → Spe → Spe → Type 0
+HasIssued lines P Q = (Q.moves.issued ≡ P.moves.issued) ⊎ ((d : Command) × (has_pieces d ≡ true → TransferFits lines d) × (Q.moves.issued ≡ P.moves.issued ++ d ∷ []))
+
+-- and each command that was complete is complete still
 abbrev pub Grown : ℕ → Spe → Spe → Type 0
-Grown lines P Q = (Q.moves.issued ≡ P.moves.issued) ⊎ ((d : Command) × (has_pieces d ≡ true → TransferFits lines d) × (Q.moves.issued ≡ P.moves.issued ++ d ∷ []))
+Grown lines P Q = HasIssued lines P Q × Keeps P.moves Q.moves
+
+-- the commands are as they were
+as_before : (lines : ℕ) (P : Spe) → HasIssued lines P P × Keeps P.moves P.moves
+as_before lines P = (inl refl, λ c h. h)
 
 kind_fits : (lines : ℕ) (d : Command) (k : Kind) → d.kind ≡ k → KindFits lines d k → has_pieces d ≡ true → TransferFits lines d
 kind_fits lines d Put e fits h = fits
@@ -71,7 +80,7 @@ kind_fits lines d PutList e fits h = absurd (true≢false (sym h ∙ rw e refl))
 kind_fits lines d GetList e fits h = absurd (true≢false (sym h ∙ rw e refl))
 kind_fits lines d Barrier e fits h = absurd (true≢false (sym h ∙ rw e refl))
 
-pub order-fits : (lines : ℕ) (d : Command) → OrderFits lines (Queued d) → has_pieces d ≡ true → TransferFits lines d
+order-fits : (lines : ℕ) (d : Command) → OrderFits lines (Queued d) → has_pieces d ≡ true → TransferFits lines d
 order-fits lines d fits h = kind_fits lines d d.kind refl fits.1 h
 
 -- a command's size, and its end in the memory or in the store
@@ -83,58 +92,58 @@ kind-small lines d GetList fits = let s = fits.size in let m = fits.store in (s,
 kind-small lines d Barrier fits = let z : d.size ≡ 0 = fits in (omega arith, λ u l. omega arith)
 
 issued_grown : (lines : ℕ) (P : Spe) (r : Result Order Fault) → ((d : Command) → r ≡ Ok (Queued d) → has_pieces d ≡ true → TransferFits lines d) → Grown lines P (issued_by P r)
-issued_grown lines P (Ok (Queued d)) fits = inr (d, fits d refl, refl)
-issued_grown lines P (Ok (AtomicOrder a)) fits = inl refl
-issued_grown lines P (Err kind) fits = inl refl
+issued_grown lines P (Ok (Queued d)) fits = (inr (d, fits d refl, refl), issued-keeps P.moves d)
+issued_grown lines P (Ok (AtomicOrder a)) fits = as_before lines P
+issued_grown lines P (Err kind) fits = as_before lines P
 
 commanded_grown : (lines : ℕ) (P : Spe) (op : ℕ) → Grown lines P (commanded lines P op)
 unfolding commanded
-commanded_grown lines P op = on_cond _ _ _ (Grown lines P) (issued_grown lines P (checked P.params op lines) (checked-fits P.params op lines)) (inl refl)
+commanded_grown lines P op = on_cond _ _ _ (Grown lines P) (issued_grown lines P (checked P.params op lines) (λ d e. order-fits lines d (checked-fits P.params op lines (Queued d) e))) (as_before lines P)
 
 written_grown : (lines : ℕ) (P : Spe) (ch value : ℕ) → Grown lines P (written lines P ch value)
 unfolding written
 written_grown lines P ch value =
     on_cond (ch == 21) _ _ (Grown lines P) (commanded_grown lines P value)
-    (on_cond (ch == 22) _ _ (Grown lines P) (inl refl) (on_cond (ch == 23) _ _ (Grown lines P) (inl refl)
-    (on_cond (ch == 28) _ _ (Grown lines P) (inl refl) (on_cond (ch == 30) _ _ (Grown lines P) (inl refl) (inl refl)))))
+    (on_cond (ch == 22) _ _ (Grown lines P) (as_before lines P) (on_cond (ch == 23) _ _ (Grown lines P) (as_before lines P)
+    (on_cond (ch == 28) _ _ (Grown lines P) (as_before lines P) (on_cond (ch == 30) _ _ (Grown lines P) (as_before lines P) (as_before lines P)))))
 
 status_grown : (lines : ℕ) (P : Spe) (rt : ℕ) (o : Option TagStatus) → IfSome (read_status P rt o) (Grown lines P)
 status_grown lines P rt None = tt
-status_grown lines P rt (Some status) = inl refl
+status_grown lines P rt (Some status) = as_before lines P
 
 inbound_grown : (lines : ℕ) (P : Spe) (rt : ℕ) (xs : List ℕ) → IfSome (read_inbound P rt xs) (Grown lines P)
 inbound_grown lines P rt [] = tt
-inbound_grown lines P rt (x ∷ xs) = inl refl
+inbound_grown lines P rt (x ∷ xs) = as_before lines P
 
 channel_grown : (lines : ℕ) (P : Spe) (op : ChannelOp) → IfSome (channel lines P op) (Grown lines P)
 unfolding channel
 channel_grown lines P (Read rt ch) =
     if_cond (is_read (listed ch)) _ _ (Grown lines P)
     (if_cond (nat_lt 0 (count P ch)) _ _ (Grown lines P)
-    (if_cond (ch == 12) _ _ (Grown lines P) (inl refl) (if_cond (ch == 24) _ _ (Grown lines P) (status_grown lines P rt P.tags.status) (inbound_grown lines P rt P.inbound))) tt)
-    (inl refl)
-channel_grown lines P (Count rt ch) = if_cond (is_some (listed ch)) (Some (with_value P rt (count P ch))) (Some (bad_channel P)) (Grown lines P) (inl refl) (inl refl)
+    (if_cond (ch == 12) _ _ (Grown lines P) (as_before lines P) (if_cond (ch == 24) _ _ (Grown lines P) (status_grown lines P rt P.tags.status) (inbound_grown lines P rt P.inbound))) tt)
+    (as_before lines P)
+channel_grown lines P (Count rt ch) = if_cond (is_some (listed ch)) (Some (with_value P rt (count P ch))) (Some (bad_channel P)) (Grown lines P) (as_before lines P) (as_before lines P)
 channel_grown lines P (Write ch value) =
-    if_cond (is_write (listed ch)) _ _ (Grown lines P) (if_cond (nat_lt 0 (count P ch)) _ _ (Grown lines P) (written_grown lines P ch value) tt) (inl refl)
+    if_cond (is_write (listed ch)) _ _ (Grown lines P) (if_cond (nat_lt 0 (count P ch)) _ _ (Grown lines P) (written_grown lines P ch value) tt) (as_before lines P)
 
 followed_grown : (lines : ℕ) (P : Spe) (flow : Flow) → IfSome (followed lines P flow) (Grown lines P)
-followed_grown lines P (Next pc) = inl refl
-followed_grown lines P (Stop code next) = inl refl
-followed_grown lines P (Halt next) = inl refl
+followed_grown lines P (Next pc) = as_before lines P
+followed_grown lines P (Stop code next) = as_before lines P
+followed_grown lines P (Halt next) = as_before lines P
 followed_grown lines P (Channel op) = channel_grown lines P op
 
 instr_grown : (lines : ℕ) (P : Spe) (o : Option Instr) → IfSome (exec_instr lines P o) (Grown lines P)
-instr_grown lines P None = inl refl
+instr_grown lines P None = as_before lines P
 instr_grown lines P (Some i) = let o = meaning i P.pc P.registers P.store in followed_grown lines (record P { registers = o.regs; store = o.store }) o.flow
 
 exec_grown : (lines : ℕ) (P : Spe) → IfSome (exec lines P) (Grown lines P)
 unfolding exec
 exec_grown lines P = if_cond (is_running P.status) _ _ (Grown lines P) (instr_grown lines P (instr_of (word_at P.store P.pc))) tt
 
-copied_grown : (lines : ℕ) (memory : List ℕ) (P : Spe) (b : Bool) (x : Part) → Grown lines P (copied memory P b x).spe
+copied_grown : (lines : ℕ) (memory : List ℕ) (P Q : Spe) (b : Bool) (x : Part) → Grown lines P Q → Grown lines P (copied memory Q b x).spe
 unfolding copied
-copied_grown lines memory P true x = inl refl
-copied_grown lines memory P false x = inl refl
+copied_grown lines memory P Q true x grown = grown
+copied_grown lines memory P Q false x grown = grown
 
 piece_grown : (lines : ℕ) (memory : List ℕ) (P : Spe) (c e k : ℕ) → IfSome (piece memory P c e k) (λ x. Grown lines P x.spe)
 unfolding piece
@@ -143,11 +152,11 @@ piece_grown lines memory P c e k = if_cond (may_piece P c e k) _ _ (λ x. Grown 
   where
     each : (o : Option Command) → IfSome o (λ d. Grown lines P (copied memory (record P { moves = with_done P.moves c k }) (is_put d.kind) (part_of d.ls d.ea d.size k)).spe)
     each None = tt
-    each (Some d) = copied_grown lines memory (record P { moves = with_done P.moves c k }) (is_put d.kind) (part_of d.ls d.ea d.size k)
+    each (Some d) = copied_grown lines memory P (record P { moves = with_done P.moves c k }) (is_put d.kind) (part_of d.ls d.ea d.size k) (inl refl, done-keeps P.moves c k)
 
 retire_grown : (lines : ℕ) (P : Spe) (c : ℕ) → IfSome (retire P c) (Grown lines P)
 unfolding retire
-retire_grown lines P c = if_cond (may_retire P c) _ _ (Grown lines P) (inl refl) tt
+retire_grown lines P c = if_cond (may_retire P c) _ _ (Grown lines P) (inl refl, retired-keeps P.moves c) tt
 
 -- an action of the host leaves a processor's commands and tags
 abbrev pub IsLike : Spe → Spe → Type 0
@@ -243,7 +252,7 @@ act_changes M (Piece p c e k) = in_changes (Grown (lines_of M)) (λ P. piece M.m
 act_changes M (Elem p c) = in_changes (Grown (lines_of M)) (λ P. elem P c) (λ Q. Q) M.spes p (with_spe M p) (λ P. elem_grown (lines_of M) P c) (λ Q. refl)
 act_changes M (Retire p c) = in_changes (Grown (lines_of M)) (λ P. retire P c) (λ Q. Q) M.spes p (with_spe M p) (λ P. retire_grown (lines_of M) P c) (λ Q. refl)
 act_changes M (Atomic p) = in_changes (Grown (lines_of M)) atomic (λ Q. Q) M.spes p (with_spe M p) (atomic_grown (lines_of M)) (λ Q. refl)
-act_changes M Host = if_on (host_step M) _ _ (λ N. weaken IsLike (Grown (lines_of M)) M.spes N.spes (λ P Q like. inl (ap (λ m. m.issued) like.1))) (host_changes M)
+act_changes M Host = if_on (host_step M) _ _ (λ N. weaken IsLike (Grown (lines_of M)) M.spes N.spes (λ P Q like. (inl (ap (λ m. m.issued) like.1), λ c h. subst (λ m. is_complete m c ≡ true) (sym like.1) h))) (host_changes M)
 
 -- the processors stay settled
 pub settled-after : {R : Spe → Spe → Type 0} (old new : List Spe) → AreSettled old → Changes R old new → AreSettled (map settled new)
@@ -298,7 +307,7 @@ map-got f [] q y h = absurd (cc)
 map-got f (x ∷ xs) zero y h = (x, refl, (cc))
 map-got f (x ∷ xs) (suc q) y h = map-got f xs q y h
 
-one_more : (lines n : ℕ) (P Q : Spe) → IsBounded lines n P → Grown lines P Q → IsBounded lines (n + 1) Q
+one_more : (lines n : ℕ) (P Q : Spe) → IsBounded lines n P → HasIssued lines P Q → IsBounded lines (n + 1) Q
 one_more lines n P Q is (inl same) = record { few = let l = is.few in let e = ap length same in omega arith; fits = subst (MovesFit lines) (sym same) is.fits }
 one_more lines n P Q is (inr x) = record {
   few = let l = is.few in let e = ap length x.2 in let a = length-append P.moves.issued (x.0 ∷ []) in omega arith;
@@ -316,7 +325,7 @@ bounded_after : (lines n : ℕ) (old new : List Spe) → AreBounded lines n old 
 bounded_after lines n old new all (inl same) p P at = weaker lines n P (all p P (subst (λ xs. slice_get xs p ≡ Some P) same at))
 bounded_after lines n old new all (inr x) p P at =
     set_cases old x.p p x.is P (IsBounded lines (n + 1) P) (subst (λ xs. slice_get xs p ≡ Some P) x.set at)
-    (λ same. subst (IsBounded lines (n + 1)) (sym same) (one_more lines n x.was x.is (all x.p x.was x.at) x.how))
+    (λ same. subst (IsBounded lines (n + 1)) (sym same) (one_more lines n x.was x.is (all x.p x.was x.at) x.how.0))
     (λ h. weaker lines n P (all p P h))
 
 settled_bounded : (lines n : ℕ) (spes : List Spe) → AreBounded lines n spes → AreBounded lines n (map settled spes)
@@ -329,3 +338,34 @@ pub act-bounded : (M : State) (s : Step) (N : State) (lines n : ℕ) → lines_o
 act-bounded M s N lines n same e all =
     settled_bounded lines (n + 1) N.spes (bounded_after lines n M.spes N.spes all
     (subst (λ k. Changes (Grown k) M.spes N.spes) same (if_is (act M s) N (λ K. Changes (Grown (lines_of M)) M.spes K.spes) e (act_changes M s))))
+
+-- what was complete is complete still
+abbrev KeptAt : Spe → List Spe → ℕ → Type 0
+KeptAt P new p = (Q : Spe) × (slice_get new p ≡ Some Q) × Keeps P.moves Q.moves
+
+set_got : {X : Type 0} (xs : List X) (p q : ℕ) (y x : X) (G : Type 0) → slice_get xs q ≡ Some x → (p ≡ q → slice_get (slice_set xs p y) q ≡ Some y → G) → (slice_get (slice_set xs p y) q ≡ Some x → G) → G
+set_got [] p q y x G h new old = absurd (cc)
+set_got (z ∷ xs) zero zero y x G h new old = new refl refl
+set_got (z ∷ xs) zero (suc q) y x G h new old = old h
+set_got (z ∷ xs) (suc p) zero y x G h new old = old h
+set_got (z ∷ xs) (suc p) (suc q) y x G h new old = set_got xs p q y x G h (λ e. new (ap suc e)) old
+
+kept_at : (lines : ℕ) (old new : List Spe) (p : ℕ) (P : Spe) → slice_get old p ≡ Some P → Changes (Grown lines) old new → KeptAt P new p
+kept_at lines old new p P at (inl same) = (P, subst (λ xs. slice_get xs p ≡ Some P) (sym same) at, λ c h. h)
+kept_at lines old new p P at (inr x) =
+    set_got old x.p p x.is P (KeptAt P new p) at
+    (λ e got.
+    let was : x.was ≡ P = let a : slice_get old p ≡ Some x.was = subst (λ q. slice_get old q ≡ Some x.was) e x.at in cc in
+    (x.is, subst (λ xs. slice_get xs p ≡ Some x.is) (sym x.set) got, subst (λ (y : Spe). Keeps y.moves x.is.moves) was x.how.1))
+    (λ got. (P, subst (λ xs. slice_get xs p ≡ Some P) (sym x.set) got, λ c h. h))
+
+got_map : {X Y : Type 0} (f : X → Y) (xs : List X) (q : ℕ) (x : X) → slice_get xs q ≡ Some x → slice_get (map f xs) q ≡ Some (f x)
+got_map f [] q x h = absurd (cc)
+got_map f (y ∷ xs) zero x h = ap (option_map f) h
+got_map f (y ∷ xs) (suc q) x h = got_map f xs q x h
+
+pub act-keeps : (M : State) (s : Step) (N : State) (p : ℕ) (P : Spe) → act M s ≡ Some N → slice_get M.spes p ≡ Some P
+    → (Q : Spe) × (slice_get (map settled N.spes) p ≡ Some Q) × Keeps P.moves Q.moves
+act-keeps M s N p P e at =
+    let k = kept_at (lines_of M) M.spes N.spes p P at (if_is (act M s) N (λ K. Changes (Grown (lines_of M)) M.spes K.spes) e (act_changes M s)) in
+    (settled k.0, got_map settled N.spes p k.0 k.1, k.2)

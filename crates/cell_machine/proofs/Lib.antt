@@ -7,10 +7,9 @@ pub mod AnyStep
 pub mod Execs
 pub mod ChannelSteps
 pub mod HostSteps
-pub mod CallLaws
-pub mod Checked
 pub mod MovesShown
 pub mod SpeShown
+pub mod Staying
 pub mod Bounds
 pub mod Places
 pub mod Completion

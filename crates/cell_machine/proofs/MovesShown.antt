@@ -8,7 +8,7 @@ use Rattle.std.proofs.lemmas.Bool.Decides.{nat_tests}
 use mathlib.Core.Path.{fun_ext}
 use Rattle.mfc_command.specs.declared.command.Command.{Command}
 use Rattle.mfc_queue.specs.Calls.{Call, Issue, SetParts, Mark, Retire, issued, is_retired, parts, is_marked, all_marked}
-use Rattle.cell_machine.proofs.CallLaws.{parts-more, marked-more, retired-more, issued-same, issued-marked, issued-retired, issued-issued, retired-same, retired-marked, retired-issued}
+use Rattle.mfc_queue.proofs.CallLaws.{parts-more, marked-more, retired-more, issued-same, issued-marked, issued-retired, issued-issued, retired-same, retired-marked, retired-issued}
 use Rattle.cell_machine.specs.Spe.{Moves, PartDone}
 use Rattle.cell_machine.specs.Moves.{is_done, is_transfer, has_pieces, pieces_of, is_complete_by, is_complete}
 use Rattle.cell_machine.specs.Transfers.{with_done, with_retired}

@@ -13,7 +13,7 @@ use Rattle.cell_base.specs.Bytes.{put}
 use Rattle.mfc_command.specs.Parts.{part_of, parts_of}
 use Rattle.mfc_queue.specs.declared.Queue.{Queue}
 use Rattle.mfc_queue.specs.Calls.{Call, Issue, SetParts, Mark, Retire, issued, is_retired, is_outstanding, outstanding as outstanding_calls, parts, is_marked, all_marked, may_begin as may_begin_calls, busy as busy_calls}
-use Rattle.cell_machine.proofs.CallLaws.{issued-issued, retired-issued}
+use Rattle.mfc_queue.proofs.CallLaws.{issued-issued, retired-issued}
 use Rattle.mfc_queue.specs.Stands.{StandsFor, IsOneOf}
 use Rattle.cell_machine.specs.declared.processor.Processor.{Processor}
 use Rattle.cell_machine.specs.Spe.{Spe, Moves, is_faulted}

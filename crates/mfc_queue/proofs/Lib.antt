@@ -1,4 +1,4 @@
-mod CallLaws
+pub mod CallLaws
 mod Walks
 mod SetLemmas
 mod Holding

@@ -1,6 +1,6 @@
 use Rattle.std.proofs.Common.{sym, ◌∙◌}
 use Rattle.std.specs.Prelude.{true, false}
-use Rattle.cell_machine.proofs.CallLaws.{outstanding-marked}
+use Rattle.mfc_queue.proofs.CallLaws.{outstanding-marked}
 use Rattle.cell_machine.proofs.SpeShown.{queue-mark}
 use Rattle.cell_machine.proofs.processor.Processor.mark.Goals as goal
 
