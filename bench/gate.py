@@ -1,0 +1,71 @@
+#!/usr/bin/env python3
+"""What the gate costs, crate by crate: runs `rt ci --anew` and prints a table of processor time in minutes.
+
+Usage: python3 bench/gate.py, on a machine that does nothing else. The gate's own output goes to standard error.
+
+Once a second it reads from /proc what each of the prover's processes has used so far. What a process uses after the
+last reading is in the total alone, so the columns add up to a little less.
+"""
+import collections
+import os
+import pathlib
+import resource
+import subprocess
+import sys
+import time
+
+ROOT = pathlib.Path(__file__).resolve().parent.parent
+TICKS = os.sysconf("SC_CLK_TCK")
+KINDS = ["proof", "tests", "edits"]
+
+
+def kind_of(command, folder):
+    """What a prover's process works on: a copy with an edit, the tests, or the crate itself."""
+    if "rt-edit" in folder:
+        return "edits"
+    return "tests" if "--test" in command else "proof"
+
+
+def readings():
+    """(process, crate, kind, seconds used) for each process of the prover that is there now."""
+    for entry in pathlib.Path("/proc").iterdir():
+        if not entry.name.isdigit():
+            continue
+        try:
+            command = (entry / "cmdline").read_text().split("\0")
+            folder = os.readlink(entry / "cwd")
+            stat = (entry / "stat").read_text().rsplit(")", 1)[1].split()
+        except (OSError, UnicodeDecodeError):
+            continue  # it ended meanwhile
+        if not command[0].endswith("/rattle") or "--crate-name" not in command:
+            continue
+        crate = command[command.index("--crate-name") + 1]
+        used = (int(stat[11]) + int(stat[12])) / TICKS
+        yield (entry.name, stat[19]), crate, kind_of(command, folder), used
+
+
+def main():
+    began = time.monotonic()
+    gate = subprocess.Popen(["rt", "ci", "--anew"], cwd=ROOT, stdout=sys.stderr)
+    processes = {}
+    while gate.poll() is None:
+        for process, crate, kind, used in readings():
+            processes[process] = (crate, kind, used)
+        time.sleep(1)
+
+    table = collections.defaultdict(lambda: dict.fromkeys(KINDS, 0.0))
+    for crate, kind, used in processes.values():
+        table[crate][kind] += used / 60
+    print("| crate | " + " | ".join(KINDS) + " |")
+    print("|---" * (1 + len(KINDS)) + "|")
+    for line in (ROOT / "crates.txt").read_text().splitlines():
+        crate = line.partition(":")[0]
+        print(f"| {crate} | " + " | ".join(f"{table[crate][kind]:.1f}" for kind in KINDS) + " |")
+    children = resource.getrusage(resource.RUSAGE_CHILDREN)
+    total = (children.ru_utime + children.ru_stime) / 60
+    print(f"\n{(time.monotonic() - began) / 60:.1f} minutes, {total:.0f} minutes of processor time")
+    return gate.returncode
+
+
+if __name__ == "__main__":
+    sys.exit(main())
