@@ -1,5 +1,5 @@
 -- The places of a flow controller's allowed steps.
-use Rattle.std.proofs.Common.{◌≡◌, ◌≢◌, ℕ, zero, suc, ◌+◌, ◌-◌, ◌%◌, ◌<◌, ◌≤◌, not, Bool, true, false, List, [], ◌∷◌, ◌++◌, length, map, arith, refl, sym, ◌∙◌, ap, subst, length-append}
+use Rattle.std.proofs.Common.{◌≡◌, ℕ, zero, suc, ◌+◌, ◌-◌, ◌%◌, ◌<◌, ◌≤◌, not, Bool, true, false, List, [], ◌∷◌, ◌++◌, length, map, arith, refl, sym, ◌∙◌, ap, subst, true≢false}
 use Rattle.std.specs.Prelude.{Option, Some, None, slice_get, nat_lt, nat_le, filter, cond, find, flat_map, Result, Ok, Err}
 use Rattle.std.specs.Result.{result_ok}
 use Rattle.std.proofs.Math.Nat.{mod-eq_of_lt}
@@ -8,14 +8,16 @@ use Rattle.std.proofs.lemmas.Bool.Decides.{nat_tests}
 use Rattle.cell_base.specs.declared.steps.Step.{Step}
 use Rattle.cell_base.specs.declared.steps.Step.TheVariants.{Piece, Retire}
 use Rattle.mfc_command.specs.Order.{outstanding as outstanding_of}
-use Rattle.mfc_queue.specs.Calls.{Call, outstanding as outstanding_calls, is_outstanding, is_retired, issued, parts}
-use Rattle.cell_machine.specs.Spe.{Spe}
-use Rattle.cell_machine.specs.Moves.{outstanding, is_complete}
+use Rattle.mfc_queue.specs.At.{IsAt}
+use Rattle.mfc_queue.specs.Calls.{Call, outstanding as outstanding_calls, is_outstanding, is_retired, is_marked, issued, parts, left}
+use Rattle.mfc_queue.proofs.AtLemmas.{ok-of}
+use Rattle.cell_machine.specs.Spe.{Spe, is_faulted}
+use Rattle.cell_machine.specs.Moves.{outstanding, is_complete, may_begin}
 use Rattle.cell_machine.specs.Transfers.{may_piece, may_retire}
 use Rattle.cell_machine.specs.Run.{steps_of_number}
-use Rattle.cell_machine.specs.Choices.{may, allowed_of_number, allowed_of_mfc, IsAt}
+use Rattle.cell_machine.specs.Choices.{may, allowed_of_number, allowed_of_mfc}
 use Rattle.cell_machine.specs.Shows.{ShowsMoves}
-use Rattle.cell_machine.proofs.SpeShown.{left-facts, issued-is, outstanding-same}
+use Rattle.cell_machine.proofs.SpeShown.{left-facts, issued-is, outstanding-same, part-done, part-left, piece-no_part, piece-part}
 use Rattle.cell_machine.proofs.MovesShown.{no-pieces}
 
 pub filter-both : {X : Type 0} (t : X → Bool) (xs ys : List X) → filter t (xs ++ ys) ≡ filter t xs ++ filter t ys
@@ -25,33 +27,6 @@ filter-both t (x ∷ xs) ys = on (t x) (filter-both t xs ys)
     on : (b : Bool) → filter t (xs ++ ys) ≡ filter t xs ++ filter t ys → cond b (x ∷ filter t (xs ++ ys)) (filter t (xs ++ ys)) ≡ cond b (x ∷ filter t xs) (filter t xs) ++ filter t ys
     on true h = ap (λ zs. x ∷ zs) h
     on false h = h
-
--- the place in two lists, one behind the other
-get_here : (xs ys : List Step) (n : ℕ) (s : Step) → slice_get xs n ≡ Some s → slice_get (xs ++ ys) n ≡ Some s
-get_here [] ys n s h = absurd (cc)
-get_here (x ∷ xs) ys zero s h = h
-get_here (x ∷ xs) ys (suc n) s h = get_here xs ys n s h
-
-get_behind : (xs ys : List Step) (n rest : ℕ) → n ≡ length xs + rest → slice_get (xs ++ ys) n ≡ slice_get ys rest
-get_behind [] ys n rest h = let e : n ≡ rest = omega arith in ap (slice_get ys) e
-get_behind (x ∷ xs) ys zero rest h = absurd (omega arith)
-get_behind (x ∷ xs) ys (suc n) rest h = get_behind xs ys n rest (omega arith)
-
-pub at-here : (r : Result Step ℕ) (n : ℕ) (xs ys : List Step) (s : Step) → r ≡ Ok s → IsAt r n xs → IsAt (Ok s) n (xs ++ ys)
-at-here (Err rest) n xs ys s e h = absurd (cc)
-at-here (Ok t) n xs ys s e h = let same : t ≡ s = cc in get_here xs ys n s (subst (λ u. slice_get xs n ≡ Some u) same h)
-
-pub at-behind : (r : Result Step ℕ) (n rest : ℕ) (xs ys : List Step) → n ≡ length xs + rest → IsAt r rest ys → IsAt r n (xs ++ ys)
-at-behind (Ok s) n rest xs ys e h = get_behind xs ys n rest e ∙ h
-at-behind (Err k) n rest xs ys e h = let a = length-append xs ys in omega arith
-
-pub behind-of : (r : Result Step ℕ) (n rest : ℕ) (xs : List Step) → r ≡ Err rest → IsAt r n xs → n ≡ length xs + rest
-behind-of (Ok s) n rest xs e h = absurd (cc)
-behind-of (Err k) n rest xs e h = let same : k ≡ rest = cc in subst (λ j. n ≡ length xs + j) same h
-
-pub ok-of : (r : Result Step ℕ) (n : ℕ) (xs : List Step) (s : Step) → r ≡ Ok s → IsAt r n xs → slice_get xs n ≡ Some s
-ok-of (Err k) n xs s e h = absurd (cc)
-ok-of (Ok t) n xs s e h = let same : t ≡ s = cc in subst (λ u. slice_get xs n ≡ Some u) same h
 
 get_past : (xs : List Step) (n k : ℕ) → n ≡ length xs + k → slice_get xs n ≡ None
 get_past [] n k h = refl
@@ -85,25 +60,38 @@ picked-left r n rest count at xs a b c h =
     let e : count ≡ length xs = omega arith in
     first-at r at xs h ∙ ap (slice_get xs) (c ∙ ap (λ k. n % k) e)
 
--- the allowed pieces of a command from k on
-abbrev pub pieces_from : Spe → ℕ → ℕ → ℕ → ℕ → List Step
-pieces_from P p c k n = filter (may P) (map (Piece p c 0) (range_with_len k (n - k)))
+-- the allowed pieces of a command are those that are left, where it may begin, and else none
+piece_is : (calls : List Call) (P : Spe) (c k : ℕ) → ShowsMoves calls P.moves → is_outstanding calls c ≡ true → is_faulted P.status ≡ false → may_begin P.moves c ≡ true → k < parts calls c
+    → may_piece P c 0 k ≡ not (is_marked calls c k)
+piece_is calls P c k shows open_yet sound begins within = on (is_marked calls c k) refl
+  where
+    on : (b : Bool) → is_marked calls c k ≡ b → may_piece P c 0 k ≡ not b
+    on true e = piece-no_part P c 0 k (part-done calls P.moves c k shows open_yet e)
+    on false e = piece-part P c 0 k sound refl (part-left calls P.moves c k shows open_yet within e) ∙ begins
 
-pub piece-skip : (P : Spe) (p c k n : ℕ) → k < n → may_piece P c 0 k ≡ false → pieces_from P p c k n ≡ pieces_from P p c (k + 1) n
-piece-skip P p c k n l h = let e : n - k ≡ suc (n - (k + 1)) = omega arith in rw e (rw h refl)
+filter_map : (t : Step → Bool) (f : ℕ → Step) (u : ℕ → Bool) (a n : ℕ) → ((k : ℕ) → k < a + n → t (f k) ≡ u k) → filter t (map f (range_with_len a n)) ≡ map f (filter u (range_with_len a n))
+filter_map t f u a zero h = refl
+filter_map t f u a (suc n) h = on (t (f a)) (u a) (h a (omega arith)) (filter_map t f u (a + 1) n (λ k l. h k (omega arith)))
+  where
+    on : (b d : Bool) → b ≡ d → filter t (map f (range_with_len (a + 1) n)) ≡ map f (filter u (range_with_len (a + 1) n))
+        → cond b (f a ∷ filter t (map f (range_with_len (a + 1) n))) (filter t (map f (range_with_len (a + 1) n))) ≡ map f (cond d (a ∷ filter u (range_with_len (a + 1) n)) (filter u (range_with_len (a + 1) n)))
+    on true true e h = ap (λ xs. f a ∷ xs) h
+    on false false e h = h
+    on true false e h = absurd (true≢false e)
+    on false true e h = absurd (true≢false (sym e))
 
-pub piece-here : (P : Spe) (p c k n : ℕ) → k < n → may_piece P c 0 k ≡ true → pieces_from P p c k n ≡ Piece p c 0 k ∷ pieces_from P p c (k + 1) n
-piece-here P p c k n l h = let e : n - k ≡ suc (n - (k + 1)) = omega arith in rw e (rw h refl)
+pub pieces-left : (calls : List Call) (p : ℕ) (P : Spe) (c : ℕ) → ShowsMoves calls P.moves → is_outstanding calls c ≡ true → is_faulted P.status ≡ false → may_begin P.moves c ≡ true
+    → filter (may P) (map (Piece p c 0) (range_with_len 0 (parts calls c))) ≡ map (Piece p c 0) (left calls c)
+unfolding left
+pieces-left calls p P c shows open_yet sound begins =
+    filter_map (may P) (Piece p c 0) (λ k. not (is_marked calls c k)) 0 (parts calls c) (λ k l. piece_is calls P c k shows open_yet sound begins (omega arith))
 
-pub piece-end : (P : Spe) (p c k n : ℕ) → n ≤ k → pieces_from P p c k n ≡ []
-piece-end P p c k n l = let e : n - k ≡ 0 = omega arith in rw e refl
+none_of : (t : Step → Bool) (f : ℕ → Step) (a n : ℕ) → ((k : ℕ) → t (f k) ≡ false) → filter t (map f (range_with_len a n)) ≡ []
+none_of t f a zero h = refl
+none_of t f a (suc n) h = rw (h a) (none_of t f (a + 1) n h)
 
-pub pieces-all : (P : Spe) (p c n m : ℕ) → n ≡ m → pieces_from P p c 0 n ≡ filter (may P) (map (Piece p c 0) (range_with_len 0 m))
-pieces-all P p c n m e = let z : n - 0 ≡ m = omega arith in ap (λ k. filter (may P) (map (Piece p c 0) (range_with_len 0 k))) z
-
--- a place behind the first is a place in what comes after it
-pub at-next : (r : Result Step ℕ) (n : ℕ) (x : Step) (xs : List Step) → n ≢ 0 → IsAt r (n - 1) xs → IsAt r n (x ∷ xs)
-at-next r n x xs some h = at-behind r n (n - 1) (x ∷ []) xs (let e : n ≡ 1 + (n - 1) = omega arith in e) h
+pub no-pieces_left : (p : ℕ) (P : Spe) (c n : ℕ) → ((k : ℕ) → may_piece P c 0 k ≡ false) → filter (may P) (map (Piece p c 0) (range_with_len 0 n)) ≡ []
+no-pieces_left p P c n h = none_of (may P) (Piece p c 0) 0 n h
 
 pub number-retire : (p : ℕ) (P : Spe) (c : ℕ) → may_retire P c ≡ true → allowed_of_number p P c ≡ Retire p c ∷ []
 number-retire p P c h = let f = left-facts P c h in rw (f.1, no-pieces f.0 f.2, h) refl
@@ -113,6 +101,9 @@ pub number-pieces : (calls : List Call) (p : ℕ) (P : Spe) (c : ℕ) → ShowsM
 number-pieces calls p P c shows open_yet h =
     let d = issued-is calls P.moves c shows open_yet in
     rw (d.1, h) (ap (λ n. filter (may P) (map (Piece p c 0) (range_with_len 0 n))) (sym (shows.parts c d.0 d.1)))
+
+pub number-none : (calls : List Call) (p : ℕ) (P : Spe) (c : ℕ) → ShowsMoves calls P.moves → is_outstanding calls c ≡ true → may_retire P c ≡ false → parts calls c ≡ 0 → allowed_of_number p P c ≡ []
+number-none calls p P c shows open_yet h none = number-pieces calls p P c shows open_yet h ∙ ap (λ n. filter (may P) (map (Piece p c 0) (range_with_len 0 n))) none
 
 -- walks over the outstanding commands
 

@@ -126,6 +126,11 @@ pub piece-no_part : (P : Spe) (c e k : ℕ) → has_part P.moves c k ≡ false �
 unfolding may_piece
 piece-no_part P c e k h = rw h (ap (λ b. b && may_begin P.moves c) (and_off (not (is_faulted P.status) && e == 0) false refl))
 
+-- nor where it may not begin
+pub piece-waits : (P : Spe) (c e k : ℕ) → may_begin P.moves c ≡ false → may_piece P c e k ≡ false
+unfolding may_piece
+piece-waits P c e k h = rw h (and_off (not (is_faulted P.status) && e == 0 && has_part P.moves c k) false refl)
+
 pub piece-part : (P : Spe) (c e k : ℕ) → is_faulted P.status ≡ false → e ≡ 0 → has_part P.moves c k ≡ true → may_piece P c e k ≡ may_begin P.moves c
 unfolding may_piece
 piece-part P c e k h z g = let t : (e == 0) ≡ true = grind (arith, nat_tests) in rw (h, t, g) refl

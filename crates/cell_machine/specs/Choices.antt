@@ -1,5 +1,5 @@
 -- The allowed steps of a flow controller, by their places.
-use Rattle.std.specs.Prelude.{◌≡◌, ℕ, ◌+◌, Bool, false, List, length, filter, flat_map, map, Some, Result, Ok, Err, slice_get}
+use Rattle.std.specs.Prelude.{ℕ, Bool, false, List, length, filter, flat_map, map}
 use Rattle.std.specs.List.{range_with_len}
 use Rattle.cell_base.specs.declared.steps.Actor.TheVariants.{Spu, Mfc}
 use Rattle.cell_base.specs.declared.steps.Step.{Step}
@@ -26,11 +26,6 @@ allowed_of_number p P c = filter (may P) (steps_of_number p P c)
 -- the allowed steps of the commands of processor p
 abbrev pub allowed_of_mfc : ℕ → Spe → List Step
 allowed_of_mfc p P = filter (may P) (flat_map (steps_of_number p P) (outstanding P))
-
--- the step at place n, or how far n is behind the last one
-abbrev pub IsAt : Result Step ℕ → ℕ → List Step → Type 0
-IsAt (Ok s) n steps = slice_get steps n ≡ Some s
-IsAt (Err rest) n steps = n ≡ length steps + rest
 
 -- the allowed steps of all processors, and of all flow controllers
 abbrev pub all_of_spus : State → List Step

@@ -80,7 +80,7 @@ impl Processor {
     ghost use Rattle.cell_machine.specs.Shows.{ShowsSpe, ShowsQueue};
 
     /// Whether its flow controller refused a command, and makes no more steps.
-    fn is_faulted(&self) -> bool
+    pub(crate) fn is_faulted(&self) -> bool
         ensures { result ≡ is_faulted self.now.status }
     {
         matches!(self.status, Status::DmaFault { .. })

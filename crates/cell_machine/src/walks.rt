@@ -2,12 +2,13 @@
 
 ghost use Rattle.std.specs.Prelude.{◌≡◌, ℕ, ◌%◌, ◌<◌, ◌≤◌, List, true, length, filter, map, slice_get};
 ghost use Rattle.std.specs.List.{range_with_len};
-ghost use Rattle.mfc_queue.specs.Stands.{IsOneOf, StandsFor};
+ghost use Rattle.mfc_queue.specs.At.{IsAt};
+ghost use Rattle.mfc_queue.specs.Stands.{IsOneOf};
 ghost use Rattle.cell_base.specs.declared.steps.Step.{Step};
 ghost use Rattle.cell_machine.specs.Spe.{Spe};
-ghost use Rattle.mfc_queue.specs.Calls.{Call, parts, is_outstanding};
+ghost use Rattle.mfc_queue.specs.Calls.{parts, is_outstanding};
 ghost use Rattle.cell_machine.specs.Kept.{IsKept};
-ghost use Rattle.cell_machine.specs.Choices.{may, allowed_of_number, allowed_of_mfc, IsAt};
+ghost use Rattle.cell_machine.specs.Choices.{may, allowed_of_number, allowed_of_mfc};
 
 use crate::processor::Processor;
 use cell_base::Step;
@@ -15,39 +16,24 @@ use cell_base::Step;
 impl Processor {
     ghost use Rattle.cell_machine.specs.Shows.{ShowsSpe};
 
-    /// How many parts an outstanding command has.
-    fn parts(&self, cmd: u32) -> u32
-        requires kept { IsKept self.now.queue }
-        requires one { IsOneOf self.now.queue cmd }
-        ensures count { (calls : List Call) → StandsFor self.now.queue calls → result ≡ parts calls cmd }
-        ensures few { result ≤ 129 }
-    {
-        self.queue.parts(cmd)
-    }
-
     /// The allowed piece of a command at place `n`, or how far `n` is behind the last one.
     fn piece_at(&self, spe: u8, cmd: u32, n: u64) -> Result<Step, u64>
-        requires kept { IsKept self.now.queue }
-        requires one { IsOneOf self.now.queue cmd }
-        ensures { (P : Spe) → (shows : ShowsSpe self.now P) → IsAt result n (filter (may P) (map (Step.Piece spe cmd 0) (range_with_len 0 (parts shows.queue.calls cmd)))) }
+        requires { IsOneOf self.now.queue cmd }
+        ensures { (P : Spe) → (shows : ShowsSpe self.now P) → is_outstanding shows.queue.calls cmd ≡ true → IsAt result n (filter (may P) (map (Step.Piece spe cmd 0) (range_with_len 0 (parts shows.queue.calls cmd)))) }
     {
-        let mut rest = n;
-        let count = self.parts(cmd);
-        for k in 0..count {
-            if !self.may_piece(cmd, 0, k as u16) {
-                continue;
-            }
-            if rest == 0 {
-                return Ok(Step::Piece {
-                    spe,
-                    cmd,
-                    elem: 0,
-                    part: k as u16,
-                });
-            }
-            rest -= 1;
+        if self.is_faulted() {
+            return Err(n);
         }
-        Err(rest)
+        if !self.queue.may_start(cmd) {
+            return Err(n);
+        }
+        let part = self.queue.left_at(cmd, n)?;
+        Ok(Step::Piece {
+            spe,
+            cmd,
+            elem: 0,
+            part: part as u16,
+        })
     }
 
     /// The allowed step of a command at place `n`, or how far `n` is behind the last one.
@@ -56,8 +42,11 @@ impl Processor {
         requires one { IsOneOf self.now.queue cmd }
         ensures { (P : Spe) → (shows : ShowsSpe self.now P) → is_outstanding shows.queue.calls cmd ≡ true → IsAt result n (allowed_of_number spe P cmd) }
     {
-        if !self.may_retire(cmd) {
+        if self.queue.parts(cmd) > 0 {
             return self.piece_at(spe, cmd, n);
+        }
+        if !self.may_retire(cmd) {
+            return Err(n);
         }
         if n > 0 {
             return Err(n - 1);

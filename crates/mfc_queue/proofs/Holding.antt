@@ -10,13 +10,14 @@ use Rattle.mfc_command.specs.Order.{goes_before, outstanding as outstanding_of}
 use Rattle.mfc_queue.specs.declared.Held.{Held}
 use Rattle.mfc_queue.specs.declared.Queue.{Queue}
 use Rattle.mfc_queue.specs.Sets.{has_part}
-use Rattle.mfc_queue.specs.Calls.{Call, Issue, SetParts, Mark, Retire, issued, is_retired, is_outstanding, outstanding, parts, is_marked, all_marked, may_begin, is_of_tag}
+use Rattle.mfc_queue.specs.Calls.{Call, Issue, SetParts, Mark, Retire, issued, is_retired, is_outstanding, outstanding, parts, is_marked, left, all_marked, may_begin, is_of_tag}
 use Rattle.mfc_queue.specs.Stands.{StandsFor, Holds, IsUnknown, IsOneOf, HasPart, Entry, entry, KnowsBefore}
 use Rattle.std.proofs.lemmas.List.{get_or-set_same, get_or-set_other, length-set}
 use Rattle.std.proofs.lemmas.List.Elements.{All-append, All-filter, filter-append}
 use Rattle.std.proofs.Math.Seq.{map-set_same}
 use Rattle.std.proofs.Math.ListN.{get_or-map, length-map}
 use Rattle.mfc_command.specs.Order.{with_group, may_start, busy_groups, precedes}
+use Rattle.mfc_queue.proofs.AtLemmas.{pass-agree}
 use Rattle.mfc_queue.proofs.CallLaws.{issued-more, retired-more, parts-more, marked-more}
 
 -- a number of a range that passes the test is among those that do
@@ -299,6 +300,15 @@ all-marked q calls cmd i h stands within at same few =
     let holds : Holds calls h = held-at q calls i h stands within at in
     all-agree (λ k. has_part h.done.words k) (is_marked calls cmd) 0 h.parts (λ k l. subst (λ j. has_part h.done.words k ≡ is_marked calls j k) e (sym (holds.done k (omega arith))))
     ∙ ap (λ n. list_all (is_marked calls cmd) (range_with_len 0 n)) (sym holds.parts ∙ ap (parts calls) e)
+
+pub left-is : (q : Queue) (calls : List Call) (cmd i : ℕ) (h : Held) → StandsFor q calls → i < length q.held.items → h ≡ slice_index_or q.held.items i h → ((d : Held) → (slice_index_or q.held.items i d).cmd ≡ cmd)
+    → h.parts ≤ 129 → filter (λ k. not (has_part h.done.words k)) (range_with_len 0 h.parts) ≡ left calls cmd
+unfolding left
+left-is q calls cmd i h stands within at same few =
+    let e : h.cmd ≡ cmd = ap (λ (x : Held). x.cmd) at ∙ same h in
+    let holds : Holds calls h = held-at q calls i h stands within at in
+    pass-agree (λ k. not (has_part h.done.words k)) (λ k. not (is_marked calls cmd k)) 0 h.parts (λ k l. ap not (subst (λ j. has_part h.done.words k ≡ is_marked calls j k) e (sym (holds.done k (omega arith)))))
+    ∙ ap (λ n. filter (λ k. not (is_marked calls cmd k)) (range_with_len 0 n)) (sym holds.parts ∙ ap (parts calls) e)
 
 -- a filter after a filter, and of what f makes of each
 filter-both : (s t : ℕ → Bool) (xs : List ℕ) → filter t (filter s xs) ≡ filter (λ x. s x && t x) xs

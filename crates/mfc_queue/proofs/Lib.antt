@@ -1,4 +1,5 @@
 pub mod CallLaws
+pub mod AtLemmas
 mod Walks
 mod SetLemmas
 mod Holding

@@ -1,5 +1,5 @@
 -- The calls that were ever made on a queue, oldest first, and what they say.
-use Rattle.std.specs.Prelude.{ℕ, Bool, false, not, ◌&&◌, ◌||◌, ◌==◌, nat_lt, if◌then◌else◌, List, length, fold, filter_map, Option, Some, None, slice_get}
+use Rattle.std.specs.Prelude.{ℕ, Bool, false, not, ◌&&◌, ◌||◌, ◌==◌, nat_lt, if◌then◌else◌, List, length, filter, fold, filter_map, Option, Some, None, slice_get}
 use Rattle.std.specs.List.{list_any, list_all, range_with_len}
 use Rattle.std.specs.Option.{option_map_or}
 use Rattle.mfc_command.specs.declared.command.Command.{Command}
@@ -56,6 +56,10 @@ marked_after cmd part b (Retire c) = b
 
 unfoldable pub is_marked : List Call → ℕ → ℕ → Bool
 is_marked calls cmd part = fold (marked_after cmd part) false calls
+
+-- the parts of the command that aren't marked, in order
+unfoldable pub left : List Call → ℕ → List ℕ
+left calls cmd = filter (λ k. not (is_marked calls cmd k)) (range_with_len 0 (parts calls cmd))
 
 -- whether all parts of the command are marked
 abbrev pub all_marked : List Call → ℕ → Bool

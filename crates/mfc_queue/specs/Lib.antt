@@ -1,4 +1,5 @@
 pub mod Places
 pub mod Sets
 pub mod Calls
+pub mod At
 pub mod Stands

@@ -6,8 +6,9 @@ ghost use Rattle.std.specs.List.{list_any};
 ghost use Rattle.std.specs.Option.{option_and_then};
 ghost use Rattle.mfc_command.specs.Order.{precedes};
 ghost use Rattle.mfc_queue.specs.Places.{ArePlaces};
+ghost use Rattle.mfc_queue.specs.At.{IsAt};
 ghost use Rattle.mfc_queue.specs.Sets.{has_bit};
-ghost use Rattle.mfc_queue.specs.Calls.{Call, Issue, SetParts, Mark, Retire, issued, is_outstanding, outstanding, parts, is_marked, all_marked, may_begin, busy, has_outstanding};
+ghost use Rattle.mfc_queue.specs.Calls.{Call, Issue, SetParts, Mark, Retire, issued, is_outstanding, outstanding, parts, is_marked, left, all_marked, may_begin, busy, has_outstanding};
 
 mod part_set;
 mod place_set;
@@ -271,6 +272,22 @@ impl Queue {
     {
         match self.index_of(cmd) {
             Some(i) => self.held_at(i).parts,
+            None => unreachable!(),
+        }
+    }
+
+    /// The part at place `n` of those that an outstanding command has left, in their order: its parts that weren't marked since
+    /// its latest `set_parts`. Where `n` is behind the last one, Err says how far.
+    pub fn left_at(&self, cmd: u32, n: u64) -> Result<u32, u64>
+        requires { IsOneOf self.now cmd }
+        ensures left { (calls : List Call) → StandsFor self.now calls → IsAt result n (left calls cmd) }
+        ensures few { IfOk result (λ k. k < 129) }
+    {
+        match self.index_of(cmd) {
+            Some(i) => {
+                let h = self.held_at(i);
+                h.done.missing_at(h.parts, n)
+            }
             None => unreachable!(),
         }
     }

@@ -1,6 +1,7 @@
 // A set of the parts of a transfer, as bits.
-ghost use Rattle.std.specs.Prelude.{◌≡◌, ℕ, ◌<◌, ◌≤◌, ◌||◌, ◌==◌, true, false, length};
+ghost use Rattle.std.specs.Prelude.{◌≡◌, ℕ, ◌<◌, ◌≤◌, ◌||◌, ◌==◌, true, false, not, filter, length, IfOk};
 ghost use Rattle.std.specs.List.{list_all, range_with_len};
+ghost use Rattle.mfc_queue.specs.At.{IsAt};
 ghost use Rattle.mfc_queue.specs.Sets.{has_part};
 
 /// How many words hold the set.
@@ -63,5 +64,24 @@ impl PartSet {
         ensures { result ≡ list_all (has_part self.now.words) (range_with_len 0 n) }
     {
         n <= self.first_missing()
+    }
+
+    /// The part at place `n` of those below `below` that aren't in the set, or how far `n` is behind the last one.
+    pub(crate) fn missing_at(&self, below: u32, n: u64) -> Result<u32, u64>
+        requires { below ≤ 192 }
+        ensures at { IsAt result n (filter (λ k. not (has_part self.now.words k)) (range_with_len 0 below)) }
+        ensures few { IfOk result (λ k. k < below) }
+    {
+        let mut rest = n;
+        for k in 0..below {
+            if self.has(k) {
+                continue;
+            }
+            if rest == 0 {
+                return Ok(k);
+            }
+            rest -= 1;
+        }
+        Err(rest)
     }
 }

@@ -170,6 +170,22 @@ fn call(
     Ok(())
 }
 
+/// Whether the answer is the part before which `n` parts are left, or says how far `n` is behind the last part left.
+fn is_left_at(row: &Row, n: u32, answer: Result<u32, u64>) -> bool {
+    match answer {
+        Ok(part) => {
+            let before = (1u32 << (part % 32)).wrapping_sub(1);
+            part < row.parts
+                && row.done >> (part % 32) & 1 == 0
+                && (!row.done & before).count_ones() == n
+        }
+        Err(behind) => {
+            let left = row.parts.saturating_sub(row.done.count_ones());
+            n >= left && behind == u64::from(n.saturating_sub(left))
+        }
+    }
+}
+
 /// What both answer of one command.
 fn compare(rt: &impl Abort, queue: &Queue, plain: &Plain, cmd: u32)
     requires { IsKnown queue.now }
@@ -186,6 +202,9 @@ fn compare(rt: &impl Abort, queue: &Queue, plain: &Plain, cmd: u32)
     assert_eq!(rt; queue.command(cmd), row.command);
     assert_eq!(rt; queue.may_start(cmd), plain.may_start(cmd, &row.command));
     assert_eq!(rt; queue.parts(cmd), row.parts);
+    for n in 0..4u32 {
+        assert!(rt; is_left_at(row, 5 * n, queue.left_at(cmd, u64::from(5 * n))));
+    }
     if 19 < queue.parts(cmd) {
         assert_eq!(rt; queue.done(cmd, 19), row.done / 524_288 % 2 == 1);
     }

@@ -1,29 +1,38 @@
-use Rattle.std.proofs.Common.{◌≡◌, ◌+◌, arith, refl, sym, ◌∙◌, subst}
+use Rattle.std.proofs.lemmas.Result.{err_from_is_err_and}
+use Rattle.std.proofs.Common.{◌≡◌, ◌+◌, arith, sym, ◌∙◌, ap, subst}
 use Rattle.std.specs.Prelude.{Ok, Err}
+use Rattle.mfc_queue.specs.At.{IsAt}
+use Rattle.mfc_queue.specs.Calls.{left}
+use Rattle.mfc_queue.proofs.AtLemmas.{got-map, behind-map}
 use Rattle.cell_base.specs.declared.steps.Step.TheVariants.{Piece}
-use Rattle.cell_machine.specs.Choices.{IsAt}
-use Rattle.cell_machine.proofs.Places.{piece-skip, piece-here, piece-end, at-next, pieces-all}
+use Rattle.cell_machine.specs.Spe.{is_faulted}
+use Rattle.cell_machine.proofs.Places.{pieces-left, no-pieces_left}
+use Rattle.cell_machine.proofs.SpeShown.{piece-faulted, piece-waits, begin-is}
 use Rattle.cell_machine.proofs.processor.Processor.piece_at.Goals as goal
 
-pub loop-k-init : goal.loop-k-init
-loop-k-init c = λ P r shows h. h
+pub returns-then-is_faulted : goal.returns-then-is_faulted
+returns-then-is_faulted c = λ P shows open_yet.
+    subst (IsAt (Err c.args.n) c.args.n) (sym (no-pieces_left c.args.spe P c.args.cmd _ (λ k. piece-faulted P c.args.cmd 0 k (ap is_faulted shows.status ∙ sym c.is_faulted.ensures ∙ c.if-is_faulted.true)))) (let e : c.args.n ≡ 0 + c.args.n = omega arith in e)
 
-pub loop-k-preserved-then-not-may_piece : goal.loop-k-preserved-then-not-may_piece
-loop-k-preserved-then-not-may_piece c = λ P r shows h.
-    c.loop-k.invariant P r shows (subst (IsAt r c.loop-k.rest) (sym (piece-skip P c.args.spe c.args.cmd c.loop-k.k c.parts-count.result (omega arith) (sym (c.may_piece.ensures.may P shows) ∙ c.if-not-may_piece.true))) h)
-
-pub returns-then-rest-eq0 : goal.returns-then-rest-eq0
-returns-then-rest-eq0 c = λ P shows.
-    let here = piece-here P c.args.spe c.args.cmd c.loop-k.k c.parts-count.result (omega arith) (sym (c.may_piece.ensures.may P shows) ∙ c.if-not-may_piece.false) in
-    subst (IsAt (Ok (Piece c.args.spe c.args.cmd 0 c.loop-k.k)) c.args.n) (pieces-all P c.args.spe c.args.cmd c.parts-count.result _ (c.parts-count.ensures.count shows.queue.calls shows.queue.stands))
-    (c.loop-k.invariant P (Ok (Piece c.args.spe c.args.cmd 0 c.loop-k.k)) shows (subst (IsAt (Ok (Piece c.args.spe c.args.cmd 0 c.loop-k.k)) c.loop-k.rest) (sym here) (rw c.if-rest-eq0.true refl)))
-
-pub loop-k-preserved : goal.loop-k-preserved
-loop-k-preserved c = λ P r shows h.
-    let here = piece-here P c.args.spe c.args.cmd c.loop-k.k c.parts-count.result (omega arith) (sym (c.may_piece.ensures.may P shows) ∙ c.if-not-may_piece.false) in
-    c.loop-k.invariant P r shows (subst (IsAt r c.loop-k.rest) (sym here) (at-next r c.loop-k.rest _ _ c.if-rest-eq0.false h))
+pub returns-then-not-may_start : goal.returns-then-not-may_start
+returns-then-not-may_start c = λ P shows open_yet.
+    let q = shows.queue in
+    subst (IsAt (Err c.args.n) c.args.n) (sym (no-pieces_left c.args.spe P c.args.cmd _ (λ k. piece-waits P c.args.cmd 0 k (sym (begin-is q.calls P.moves c.args.cmd q.moves) ∙ sym (c.may_start.ensures q.calls q.stands) ∙ c.if-not-may_start.true)))) (let e : c.args.n ≡ 0 + c.args.n = omega arith in e)
 
 pub returns : goal.returns
-returns c = λ P shows.
-    subst (IsAt (Err c.loop-k.rest) c.args.n) (pieces-all P c.args.spe c.args.cmd c.parts-count.result _ (c.parts-count.ensures.count shows.queue.calls shows.queue.stands))
-    (c.loop-k.invariant P (Err c.loop-k.rest) shows (subst (IsAt (Err c.loop-k.rest) c.loop-k.rest) (sym (piece-end P c.args.spe c.args.cmd c.loop-k.k c.parts-count.result (omega arith))) (let e : c.loop-k.rest ≡ 0 + c.loop-k.rest = omega arith in e)))
+returns c = λ P shows open_yet.
+    let q = shows.queue in
+    let sound = ap is_faulted shows.status ∙ sym c.is_faulted.ensures ∙ c.if-is_faulted.false in
+    let begins = sym (begin-is q.calls P.moves c.args.cmd q.moves) ∙ sym (c.may_start.ensures q.calls q.stands) ∙ c.if-not-may_start.false in
+    subst (IsAt (Ok (Piece c.args.spe c.args.cmd 0 c.in_ok-part.part)) c.args.n) (sym (pieces-left q.calls c.args.spe P c.args.cmd q.moves open_yet sound begins))
+    (got-map (Piece c.args.spe c.args.cmd 0) (left q.calls c.args.cmd) c.args.n c.in_ok-part.part (c.in_ok-part.ensures.left q.calls q.stands))
+
+pub returns-in_err-part : goal.returns-in_err-part
+returns-in_err-part c = λ P shows open_yet.
+    let q = shows.queue in
+    let sound = ap is_faulted shows.status ∙ sym c.is_faulted.ensures ∙ c.if-is_faulted.false in
+    let begins = sym (begin-is q.calls P.moves c.args.cmd q.moves) ∙ sym (c.may_start.ensures q.calls q.stands) ∙ c.if-not-may_start.false in
+    let behind = c.in_err-part.ensures.left q.calls q.stands in
+    let p = err_from_is_err_and c.from_residual.result c.from_residual.ensures.1 in
+    subst (IsAt c.from_residual.result c.args.n) (sym (pieces-left q.calls c.args.spe P c.args.cmd q.moves open_yet sound begins))
+    (rw (p.1, p.2) (behind-map (Piece c.args.spe c.args.cmd 0) (left q.calls c.args.cmd) c.args.n c.in_err-part.field-0.0 behind))

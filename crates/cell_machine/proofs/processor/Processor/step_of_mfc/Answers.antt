@@ -1,7 +1,8 @@
 use Rattle.std.proofs.Common.{◌≡◌, ◌+◌, arith, sym, ◌∙◌, subst}
 use Rattle.std.specs.Prelude.{Ok, Err}
-use Rattle.cell_machine.specs.Choices.{IsAt}
-use Rattle.cell_machine.proofs.Places.{from-start, from-none, from-next, found-is, found-outstanding, at-here, at-behind, behind-of}
+use Rattle.mfc_queue.specs.At.{IsAt}
+use Rattle.mfc_queue.proofs.AtLemmas.{at-here, at-behind, behind-of}
+use Rattle.cell_machine.proofs.Places.{from-start, from-none, from-next, found-is, found-outstanding}
 use Rattle.cell_machine.proofs.processor.Processor.step_of_mfc.Goals as goal
 
 pub loop-cmd-init : goal.loop-cmd-init

@@ -2,7 +2,8 @@ use Rattle.std.proofs.Common.{ℕ, ◌-◌}
 use Rattle.std.specs.Prelude.{Result}
 use Rattle.cell_base.specs.declared.steps.Step.{Step}
 use Rattle.cell_machine.specs.Spe.{Spe}
-use Rattle.cell_machine.specs.Choices.{IsAt, allowed_of_mfc}
+use Rattle.mfc_queue.specs.At.{IsAt}
+use Rattle.cell_machine.specs.Choices.{allowed_of_mfc}
 use Rattle.cell_machine.specs.Shows.{ShowsSpe}
 use Rattle.cell_machine.proofs.Places.{steps_from}
 use Rattle.cell_machine.proofs.processor.Processor.step_of_mfc.Given as goal
