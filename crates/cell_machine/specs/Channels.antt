@@ -1,5 +1,5 @@
 -- What a channel instruction does.
-use Rattle.std.specs.Prelude.{ℕ, ◌-◌, ◌%◌, ◌==◌, ◌||◌, nat_lt, Bool, true, false, List, [], ◌∷◌, ◌++◌, length, slice_set, if◌then◌else◌, Option, Some, None, is_some, Result, Ok, Err}
+use Rattle.std.specs.Prelude.{ℕ, ◌-◌, ◌%◌, ◌==◌, nat_lt, Bool, true, false, List, [], ◌∷◌, ◌++◌, length, slice_set, if◌then◌else◌, Option, Some, None, is_some, Result, Ok, Err}
 use Rattle.std.specs.Option.{option_map_or}
 use Rattle.cell_base.specs.Lanes.{in_first_word}
 use Rattle.cell_base.specs.declared.steps.ChannelOp.{ChannelOp}
@@ -8,23 +8,23 @@ use Rattle.spu_exec.specs.Places.{next_pc}
 use Rattle.cell_channels.specs.declared.ways.Way.{Way}
 use Rattle.cell_channels.specs.declared.ways.Way.TheVariants.{Read as Reads, Write as Writes}
 use Rattle.cell_channels.specs.declared.channels.Counts.{Counts}
-use Rattle.cell_channels.specs.State.{opening_channels, count_of, with_param}
+use Rattle.cell_channels.specs.State.{count_of, with_param}
 use Rattle.cell_channels.specs.Table.{way_of}
 use Rattle.mfc_command.specs.declared.command.Command.{Command}
 use Rattle.mfc_command.specs.declared.command.Order.{Order}
 use Rattle.mfc_command.specs.declared.command.Order.TheVariants.{Queued, Atomic}
 use Rattle.mfc_command.specs.declared.command.DmaFault.{DmaFault as Fault}
 use Rattle.mfc_command.specs.declared.command.DmaFault.TheVariants.{Opcode}
-use Rattle.mfc_command.specs.Check.{checked}
+use Rattle.mfc_command.specs.Check.{checked, asked_of, is_line}
 use Rattle.tag_groups.specs.declared.TagStatus.{TagStatus}
 use Rattle.tag_groups.specs.Settle.{requested}
 use Rattle.cell_machine.specs.declared.status.Status.TheVariants.{BadChannel, DmaFault}
-use Rattle.cell_machine.specs.Spe.{Spe, Moves}
-use Rattle.cell_machine.specs.Moves.{outstanding}
+use Rattle.cell_machine.specs.Spe.{Spe, Moves, Stall}
+use Rattle.cell_machine.specs.Moves.{outstanding, stalls_of_tag}
 
--- the way of a channel that is there: 25 and 26 come with list commands, 27 with atomic ones
+-- the way of a channel that is there: 27 comes with atomic commands
 unfoldable pub listed : ℕ → Option Way
-listed ch = if ch == 25 || ch == 26 || ch == 27 then None else way_of ch
+listed ch = if ch == 27 then None else way_of ch
 
 abbrev pub is_read : Option Way → Bool
 is_read None = false
@@ -48,7 +48,7 @@ counts P = record {
 
 -- the count of a channel
 unfoldable pub count : Spe → ℕ → ℕ
-count P ch = option_map_or (λ n. n) (count_of opening_channels (counts P) ch) 0
+count P ch = option_map_or (λ n. n) (count_of P.channels (counts P) ch) 0
 
 -- P with its next instruction to come
 abbrev pub went_on : Spe → Spe
@@ -72,16 +72,18 @@ abbrev pub read_status : Spe → ℕ → Option TagStatus → Option Spe
 read_status P rt None = None
 read_status P rt (Some status) = Some (given (record P { tags = record P.tags { status = None } }) rt status.groups)
 
--- or the tag mask, which stays
-abbrev pub read_by : Spe → ℕ → ℕ → Option Spe
+-- or the stall status, whose bits are all cleared
+abbrev pub read_stalls : Spe → ℕ → Spe
+read_stalls P rt = given (record P { channels = record P.channels { stalls = 0 } }) rt P.channels.stalls
+
+-- or the tag mask, which stays; no other channel is read
+unfoldable pub read_by : Spe → ℕ → ℕ → Option Spe
 read_by P rt ch =
     if ch == 12 then Some (given P rt P.tags.mask)
     else if ch == 24 then read_status P rt P.tags.status
-    else read_inbound P rt P.inbound
-
--- PUT, PUTB, PUTF, GET, GETB, GETF and BARRIER
-unfoldable pub is_opcode : ℕ → Bool
-is_opcode op = op == 0x20 || op == 0x21 || op == 0x22 || op == 0x40 || op == 0x41 || op == 0x42 || op == 0xc0
+    else if ch == 25 then Some (read_stalls P rt)
+    else if ch == 29 then read_inbound P rt P.inbound
+    else None
 
 -- the PC stays at the instruction
 abbrev pub refused : Spe → Fault → Spe
@@ -90,24 +92,40 @@ refused P kind = record P { status = DmaFault kind }
 abbrev pub with_issued : Moves → Command → Moves
 with_issued m d = record m { issued = m.issued ++ d ∷ [] }
 
+-- a command goes into the queue; an atomic one can't be issued yet
 abbrev pub issued_by : Spe → Result Order Fault → Spe
 issued_by P (Ok (Queued d)) = went_on (record P { moves = with_issued P.moves d })
 issued_by P (Ok (Atomic a)) = refused P Opcode
 issued_by P (Err kind) = refused P kind
 
--- the command of the parameters is issued, with the opcode in the lower halfword, or is at fault
-unfoldable pub commanded : ℕ → Spe → ℕ → Spe
-commanded lines P op = if is_opcode (op % 65536) then issued_by P (checked P.params op lines) else refused P Opcode
+-- whether the opcode, which is the lower halfword, is that of an atomic command
+abbrev pub is_atomic : ℕ → Bool
+is_atomic op = is_line (asked_of (op % 65536))
 
--- a write issues a command, sets the tag mask, asks for a tag status, puts the value into a mailbox behind the others, or sets a parameter
+-- the command of the parameters is issued, or is at fault
+unfoldable pub commanded : ℕ → Spe → ℕ → Spe
+commanded lines P op = if is_atomic op then refused P Opcode else issued_by P (checked P.channels.params op lines)
+
+-- each stall of the tag is acknowledged; the stall status stays
+abbrev pub with_resumed : Moves → List Stall → Moves
+with_resumed m stalls = record m { resumed = m.resumed ++ stalls }
+
+unfoldable pub acknowledged : Spe → ℕ → Spe
+acknowledged P tag = record P { moves = with_resumed P.moves (stalls_of_tag P.moves tag) }
+
+abbrev pub parameterized : Spe → ℕ → ℕ → Spe
+parameterized P ch value = record P { channels = record P.channels { params = with_param P.channels.params ch value } }
+
+-- a write issues a command, sets the tag mask, asks for a tag status, acknowledges a stall, puts the value into a mailbox behind the others, or sets a parameter
 unfoldable pub written : ℕ → Spe → ℕ → ℕ → Spe
 written lines P ch value =
     if ch == 21 then commanded lines P value
     else if ch == 22 then went_on (record P { tags = record P.tags { mask = value } })
     else if ch == 23 then went_on (record P { tags = requested P.tags value })
+    else if ch == 26 then went_on (acknowledged P value)
     else if ch == 28 then went_on (record P { outbound = P.outbound ++ value ∷ [] })
     else if ch == 30 then went_on (record P { interrupt = P.interrupt ++ value ∷ [] })
-    else went_on (record P { params = with_param P.params ch value })
+    else went_on (parameterized P ch value)
 
 -- P after the operation, None where that isn't allowed: a read and a write are, where the channel's count is above 0;
 -- a channel that isn't there or goes the other way is a bad channel. The main memory has so many lines

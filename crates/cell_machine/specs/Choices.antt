@@ -6,7 +6,7 @@ use Rattle.cell_base.specs.declared.steps.Step.{Step}
 use Rattle.cell_base.specs.declared.steps.Step.TheVariants.{Exec, Piece, Elem, Retire, Atomic, Host}
 use Rattle.cell_machine.specs.Spe.{Spe}
 use Rattle.cell_machine.specs.Moves.{outstanding}
-use Rattle.cell_machine.specs.Transfers.{may_piece, may_retire}
+use Rattle.cell_machine.specs.Transfers.{may_piece, may_elem, may_retire}
 use Rattle.cell_machine.specs.State.{State}
 use Rattle.cell_machine.specs.Run.{steps_of_number, allowed}
 
@@ -15,7 +15,7 @@ abbrev pub may : Spe → Step → Bool
 may P (Piece p c e k) = may_piece P c e k
 may P (Retire p c) = may_retire P c
 may P (Exec p) = false
-may P (Elem p c) = false
+may P (Elem p c) = may_elem P c
 may P (Atomic p) = false
 may P Host = false
 

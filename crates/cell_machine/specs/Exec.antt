@@ -36,3 +36,11 @@ exec_instr lines P (Some i) = outcome lines P (meaning i P.pc P.registers P.stor
 -- P after its next instruction, None where that isn't allowed
 unfoldable pub exec : ℕ → Spe → Option Spe
 exec lines P = if is_running P.status then exec_instr lines P (instr_of (word_at P.store P.pc)) else None
+
+-- the channel operation that the next instruction of P asks for
+abbrev pub asked_by : Spe → Option Instr → Option ChannelOp
+asked_by P None = None
+asked_by P (Some i) = op_of (meaning i P.pc P.registers P.store).flow
+
+unfoldable pub asks : Spe → Option ChannelOp
+asks P = asked_by P (instr_of (word_at P.store P.pc))

@@ -1,6 +1,7 @@
 pub mod Spe
 pub mod State
 pub mod Moves
+pub mod MovesShown
 pub mod Kept
 pub mod Tags
 pub mod Channels
@@ -14,4 +15,5 @@ pub mod Limits
 pub mod Run
 pub mod Choices
 pub mod Order
+pub mod Lists
 pub mod Shows

@@ -1,5 +1,5 @@
 -- One step of the written machine.
-use Rattle.std.specs.Prelude.{ℕ, ◌/◌, [], ◌∷◌, ◌++◌, length, map, Option, slice_get}
+use Rattle.std.specs.Prelude.{ℕ, ◌/◌, List, [], ◌∷◌, ◌++◌, length, map, Option, None, slice_get}
 use Rattle.std.specs.Option.{option_and_then, option_map}
 use Rattle.cell_base.specs.declared.steps.Step.{Step}
 use Rattle.cell_base.specs.declared.steps.Step.TheVariants.{Exec, Piece, Elem, Retire, Atomic, Host}
@@ -11,24 +11,37 @@ use Rattle.cell_machine.specs.Transfers.{piece, elem, retire, Left}
 use Rattle.cell_machine.specs.Atomic.{atomic}
 use Rattle.cell_machine.specs.Hosts.{host}
 
-abbrev pub lines_of : State → ℕ
-lines_of M = length M.memory / 128
+-- how many lines a memory has
+abbrev pub lines_of : List ℕ → ℕ
+lines_of memory = length memory / 128
 
--- a step that changes processor p alone
-abbrev pub in_spe : State → ℕ → (Spe → Option Spe) → Option State
-in_spe M p f = option_and_then (λ P. option_map (with_spe M p) (f P)) (slice_get M.spes p)
+-- what a step that leaves the memory leaves
+abbrev pub left : List ℕ → Spe → Left
+left memory P = record { spe = P; memory = memory }
 
--- M with what a piece left of its processor p and of the memory
+-- what a step of a processor leaves: it looks at that processor and at the memory, and at nothing else
+abbrev pub own : List ℕ → Step → Spe → Option Left
+own memory (Exec p) P = option_map (left memory) (exec (lines_of memory) P)
+own memory (Piece p c e k) P = piece memory P c e k
+own memory (Elem p c) P = option_map (left memory) (elem (lines_of memory) P c)
+own memory (Retire p c) P = option_map (left memory) (retire P c)
+own memory (Atomic p) P = option_map (left memory) (atomic P)
+own memory Host P = None
+
+-- M with what a step left of its processor p and of the memory
 abbrev pub with_left : State → ℕ → Left → State
 with_left M p x = record (with_spe M p x.spe) { memory = x.memory }
 
+abbrev pub act_in : State → ℕ → Step → Option State
+act_in M p s = option_and_then (λ P. option_map (with_left M p) (own M.memory s P)) (slice_get M.spes p)
+
 -- what the step does, but for what each step does at its end
 abbrev pub act : State → Step → Option State
-act M (Exec p) = in_spe M p (exec (lines_of M))
-act M (Piece p c e k) = option_and_then (λ P. option_map (with_left M p) (piece M.memory P c e k)) (slice_get M.spes p)
-act M (Elem p c) = in_spe M p (λ P. elem P c)
-act M (Retire p c) = in_spe M p (λ P. retire P c)
-act M (Atomic p) = in_spe M p atomic
+act M (Exec p) = act_in M p (Exec p)
+act M (Piece p c e k) = act_in M p (Piece p c e k)
+act M (Elem p c) = act_in M p (Elem p c)
+act M (Retire p c) = act_in M p (Retire p c)
+act M (Atomic p) = act_in M p (Atomic p)
 act M Host = host M
 
 -- at the end of each step the processors are settled, and the record grows

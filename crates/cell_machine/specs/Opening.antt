@@ -7,7 +7,7 @@ use Rattle.cell_host.specs.declared.HostAction.{HostAction}
 use Rattle.cell_host.specs.Script.{opening as opening_host}
 use Rattle.cell_machine.specs.declared.status.Status.TheVariants.{Running}
 use Rattle.cell_machine.specs.declared.setup.Show.{Show}
-use Rattle.mfc_command.specs.declared.command.Params.{Params}
+use Rattle.cell_channels.specs.State.{opening_channels}
 use Rattle.tag_groups.specs.Settle.{opening_tags}
 use Rattle.cell_machine.specs.Spe.{Spe, Moves}
 use Rattle.cell_machine.specs.State.{State}
@@ -39,11 +39,8 @@ placed_in store p pieces = fold (λ bytes x. put bytes x.at x.bytes) store (filt
 abbrev pub opening_store : Opening → ℕ → List ℕ
 opening_store S p = placed_in (zeros 262144) p S.placed
 
-abbrev pub no_params : Params
-no_params = record { lsa = 0; eah = 0; eal = 0; size = 0; tag = 0 }
-
 abbrev pub no_moves : Moves
-no_moves = record { issued = []; done = []; retired = [] }
+no_moves = record { issued = []; read = []; done = []; retired = []; resumed = [] }
 
 -- a processor at its start: its number and its entry
 abbrev pub opening_spe : Opening → ℕ × ℕ → Spe
@@ -55,7 +52,7 @@ opening_spe S x = record {
   inbound = [];
   outbound = [];
   interrupt = [];
-  params = no_params;
+  channels = opening_channels;
   tags = opening_tags;
   moves = no_moves;
 }

@@ -5,13 +5,14 @@ use Rattle.std.specs.Option.{option_and_then, option_map_or}
 use Rattle.cell_base.specs.declared.steps.Actor.{Actor}
 use Rattle.cell_base.specs.declared.steps.Actor.TheVariants.{Spu, Mfc, Host as TheHost}
 use Rattle.cell_base.specs.declared.steps.Step.{Step}
-use Rattle.cell_base.specs.declared.steps.Step.TheVariants.{Exec, Piece, Retire, Atomic, Host}
+use Rattle.cell_base.specs.declared.steps.Step.TheVariants.{Exec, Piece, Elem, Retire, Atomic, Host}
 use Rattle.cell_machine.specs.declared.status.End.{End}
 use Rattle.cell_machine.specs.declared.status.End.TheVariants.{AllStopped, Stuck, Budget}
-use Rattle.cell_machine.specs.Spe.{Spe, is_running}
+use Rattle.cell_machine.specs.Spe.{Spe, ElementRead, is_running}
 use Rattle.cell_machine.specs.State.{State}
 use Rattle.mfc_command.specs.declared.command.Command.{Command}
-use Rattle.cell_machine.specs.Moves.{outstanding, pieces_of}
+use Rattle.mfc_lists.specs.declared.Element.{Element}
+use Rattle.cell_machine.specs.Moves.{outstanding, present, parts_in}
 use Rattle.cell_machine.specs.Next.{next}
 use Rattle.cell_machine.specs.Opening.{Opening, opening}
 
@@ -40,12 +41,16 @@ spe_of m p = option_and_then (λ M. slice_get M.spes p) (state_of m)
 abbrev pub next_of : Ran → Step → Option State
 next_of m s = if nat_lt (length m.steps) m.setup.budget then option_and_then (λ M. next M s) (state_of m) else None
 
--- the steps that command c of processor p, which is d, can come to make, in order
-abbrev pub steps_of_command : ℕ → ℕ → Command → List Step
-steps_of_command p c d = Retire p c ∷ map (Piece p c 0) (range_with_len 0 (pieces_of d))
+-- the pieces of an element, in the order of its parts
+abbrev pub pieces_of : ℕ → ℕ → Element → List Step
+pieces_of p c x = map (Piece p c x.number) (range_with_len 0 (parts_in x))
+
+-- the steps that command c of processor p, which is d, can come to make now, in order
+abbrev pub steps_of_command : ℕ → List ElementRead → ℕ → Command → List Step
+steps_of_command p read c d = Elem p c ∷ Retire p c ∷ option_map_or (pieces_of p c) (present read c d) []
 
 abbrev pub steps_of_number : ℕ → Spe → ℕ → List Step
-steps_of_number p P c = option_map_or (steps_of_command p c) (slice_get P.moves.issued c) []
+steps_of_number p P c = option_map_or (steps_of_command p P.moves.read c) (slice_get P.moves.issued c) []
 
 -- the steps that a processor's flow controller can come to make, in order: its atomic command, and then its outstanding ones
 abbrev pub steps_of_mfc : ℕ → Spe → List Step

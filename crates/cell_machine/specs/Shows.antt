@@ -1,16 +1,12 @@
 -- What the code's parts stand for.
-use Rattle.std.specs.Prelude.{◌≡◌, ℕ, ◌*◌, ◌≤◌, false, ◌==◌, map, List, [], ◌∷◌, length, Option, Some, None, All, slice_get}
+use Rattle.std.specs.Prelude.{◌≡◌, ℕ, ◌*◌, ◌≤◌, map, List, [], ◌∷◌, length, Option, Some, None, All, slice_get}
 use Rattle.cell_base.specs.declared.steps.Step.{Step}
 use Rattle.cell_machine.specs.declared.processor.Processor.{Processor}
-use Rattle.std.specs.List.{list_any}
-use Rattle.mfc_command.specs.declared.command.Command.{Command}
-use Rattle.mfc_queue.specs.declared.Queue.{Queue}
-use Rattle.mfc_queue.specs.Calls.{Call, issued, is_retired, parts, is_marked}
-use Rattle.mfc_queue.specs.Stands.{StandsFor}
-use Rattle.cell_machine.specs.Spe.{Spe, Moves}
-use Rattle.cell_machine.specs.Moves.{is_done, is_complete, pieces_of}
+use Rattle.mfc_lists.specs.Elements.{ElementFits}
+use Rattle.cell_machine.specs.Spe.{Spe}
+use Rattle.cell_machine.specs.MovesShown.{ShowsQueue}
 use Rattle.cell_machine.specs.Tags.{settled}
-use Rattle.cell_machine.specs.Kept.{MovesFit, CanStep}
+use Rattle.cell_machine.specs.Kept.{MovesFit}
 use Rattle.cell_machine.specs.State.{State}
 use Rattle.cell_machine.specs.Opening.{Opening, opening}
 use Rattle.cell_machine.specs.Limits.{FitsAction}
@@ -19,24 +15,6 @@ use Rattle.cell_host.specs.Script.{Progress}
 use Rattle.cell_host.specs.declared.HostAction.{HostAction}
 use Rattle.cell_machine.specs.declared.hosts.Taken.{Taken}
 use Rattle.cell_machine.specs.Hosts.{Given, Acted}
-
--- nothing was done of a command of this number
-pub record IsUntouched (m : Moves) (c : ℕ) : Type 0 where
-  pub done : (k : ℕ) → is_done m c k ≡ false
-  pub retired : list_any (λ r. r == c) m.retired ≡ false
-
--- the calls made on a queue are what was issued and done
-pub record ShowsMoves (calls : List Call) (m : Moves) : Type 0 where
-  pub issued : issued calls ≡ m.issued
-  pub complete : is_retired calls ≡ is_complete m
-  pub parts : (c : ℕ) (d : Command) → slice_get m.issued c ≡ Some d → parts calls c ≡ pieces_of d
-  pub marked : (c k : ℕ) → is_marked calls c k ≡ is_done m c k
-  pub fresh : (c : ℕ) → length m.issued ≤ c → IsUntouched m c
-
-pub record ShowsQueue (q : Queue) (m : Moves) : Type 0 where
-  pub calls : List Call
-  pub stands : StandsFor q calls
-  pub moves : ShowsMoves calls m
 
 -- the processor is what the written machine has
 pub record ShowsSpe (c : Processor) (P : Spe) : Type 0 where
@@ -47,14 +25,15 @@ pub record ShowsSpe (c : Processor) (P : Spe) : Type 0 where
   pub inbound : P.inbound ≡ c.inbound
   pub outbound : P.outbound ≡ c.outbound
   pub interrupt : P.interrupt ≡ c.interrupt
-  pub params : P.params ≡ c.channels.params
+  pub channels : P.channels ≡ c.channels
   pub tags : P.tags ≡ c.tags
-  pub queue : ShowsQueue c.queue P.moves
+  pub queue : ShowsQueue c.queue c.lists P.moves
 
 -- what is behind its channels is
 pub record ShowsChannels (c : Processor) (P : Spe) : Type 0 where
+  pub channels : P.channels ≡ c.channels
   pub tags : P.tags ≡ c.tags
-  pub queue : ShowsQueue c.queue P.moves
+  pub queue : ShowsQueue c.queue c.lists P.moves
   pub inbound : P.inbound ≡ c.inbound
   pub outbound : P.outbound ≡ c.outbound
   pub interrupt : P.interrupt ≡ c.interrupt
@@ -102,19 +81,26 @@ pub record IsFit (spes : ℕ) (memory : List ℕ) (host : Progress) : Type 0 whe
 abbrev pub AreSettled : List Spe → Type 0
 AreSettled spes = map settled spes ≡ spes
 
--- at most n commands were issued, and they fit so many lines of memory
+-- at most n commands were issued, and they and their elements fit so many lines of memory
 pub record IsBounded (lines n : ℕ) (P : Spe) : Type 0 where
   pub few : length P.moves.issued ≤ n
   pub fits : MovesFit lines P.moves.issued
+  pub elements : All (λ r. ElementFits lines r.element) P.moves.read
 
 abbrev pub AreBounded : ℕ → ℕ → List Spe → Type 0
 AreBounded lines n spes = (p : ℕ) (P : Spe) → slice_get spes p ≡ Some P → IsBounded lines n P
+
+-- it is some processor of the written machine, by which one more command may be issued, and what was issued and read fits
+pub record CanStep (lines : ℕ) (c : Processor) : Type 0 where
+  pub spe : Spe
+  pub shows : ShowsSpe c spe
+  pub bounded : IsBounded lines 999999 spe
 
 -- each processor can make a step, and the memory has some lines
 pub record CanGo (processors : List Processor) (memory : List ℕ) : Type 0 where
   pub lines : ℕ
   pub long : length memory ≡ 128 * lines
-  pub each : All (λ c. CanStep lines c.queue) processors
+  pub each : All (CanStep lines) processors
 
 -- the processors, the memory and the host stand for the replay of the steps from the setup, and the record has room for a run
 pub record IsMachine (setup : Opening) (steps : List Step) (capacity : ℕ) (processors : List Processor) (memory : List ℕ) (host : Progress) : Type 0 where

@@ -1,22 +1,44 @@
--- The steps of queued commands: pieces and retirements. No list command can be issued, so no element is read.
-use Rattle.std.specs.Prelude.{ℕ, ◌+◌, Bool, true, false, not, ◌&&◌, ◌==◌, nat_lt, if◌then◌else◌, List, [], ◌∷◌, ◌++◌, Option, Some, None, slice_get, slice_range}
-use Rattle.std.specs.List.{list_any}
-use Rattle.std.specs.Option.{option_map, option_map_or}
+-- The steps of queued commands: pieces, the reading of list elements, and retirements.
+use Rattle.std.specs.Prelude.{ℕ, ◌+◌, ◌*◌, ◌^◌, Bool, true, false, not, ◌&&◌, ◌==◌, nat_lt, bit_or, if◌then◌else◌, List, [], ◌∷◌, ◌++◌, length, Option, Some, None, Result, Ok, Err, slice_get, slice_range}
+use Rattle.std.specs.Option.{option_map, option_map_or, option_and_then}
 use Rattle.cell_base.specs.Bytes.{put}
+use Rattle.local_store.specs.Store.{word_at}
+use Rattle.mfc_command.specs.declared.command.Command.{Command}
+use Rattle.mfc_command.specs.declared.command.DmaFault.{DmaFault as Fault}
 use Rattle.mfc_command.specs.declared.command.Kind.{Kind}
 use Rattle.mfc_command.specs.declared.command.Kind.TheVariants.{Put, Get, PutList, GetList, Barrier}
 use Rattle.mfc_command.specs.declared.range.Part.{Part}
+use Rattle.mfc_command.specs.Order.{is_list}
 use Rattle.mfc_command.specs.Parts.{part_of}
-use Rattle.cell_machine.specs.Spe.{Spe, Moves, is_faulted}
-use Rattle.cell_machine.specs.Moves.{is_done, has_pieces, pieces_of, may_begin}
+use Rattle.mfc_lists.specs.declared.Element.{Element}
+use Rattle.mfc_lists.specs.Elements.{element_of}
+use Rattle.cell_machine.specs.declared.status.Status.TheVariants.{DmaFault}
+use Rattle.cell_machine.specs.Spe.{Spe, Moves, PartDone, is_faulted}
+use Rattle.cell_machine.specs.Moves.{is_moved, read_of, present, parts_in, is_done, is_stalled, is_at_rest, are_all_there, was_retired, may_begin}
 
--- whether k is one of the parts of command c, and isn't done
-unfoldable pub has_part : Moves → ℕ → ℕ → Bool
-has_part m c k = option_map_or (λ d. nat_lt k (pieces_of d) && not (is_done m c k)) (slice_get m.issued c) false
+-- whether the flow controller of P makes steps of command c, by what it is
+abbrev pub may_of : Spe → ℕ → (Command → Bool) → Bool
+may_of P c f = not (is_faulted P.status) && option_map_or f (slice_get P.moves.issued c) false && may_begin P.moves c
 
--- a command that isn't a list has the one element 0
+-- a flagged element that is finished sets the bit of its tag in the stall status
+abbrev pub notified : Spe → ℕ → Command → Spe
+notified P c d =
+    if is_stalled P.moves c d
+    then record P { channels = record P.channels { stalls = bit_or P.channels.stalls (2 ^ d.tag) } }
+    else P
+
+-- ---- pieces
+
+-- whether k is one of the parts of element x, whose number is e, and isn't done
+abbrev pub is_part_left : List PartDone → ℕ → ℕ → ℕ → Element → Bool
+is_part_left done c e k x = x.number == e && nat_lt k (parts_in x) && not (is_done done c e k)
+
+-- a piece is of the present element
+abbrev pub has_part : Moves → ℕ → ℕ → ℕ → Command → Bool
+has_part m c e k d = is_moved d && option_map_or (is_part_left m.done c e k) (present m.read c d) false
+
 unfoldable pub may_piece : Spe → ℕ → ℕ → ℕ → Bool
-may_piece P c e k = not (is_faulted P.status) && e == 0 && has_part P.moves c k && may_begin P.moves c
+may_piece P c e k = may_of P c (has_part P.moves c e k)
 
 abbrev pub is_put : Kind → Bool
 is_put Put = true
@@ -25,7 +47,7 @@ is_put PutList = true
 is_put GetList = false
 is_put Barrier = false
 
--- what a piece leaves: the processor, and the main memory
+-- what a step leaves: the processor, and the main memory
 pub record Left : Type 0 where
   pub spe : Spe
   pub memory : List ℕ
@@ -37,26 +59,67 @@ copied memory P put_it x =
     then record { spe = P; memory = put memory x.ea (slice_range P.store x.ls (x.ls + x.len)) }
     else record { spe = record P { store = put P.store x.ls (slice_range memory x.ea (x.ea + x.len)) }; memory = memory }
 
-abbrev pub with_done : Moves → ℕ → ℕ → Moves
-with_done m c k = record m { done = m.done ++ record { cmd = c; part = k } ∷ [] }
+abbrev pub with_done : Moves → ℕ → ℕ → ℕ → Moves
+with_done m c e k = record m { done = m.done ++ record { cmd = c; elem = e; part = k } ∷ [] }
+
+-- P with part k of element e of command c, which is d, done
+abbrev pub after_part : Spe → ℕ → ℕ → ℕ → Command → Spe
+after_part P c e k d = notified (record P { moves = with_done P.moves c e k }) c d
+
+-- part k of an element
+abbrev pub part_in : Element → ℕ → Part
+part_in x k = part_of x.ls x.ea x.size k
+
+abbrev pub piece_of : List ℕ → Spe → ℕ → ℕ → Command → Element → Left
+piece_of memory P c k d x = copied memory (after_part P c x.number k d) (is_put d.kind) (part_in x k)
 
 -- what is left after part k of element e of command c
 unfoldable pub piece : List ℕ → Spe → ℕ → ℕ → ℕ → Option Left
 piece memory P c e k =
     if may_piece P c e k
-    then option_map (λ d. copied memory (record P { moves = with_done P.moves c k }) (is_put d.kind) (part_of d.ls d.ea d.size k)) (slice_get P.moves.issued c)
+    then option_and_then (λ d. option_map (piece_of memory P c k d) (present P.moves.read c d)) (slice_get P.moves.issued c)
     else None
 
--- P after the next element of command c was read
-unfoldable pub elem : Spe → ℕ → Option Spe
-elem P c = None
+-- ---- elements
 
--- whether command c is one that is retired, and wasn't
-unfoldable pub is_left : Moves → ℕ → Bool
-is_left m c = option_map_or (λ d. not (has_pieces d) && not (list_any (λ r. r == c) m.retired)) (slice_get m.issued c) false
+-- whether command c, which is d, has an element left, each that was read is finished, and the command isn't stalled
+abbrev pub has_element : Moves → ℕ → Command → Bool
+has_element m c d = is_list d.kind && not (are_all_there m.read c d) && is_at_rest m c d
+
+unfoldable pub may_elem : Spe → ℕ → Bool
+may_elem P c = may_of P c (has_element P.moves c)
+
+-- the address of the next element of command c, which is d
+abbrev pub next_at : Moves → ℕ → Command → ℕ
+next_at m c d = d.ea + 8 * length (read_of m.read c)
+
+-- what stands there now
+abbrev pub next_element : ℕ → Spe → ℕ → Command → Result Element Fault
+next_element lines P c d =
+    let at = next_at P.moves c d in
+    element_of d.ls (read_of P.moves.read c) lines (word_at P.store at) (word_at P.store (at + 4))
+
+abbrev pub with_read : Moves → ℕ → Element → Moves
+with_read m c x = record m { read = m.read ++ record { cmd = c; element = x } ∷ [] }
+
+-- the element is read, or its fault takes the place of any status
+abbrev pub after_element : Spe → ℕ → Command → Result Element Fault → Spe
+after_element P c d (Ok x) = notified (record P { moves = with_read P.moves c x }) c d
+after_element P c d (Err kind) = record P { status = DmaFault kind }
+
+-- P after the next element of command c was read; the main memory has so many lines
+unfoldable pub elem : ℕ → Spe → ℕ → Option Spe
+elem lines P c =
+    if may_elem P c then option_map (λ d. after_element P c d (next_element lines P c d)) (slice_get P.moves.issued c) else None
+
+-- ---- retirements
+
+-- whether command c, which is d, is one that is retired, and wasn't
+abbrev pub is_left : Moves → ℕ → Command → Bool
+is_left m c d = not (is_moved d) && not (was_retired m.retired c)
 
 unfoldable pub may_retire : Spe → ℕ → Bool
-may_retire P c = not (is_faulted P.status) && is_left P.moves c && may_begin P.moves c
+may_retire P c = may_of P c (is_left P.moves c)
 
 abbrev pub with_retired : Moves → ℕ → Moves
 with_retired m c = record m { retired = m.retired ++ c ∷ [] }
