@@ -152,6 +152,13 @@ impl Channels {
         self.stalls |= 1 << tag;
     }
 
+    /// Whether a bit of the stall status is set.
+    pub fn has_stall(&self) -> bool
+        ensures { result ≡ not (self.now.stalls == 0) }
+    {
+        self.stalls != 0
+    }
+
     /// Takes all bits of the stall status. NotReady comes exactly where no bit is set.
     pub fn read_stall(&mut self) -> Result<u32, NotReady>
         ensures ready { is_ok result ≡ not (self.old.stalls == 0) }

@@ -1,10 +1,17 @@
 -- What the code's parts stand for.
-use Rattle.std.specs.Prelude.{◌≡◌, ℕ, ◌*◌, ◌≤◌, map, List, [], ◌∷◌, length, Option, Some, None, All, slice_get}
+use Rattle.std.specs.Prelude.{◌≡◌, ℕ, ◌*◌, ◌≤◌, true, false, IsSomeAnd, map, List, [], ◌∷◌, length, Option, Some, None, All, slice_get}
 use Rattle.cell_base.specs.declared.steps.Step.{Step}
+use Rattle.cell_machine.specs.declared.commands.Commands.{Commands}
 use Rattle.cell_machine.specs.declared.processor.Processor.{Processor}
+use Rattle.mfc_command.specs.declared.command.Command.{Command}
+use Rattle.mfc_command.specs.Order.{is_list}
+use Rattle.mfc_lists.specs.declared.Element.{Element}
+use Rattle.mfc_lists.specs.declared.ListState.{ListState}
 use Rattle.mfc_lists.specs.Elements.{ElementFits}
-use Rattle.cell_machine.specs.Spe.{Spe}
-use Rattle.cell_machine.specs.MovesShown.{ShowsQueue}
+use Rattle.mfc_lists.specs.Readings.{StandsFor as StandsForReading, with_element}
+use Rattle.cell_machine.specs.Spe.{Spe, Moves}
+use Rattle.cell_machine.specs.Transfers.{has_part, has_element}
+use Rattle.cell_machine.specs.MovesShown.{ShowsQueue, reading}
 use Rattle.cell_machine.specs.Tags.{settled}
 use Rattle.cell_machine.specs.Kept.{MovesFit}
 use Rattle.cell_machine.specs.State.{State}
@@ -15,6 +22,32 @@ use Rattle.cell_host.specs.Script.{Progress}
 use Rattle.cell_host.specs.declared.HostAction.{HostAction}
 use Rattle.cell_machine.specs.declared.hosts.Taken.{Taken}
 use Rattle.cell_machine.specs.Hosts.{Given, Acted}
+
+-- the queue and the states of lists are what the written machine has of its commands
+abbrev pub ShowsCommands : Commands → Moves → Type 0
+ShowsCommands c m = ShowsQueue c.queue c.lists m
+
+-- how far command c, which is d, has come, if it is a list
+abbrev pub IsListOf : Option ListState → Moves → ℕ → Command → Type 0
+IsListOf o m c d = (is_list d.kind ≡ true → IsSomeAnd o (λ s. StandsForReading s (reading m c d))) × (is_list d.kind ≡ false → o ≡ None)
+
+-- part k of command c may be marked
+pub record CanMark (commands : Commands) (c k : ℕ) : Type 0 where
+  pub moves : Moves
+  pub command : Command
+  pub elem : ℕ
+  pub shows : ShowsCommands commands moves
+  pub at : slice_get moves.issued c ≡ Some command
+  pub has : has_part moves c elem k command ≡ true
+
+-- the element x of command c was read into this state of it
+pub record HasRead (commands : Commands) (c : ℕ) (state : ListState) (x : Element) : Type 0 where
+  pub moves : Moves
+  pub command : Command
+  pub shows : ShowsCommands commands moves
+  pub at : slice_get moves.issued c ≡ Some command
+  pub has : has_element moves c command ≡ true
+  pub stands : StandsForReading state (with_element (reading moves c command) x)
 
 -- the processor is what the written machine has
 pub record ShowsSpe (c : Processor) (P : Spe) : Type 0 where
@@ -27,13 +60,13 @@ pub record ShowsSpe (c : Processor) (P : Spe) : Type 0 where
   pub interrupt : P.interrupt ≡ c.interrupt
   pub channels : P.channels ≡ c.channels
   pub tags : P.tags ≡ c.tags
-  pub queue : ShowsQueue c.queue c.lists P.moves
+  pub queue : ShowsCommands c.commands P.moves
 
 -- what is behind its channels is
 pub record ShowsChannels (c : Processor) (P : Spe) : Type 0 where
   pub channels : P.channels ≡ c.channels
   pub tags : P.tags ≡ c.tags
-  pub queue : ShowsQueue c.queue c.lists P.moves
+  pub queue : ShowsCommands c.commands P.moves
   pub inbound : P.inbound ≡ c.inbound
   pub outbound : P.outbound ≡ c.outbound
   pub interrupt : P.interrupt ≡ c.interrupt

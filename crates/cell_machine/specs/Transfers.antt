@@ -16,16 +16,21 @@ use Rattle.cell_machine.specs.declared.status.Status.TheVariants.{DmaFault}
 use Rattle.cell_machine.specs.Spe.{Spe, Moves, PartDone, is_faulted}
 use Rattle.cell_machine.specs.Moves.{is_moved, read_of, present, parts_in, is_done, is_stalled, is_at_rest, are_all_there, was_retired, may_begin}
 
--- whether the flow controller of P makes steps of command c, by what it is
-abbrev pub may_of : Spe → ℕ → (Command → Bool) → Bool
-may_of P c f = not (is_faulted P.status) && option_map_or f (slice_get P.moves.issued c) false && may_begin P.moves c
+-- whether command c, which passes a test, may begin
+abbrev pub begins : Moves → ℕ → (Command → Bool) → Bool
+begins m c f = option_map_or f (slice_get m.issued c) false && may_begin m c
 
--- a flagged element that is finished sets the bit of its tag in the stall status
+-- whether the flow controller of P makes steps of it
+abbrev pub may_of : Spe → ℕ → (Command → Bool) → Bool
+may_of P c f = not (is_faulted P.status) && begins P.moves c f
+
+-- the bit of a tag is set in the stall status
+abbrev pub told : Spe → ℕ → Spe
+told P tag = record P { channels = record P.channels { stalls = bit_or P.channels.stalls (2 ^ tag) } }
+
+-- a flagged element that is finished sets the bit of its tag
 abbrev pub notified : Spe → ℕ → Command → Spe
-notified P c d =
-    if is_stalled P.moves c d
-    then record P { channels = record P.channels { stalls = bit_or P.channels.stalls (2 ^ d.tag) } }
-    else P
+notified P c d = if is_stalled P.moves c d then told P d.tag else P
 
 -- ---- pieces
 

@@ -1,29 +1,25 @@
 //! The channel instructions of a processor.
 
-ghost use Rattle.std.specs.Prelude.{◌≡◌, ◌≢◌, ◌<◌, ◌≤◌, ◌+◌, ℕ, List, [], ◌∷◌, length, is_some, true, None, Some, IsSomeAnd, MatchBool, nat_le, ◌&&◌};
+ghost use Rattle.std.specs.Prelude.{◌≡◌, ◌≢◌, ◌==◌, false, ◌<◌, ◌≤◌, ◌+◌, ℕ, List, [], ◌∷◌, length, is_some, true, None, Some, IsSomeAnd, MatchBool, nat_le, ◌&&◌};
 ghost use Rattle.std.specs.Bool.{OnFalse};
 ghost use Rattle.spu_decode.specs.Spelling.{FieldsFit};
 ghost use Rattle.spu_exec.specs.Meaning.{meaning};
 ghost use Rattle.spu_exec.specs.Places.{RegisterFits};
 ghost use Rattle.cell_machine.specs.Spe.{Spe};
-ghost use Rattle.mfc_command.specs.Check.{OrderFits};
-ghost use Rattle.mfc_command.specs.declared.command.Order.TheVariants.{Queued};
 ghost use Rattle.mfc_queue.specs.Calls.{Call, outstanding};
 ghost use Rattle.mfc_queue.specs.Stands.{StandsFor, HasNumber};
-ghost use Rattle.cell_machine.specs.Moves.{has_pieces, pieces_of};
-ghost use Rattle.mfc_command.specs.declared.command.Command.{Command};
-ghost use Rattle.cell_machine.specs.Channels.{channel, listed, count, given, went_on, bad_channel, read_inbound, read_status, is_opcode, commanded, with_issued};
+ghost use Rattle.cell_machine.specs.Channels.{channel, listed, count, given, went_on, bad_channel, read_inbound, read_status, read_stalls, acknowledged, commanded};
 ghost use Rattle.cell_machine.specs.Exec.{op_of};
 
 use crate::processor::Processor;
 use crate::status::Status;
 use cell_base::{ChannelOp, Quad};
 use cell_channels::{
-    Channels, Counts, MFC_CMD, MFC_LSA, MFC_RD_ATOMIC_STAT, MFC_RD_LIST_STALL_STAT,
-    MFC_RD_TAG_MASK, MFC_RD_TAG_STAT, MFC_TAG_ID, MFC_WR_LIST_STALL_ACK, MFC_WR_TAG_MASK,
-    MFC_WR_TAG_UPDATE, SPU_RD_IN_MBOX, SPU_WR_OUT_INTR_MBOX, SPU_WR_OUT_MBOX, Way, way,
+    Counts, MFC_CMD, MFC_LSA, MFC_RD_ATOMIC_STAT, MFC_RD_LIST_STALL_STAT, MFC_RD_TAG_MASK,
+    MFC_RD_TAG_STAT, MFC_TAG_ID, MFC_WR_LIST_STALL_ACK, MFC_WR_TAG_MASK, MFC_WR_TAG_UPDATE,
+    SPU_RD_IN_MBOX, SPU_WR_OUT_INTR_MBOX, SPU_WR_OUT_MBOX, Way, way,
 };
-use mfc_command::{Command, DmaFault, Kind, Order, check, parts};
+use mfc_command::{DmaFault, Order, check, is_atomic};
 use spu_decode::{Instr, Row};
 use spu_exec::next_pc;
 use spu_regs::Regs;
@@ -54,8 +50,6 @@ fn listed(ch: u8) -> Option<Way>
     ensures { result ≡ listed ch }
 {
     match ch {
-        MFC_RD_LIST_STALL_STAT => None,
-        MFC_WR_LIST_STALL_ACK => None,
         MFC_RD_ATOMIC_STAT => None,
         _ => way(ch),
     }
@@ -68,42 +62,6 @@ fn is_param(ch: u8) -> bool
     ch >= MFC_LSA && ch <= MFC_TAG_ID
 }
 
-/// Whether an opcode is that of PUT, PUTB, PUTF, GET, GETB, GETF or BARRIER.
-#[tactic(auto, unfolding(crate::specs::Channels::is_opcode))]
-fn is_opcode(opcode: u32) -> bool
-    ensures { result ≡ is_opcode opcode }
-{
-    matches!(opcode, 0x20 | 0x21 | 0x22 | 0x40 | 0x41 | 0x42 | 0xc0)
-}
-
-/// Whether a command is moved in pieces.
-fn has_pieces(command: &Command) -> bool
-    ensures { result ≡ has_pieces command.now }
-{
-    match command.kind {
-        Kind::Put => command.size != 0,
-        Kind::Get => command.size != 0,
-        Kind::PutList => false,
-        Kind::GetList => false,
-        Kind::Barrier => false,
-    }
-}
-
-/// How many pieces a command is moved in.
-#[tactic(auto, unfolding(crate::specs::Moves::pieces_of))]
-fn pieces_of(command: &Command) -> u32
-    requires few { command.now.size ≤ 16384 }
-    requires fits { command.now.ea + command.now.size < 4294967296 }
-    ensures count { result ≡ pieces_of command.now }
-    ensures few { result ≤ 129 }
-{
-    if has_pieces(command) {
-        parts(command.ea, command.size)
-    } else {
-        0
-    }
-}
-
 impl Processor {
     ghost use Rattle.cell_machine.specs.Shows.{ShowsSpe, ShowsChannels};
 
@@ -112,13 +70,13 @@ impl Processor {
         ensures { (P : Spe) → ShowsSpe self.now P → is_some (listed ch) ≡ true → result ≡ count P ch }
     {
         let counts = Counts {
-            free: self.queue.free(),
+            free: self.commands.queue.free(),
             tags: self.tags.ready(),
             inbound: self.inbound.len(),
             outbound: OUTBOUND_PLACES - self.outbound.len(),
             intr: OUTBOUND_PLACES - self.interrupt.len(),
         };
-        match Channels::new().count(ch, counts) {
+        match self.channels.count(ch, counts) {
             Ok(count) => count,
             Err(_) => 0,
         }
@@ -153,6 +111,7 @@ impl Processor {
                 true
             }
             MFC_RD_TAG_STAT => self.read_status(rt),
+            MFC_RD_LIST_STALL_STAT => self.read_stalls(rt),
             SPU_RD_IN_MBOX => self.read_inbound(rt),
             _ => {
                 self.status = Status::BadChannel;
@@ -173,6 +132,24 @@ impl Processor {
         match self.tags.read() {
             Ok(status) => {
                 self.give(rt, status.groups);
+                true
+            }
+            Err(_) => unreachable!(),
+        }
+    }
+
+    /// Reads the stall status and clears it, if it has a bit.
+    fn read_stalls(&mut self, rt: u8) -> bool
+        requires { rt < 128 }
+        ensures made { (P : Spe) → ShowsSpe self.old P → MatchBool result (((P.channels.stalls == 0) ≡ false) × ShowsSpe self.new (read_stalls P rt)) ((P.channels.stalls == 0) ≡ true) }
+        ensures refused { OnFalse result (self.new ≡ self.old) }
+    {
+        if !self.channels.has_stall() {
+            return false;
+        }
+        match self.channels.read_stall() {
+            Ok(bits) => {
+                self.give(rt, bits);
                 true
             }
             Err(_) => unreachable!(),
@@ -208,7 +185,7 @@ impl Processor {
 
     /// Writes a value to a channel, and says whether that was allowed.
     fn write_channel(&mut self, lines: u32, ch: u8, value: u32) -> bool
-        requires number { HasNumber self.old.queue }
+        requires number { HasNumber self.old.commands.queue }
         requires lines { lines ≤ 524288 }
         ensures made { (P : Spe) → ShowsSpe self.old P → MatchBool result (IsSomeAnd (channel lines P (ChannelOp.Write ch value)) (ShowsSpe self.new)) (channel lines P (ChannelOp.Write ch value) ≡ None) }
         ensures refused { OnFalse result (self.new ≡ self.old) }
@@ -225,6 +202,11 @@ impl Processor {
                 self.go_on();
                 true
             }
+            MFC_WR_LIST_STALL_ACK => {
+                self.acknowledge(value);
+                self.go_on();
+                true
+            }
             SPU_WR_OUT_MBOX => self.put_outbound(value),
             SPU_WR_OUT_INTR_MBOX => self.put_interrupt(value),
             _ => {
@@ -234,9 +216,17 @@ impl Processor {
         }
     }
 
+    /// Lets all lists of a tag that stall go on.
+    fn acknowledge(&mut self, tag: u32)
+        requires { HasNumber self.old.commands.queue }
+        ensures { (P : Spe) → ShowsSpe self.old P → ShowsSpe self.new (acknowledged P tag) }
+    {
+        self.commands.acknowledge(tag);
+    }
+
     /// Sets a parameter of the next command, where the channel holds one.
     fn write_param(&mut self, ch: u8, value: u32)
-        requires other { (ch ≢ 21) × (ch ≢ 22) × (ch ≢ 23) × (ch ≢ 28) × (ch ≢ 30) }
+        requires other { (ch ≢ 21) × (ch ≢ 22) × (ch ≢ 23) × (ch ≢ 26) × (ch ≢ 28) × (ch ≢ 30) }
         ensures { (lines : ℕ) (P : Spe) → ShowsSpe self.old P → IsSomeAnd (channel lines P (ChannelOp.Write ch value)) (ShowsSpe self.new) }
     {
         if !is_param(ch) {
@@ -249,12 +239,12 @@ impl Processor {
 
     /// Asks for a command, if the queue has a free place.
     fn write_command(&mut self, lines: u32, op: u32) -> bool
-        requires number { HasNumber self.old.queue }
+        requires number { HasNumber self.old.commands.queue }
         requires lines { lines ≤ 524288 }
         ensures made { (P : Spe) → ShowsSpe self.old P → MatchBool result (IsSomeAnd (channel lines P (ChannelOp.Write 21 op)) (ShowsSpe self.new)) (channel lines P (ChannelOp.Write 21 op) ≡ None) }
         ensures refused { OnFalse result (self.new ≡ self.old) }
     {
-        if self.queue.free() == 0 {
+        if self.commands.queue.free() == 0 {
             return false;
         }
         self.command(lines, op);
@@ -264,18 +254,18 @@ impl Processor {
     /// Issues the command that is asked for and goes on, or comes to a fault.
     #[tactic(auto, unfolding(crate::specs::Channels::commanded))]
     fn command(&mut self, lines: u32, op: u32)
-        requires number { HasNumber self.old.queue }
+        requires number { HasNumber self.old.commands.queue }
         requires lines { lines ≤ 524288 }
-        requires free { (calls : List Call) → StandsFor self.old.queue calls → length (outstanding calls) < 16 }
+        requires free { (calls : List Call) → StandsFor self.old.commands.queue calls → length (outstanding calls) < 16 }
         ensures { (P : Spe) → ShowsSpe self.old P → ShowsSpe self.new (commanded lines P op) }
     {
-        if !is_opcode(op % 0x1_0000) {
+        if is_atomic(op) {
             self.refuse(DmaFault::Opcode);
             return;
         }
         match check(self.channels.params(), op, lines) {
             Ok(Order::Queued(command)) => {
-                self.issue(lines, command);
+                self.commands.issue(lines, command);
                 self.go_on();
             }
             Ok(Order::Atomic(_)) => self.refuse(DmaFault::Opcode),
@@ -288,21 +278,6 @@ impl Processor {
         ensures { (P : Spe) → ShowsSpe self.old P → ShowsSpe self.new (record P { status = Status.DmaFault kind }) }
     {
         self.status = Status::DmaFault { kind };
-    }
-
-    /// Puts a command into the queue, which has a free place.
-    fn issue(&mut self, lines: u32, command: Command)
-        requires number { HasNumber self.old.queue }
-        requires lines { lines ≤ 524288 }
-        requires fits { OrderFits lines (Queued command) }
-        requires free { (calls : List Call) → StandsFor self.old.queue calls → length (outstanding calls) < 16 }
-        ensures { (P : Spe) → ShowsSpe self.old P → ShowsSpe self.new (record P { moves = with_issued P.moves command }) }
-    {
-        let pieces = pieces_of(&command);
-        match self.queue.issue(command) {
-            Ok(number) => self.queue.set_parts(number, pieces),
-            Err(_) => unreachable!(),
-        }
     }
 
     /// Puts a value into the outbound mailbox and goes on, if it has a free place.
@@ -332,7 +307,7 @@ impl Processor {
     /// Does a channel operation, and says whether it was allowed. Where it wasn't, nothing changes.
     pub(crate) fn channel(&mut self, lines: u32, op: ChannelOp) -> bool
         requires register { RegisterFits op }
-        requires number { HasNumber self.old.queue }
+        requires number { HasNumber self.old.commands.queue }
         requires lines { lines ≤ 524288 }
         ensures made { (P : Spe) → ShowsSpe self.old P → MatchBool result (IsSomeAnd (channel lines P op) (ShowsSpe self.new)) (channel lines P op ≡ None) }
         ensures refused { OnFalse result (self.new ≡ self.old) }
@@ -364,6 +339,7 @@ impl Processor {
     {
         match ch {
             MFC_RD_TAG_STAT => self.tags.ready(),
+            MFC_RD_LIST_STALL_STAT => self.channels.has_stall(),
             SPU_RD_IN_MBOX => self.inbound.len() > 0,
             _ => true,
         }
@@ -374,7 +350,7 @@ impl Processor {
         ensures { (lines : ℕ) (P : Spe) (value : ℕ) → ShowsChannels self.now P → result ≡ is_some (channel lines P (ChannelOp.Write ch value)) }
     {
         match ch {
-            MFC_CMD => self.queue.free() > 0,
+            MFC_CMD => self.commands.queue.free() > 0,
             SPU_WR_OUT_MBOX => self.outbound.len() < OUTBOUND_PLACES,
             SPU_WR_OUT_INTR_MBOX => self.interrupt.len() < OUTBOUND_PLACES,
             _ => true,

@@ -2,6 +2,7 @@
 #![tactic(auto)]
 
 mod channels;
+mod commands;
 mod error;
 mod hosts;
 mod machine;

@@ -16,6 +16,7 @@ ghost use Rattle.cell_machine.specs.Opening.{Opening, opening_spes, filled};
 ghost use Rattle.cell_machine.specs.Limits.{shown, shown_memory};
 ghost use Rattle.cell_machine.specs.Run.{Ran, IsRun, state_of, next_of, spe_of, picked_of, first_of, first_allowed, picked, allowed, is_quiet, IsEnd};
 ghost use Rattle.cell_machine.specs.Order.{IsInOrder};
+ghost use Rattle.cell_machine.specs.Lists.{ListsAreInOrder};
 ghost use Rattle.cell_machine.specs.Shows.{Shows, AllTwo, ShowsSpe, IsFit, CanGo, AreSettled};
 
 use crate::error::MachineError;
@@ -81,7 +82,12 @@ fn act(processors: &mut [Processor], memory: &mut Memory, host: &mut Host, s: St
             }
             processors[spe as usize].piece_step(memory, cmd, elem, part)
         }
-        Step::Elem { .. } => false,
+        Step::Elem { spe, cmd } => {
+            if spe as usize >= processors.len() {
+                return false;
+            }
+            processors[spe as usize].elem_step(lines, cmd)
+        }
         Step::Retire { spe, cmd } => {
             if spe as usize >= processors.len() {
                 return false;
@@ -128,7 +134,7 @@ fn opening_memory(alloc: Global, lines: u32, pieces: &[MemoryBytes]) -> Result<M
 /// The first allowed step of the first actor that has one.
 fn first_step(processors: &[Processor], host: &Host) -> Option<Step>
     requires many { length processors.now ≤ 8 }
-    requires kept { All (λ c. IsKept c.queue) processors.now }
+    requires kept { All (λ c. IsKept c.commands.queue) processors.now }
     ensures { (memory : List ℕ) (M : State) → Shows processors.now memory host.now M → result ≡ first_allowed M }
 {
     let of_spus = first_of_spus(processors);
@@ -159,7 +165,7 @@ fn first_of_spus(processors: &[Processor]) -> Option<Step>
 /// The first allowed step of the first flow controller that has one.
 fn first_of_mfcs(processors: &[Processor]) -> Option<Step>
     requires many { length processors.now ≤ 8 }
-    requires kept { All (λ c. IsKept c.queue) processors.now }
+    requires kept { All (λ c. IsKept c.commands.queue) processors.now }
     ensures { (memory : List ℕ) (host : Progress) (M : State) → Shows processors.now memory host M → result ≡ slice_get (all_of_mfcs M) 0 }
 {
     for spe in 0..processors.len() {
@@ -197,7 +203,7 @@ fn is_quiet(processors: &[Processor]) -> bool
 
 /// The allowed step of the actor at the place that is the choice's remainder.
 fn nth_step(processors: &[Processor], host: &Host, actor: Actor, choice: u64) -> Option<Step>
-    requires { All (λ c. IsKept c.queue) processors.now }
+    requires { All (λ c. IsKept c.commands.queue) processors.now }
     ensures { (memory : List ℕ) (M : State) → Shows processors.now memory host.now M → result ≡ picked M actor choice }
 {
     match actor {
@@ -270,11 +276,13 @@ impl Machine {
     }
 
     /// The steps made so far, which are a run from its setup. Each step of a queued command comes after the commands that go
-    /// before it are complete (CBEA, "Command ordering"), and what is complete stays complete.
+    /// before it are complete (CBEA, "Command ordering"), and what is complete stays complete. The elements of a list are read
+    /// in their order, each after the one before it was copied and, where it stalls, acknowledged.
     pub fn steps(&self) -> &[Step]
         ensures steps { result.now ≡ self.now.steps }
         ensures run { IsRun self.now.setup self.now.steps }
         ensures order { IsInOrder self.now }
+        ensures lists { ListsAreInOrder self.now }
     {
         &self.steps
     }

@@ -13,20 +13,20 @@ ghost use Rattle.cell_machine.specs.Opening.{placed_in};
 ghost use Rattle.cell_machine.specs.Limits.{shown};
 
 use crate::channels::operation;
+use crate::commands::Commands;
 use crate::error::MachineError;
 use crate::setup::PlacedBytes;
 use crate::status::Status;
 use cell_channels::Channels;
 use local_store::LocalStore;
 use mailboxes::Mailbox;
-use mfc_queue::Queue;
 use spu_decode::decode;
 use spu_exec::{Flow, exec};
 use spu_regs::Regs;
 use std::alloc::Global;
 use tag_groups::Tags;
 
-/// How many places the queue has.
+/// How many places the queue of commands has.
 const QUEUE_PLACES: u32 = 16;
 
 /// A processor as it stands.
@@ -41,7 +41,7 @@ pub(crate) struct Processor {
     pub(crate) interrupt: Mailbox<1>,
     pub(crate) channels: Channels,
     pub(crate) tags: Tags,
-    pub(crate) queue: Queue,
+    pub(crate) commands: Commands,
     ghost here: { IsPlace pc },
 }
 
@@ -87,7 +87,7 @@ impl Processor {
             interrupt: Mailbox::new(),
             channels: Channels::new(),
             tags: Tags::new(),
-            queue: Queue::new(),
+            commands: Commands::new(),
         })
     }
 
@@ -100,7 +100,7 @@ impl Processor {
     /// Goes where an instruction leads, and says whether that was allowed.
     fn follow(&mut self, lines: u32, flow: Flow) -> bool
         requires leads { LeadsToPlace flow }
-        requires number { HasNumber self.old.queue }
+        requires number { HasNumber self.old.commands.queue }
         requires lines { lines ≤ 524288 }
         requires channel { (op : ChannelOp) → flow ≡ Flow.Channel op → RegisterFits op }
         ensures made { (P : Spe) → ShowsSpe self.old P → MatchBool result (IsSomeAnd (followed lines P flow) (ShowsSpe self.new)) (followed lines P flow ≡ None) }
@@ -128,7 +128,7 @@ impl Processor {
 
     /// Makes the next instruction, and says whether it was allowed. Where it wasn't, nothing changes.
     fn exec(&mut self, lines: u32) -> bool
-        requires number { HasNumber self.old.queue }
+        requires number { HasNumber self.old.commands.queue }
         requires lines { lines ≤ 524288 }
         ensures made { (P : Spe) → ShowsSpe self.old P → MatchBool result (IsSomeAnd (exec lines P) (ShowsSpe self.new)) (exec lines P ≡ None) }
         ensures refused { OnFalse result (self.new ≡ self.old) }
@@ -146,7 +146,7 @@ impl Processor {
 
     /// Makes the next instruction and settles, or leaves all as it is where the instruction isn't allowed.
     pub(crate) fn exec_step(&mut self, lines: u32) -> bool
-        requires number { HasNumber self.old.queue }
+        requires number { HasNumber self.old.commands.queue }
         requires lines { lines ≤ 524288 }
         ensures made { (P : Spe) → ShowsSpe self.old P → MatchBool result (IsSomeAnd (exec lines P) (λ Q. ShowsSpe self.new (settled Q))) (exec lines P ≡ None) }
         ensures refused { OnFalse result (self.new ≡ self.old) }
@@ -188,6 +188,6 @@ impl Processor {
     pub(crate) fn queued(&self) -> u32
         ensures { (P : Spe) → ShowsSpe self.now P → result ≡ length (outstanding P) }
     {
-        QUEUE_PLACES.saturating_sub(self.queue.free())
+        QUEUE_PLACES.saturating_sub(self.commands.queue.free())
     }
 }

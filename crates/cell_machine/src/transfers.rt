@@ -1,21 +1,21 @@
-//! The steps of queued commands: pieces and retirements.
+//! The steps of queued commands: pieces, the reading of list elements, and retirements.
 
-ghost use Rattle.std.specs.Prelude.{◌≡◌, ℕ, ◌+◌, ◌*◌, ◌≤◌, ◌<◌, List, length, true, None, IsSomeAnd, MatchBool, slice_range};
+ghost use Rattle.std.specs.Prelude.{◌≡◌, ℕ, ◌+◌, ◌*◌, ◌≤◌, ◌<◌, length, None, IsSomeAnd, MatchBool, slice_range, if◌then◌else◌};
 ghost use Rattle.std.specs.Bool.{OnFalse, OnTrue};
 ghost use Rattle.cell_base.specs.Bytes.{put};
-ghost use Rattle.mfc_command.specs.Parts.{parts_of, part_of};
-ghost use Rattle.mfc_queue.specs.Calls.{Call, is_outstanding, parts};
-ghost use Rattle.mfc_queue.specs.Stands.{HasPart, StandsFor};
+ghost use Rattle.mfc_queue.specs.Stands.{IsOneOf};
 ghost use Rattle.cell_machine.specs.Spe.{Spe, is_faulted};
-ghost use Rattle.cell_machine.specs.Kept.{CommandsFit, IsKept};
+ghost use Rattle.cell_machine.specs.Moves.{parts_in};
+ghost use Rattle.cell_machine.specs.Kept.{IsKept};
 ghost use Rattle.cell_machine.specs.Tags.{settled};
-ghost use Rattle.cell_machine.specs.Transfers.{has_part, may_piece, may_retire, piece, retire, copied, is_put, with_done};
+ghost use Rattle.cell_machine.specs.Transfers.{may_elem, may_retire, piece, elem, retire, copied, is_put, part_in, told};
 
 use crate::processor::Processor;
 use crate::status::Status;
 use local_store::LocalStore;
 use main_memory::Memory;
-use mfc_command::{Command, Kind, Part, part};
+use mfc_command::{Kind, Part, part};
+use mfc_lists::Element;
 
 /// How many bytes a piece has at most.
 const PIECE_BYTES: usize = 128;
@@ -58,121 +58,131 @@ fn get_part(store: &mut LocalStore, memory: &Memory, x: Part)
     store.copy_in(x.ls, &bytes[..x.len as usize]);
 }
 
-/// Copies part `k` of a command between the store and the memory.
-fn copy(store: &mut LocalStore, memory: &mut Memory, command: Command, k: u32)
-    requires few { command.size ≤ 16384 }
-    requires store { command.ls + command.size ≤ 262144 }
-    requires memory { command.ea + command.size ≤ length memory.old }
+/// Copies part `k` of an element between the store and the memory.
+fn copy(store: &mut LocalStore, memory: &mut Memory, put_it: bool, x: Element, k: u32)
+    requires few { x.size ≤ 16384 }
+    requires store { x.ls + x.size ≤ 262144 }
+    requires memory { x.ea + x.size ≤ length memory.old }
     requires small { length memory.old ≤ 67108864 }
-    requires there { k < parts_of command.ea command.size }
-    ensures copied { (P : Spe) → P.store ≡ store.old → copied memory.old P (is_put command.kind) (part_of command.ls command.ea command.size k) ≡ record { spe = record P { store = store.new }; memory = memory.new } }
+    requires there { k < parts_in x }
+    ensures copied { (P : Spe) → P.store ≡ store.old → copied memory.old P put_it (part_in x k) ≡ record { spe = record P { store = store.new }; memory = memory.new } }
     ensures long { length memory.new ≡ length memory.old }
 {
-    let x = part(command.ls, command.ea, command.size, k);
-    if is_put(command.kind) {
-        put_part(store, memory, x);
+    let y = part(x.ls, x.ea, x.size, k);
+    if put_it {
+        put_part(store, memory, y);
     } else {
-        get_part(store, memory, x);
+        get_part(store, memory, y);
     }
 }
 
 impl Processor {
-    ghost use Rattle.cell_machine.specs.Shows.{ShowsSpe, ShowsQueue};
+    ghost use Rattle.cell_machine.specs.Shows.{ShowsSpe, CanStep};
 
-    /// Whether its flow controller refused a command, and makes no more steps.
+    /// Whether its flow controller refused a command or an element, and makes no more steps.
     pub(crate) fn is_faulted(&self) -> bool
         ensures { result ≡ is_faulted self.now.status }
     {
         matches!(self.status, Status::DmaFault { .. })
     }
 
-    /// Whether part `k` of element `elem` of a command may be copied.
-    pub(crate) fn may_piece(&self, cmd: u32, elem: u16, k: u16) -> bool
-        requires { IsKept self.now.queue }
-        ensures may { (P : Spe) → ShowsSpe self.now P → result ≡ may_piece P cmd elem k }
-        ensures there { OnTrue result ((calls : List Call) → StandsFor self.now.queue calls → (is_outstanding calls cmd ≡ true) × (k < parts calls cmd)) }
+    /// Tells the stall of a list in the stall status, if there is one.
+    fn tell(&mut self, stalls: bool, tag: u8)
+        requires { tag < 32 }
+        ensures { (P : Spe) → ShowsSpe self.old P → ShowsSpe self.new (if stalls then told P tag else P) }
     {
-        if self.is_faulted() {
-            return false;
-        }
-        if elem != 0 {
-            return false;
-        }
-        if self.queue.place(cmd).is_none() {
-            return false;
-        }
-        if k as u32 >= self.queue.parts(cmd) {
-            return false;
-        }
-        if self.queue.done(cmd, k as u32) {
-            return false;
-        }
-        self.queue.may_start(cmd)
-    }
-
-    /// Marks a part, and ends its command with the last one.
-    fn mark(&mut self, cmd: u32, k: u32)
-        requires { HasPart self.old.queue cmd k }
-        ensures { (P : Spe) → ShowsSpe self.old P → has_part P.moves cmd k ≡ true → ShowsSpe self.new (record P { moves = with_done P.moves cmd k }) }
-    {
-        if self.queue.mark(cmd, k) {
-            self.queue.retire(cmd);
+        if stalls {
+            self.channels.stall(tag);
         }
     }
 
     /// Copies a part, if that is allowed.
     fn piece(&mut self, memory: &mut Memory, cmd: u32, elem: u16, k: u16) -> bool
-        requires kept { IsKept self.old.queue }
-        requires fits { (lines : ℕ) × (length memory.old ≡ 128 * lines) × CommandsFit lines self.old.queue }
+        requires can { (lines : ℕ) × (length memory.old ≡ 128 * lines) × CanStep lines self.old }
         requires small { length memory.old ≤ 67108864 }
         ensures made { (P : Spe) → ShowsSpe self.old P → MatchBool result (IsSomeAnd (piece memory.old P cmd elem k) (λ x. ShowsSpe self.new x.spe × (x.memory ≡ memory.new))) (piece memory.old P cmd elem k ≡ None) }
         ensures refused { OnFalse result ((self.new ≡ self.old) × (memory.new ≡ memory.old)) }
         ensures long { length memory.new ≡ length memory.old }
     {
-        if !self.may_piece(cmd, elem, k) {
+        if self.is_faulted() {
             return false;
         }
-        let command = self.queue.command(cmd);
-        copy(&mut self.store, memory, command, k as u32);
-        self.mark(cmd, k as u32);
+        let Some(x) = self.commands.part_left(cmd, elem, k) else {
+            return false;
+        };
+        let command = self.commands.queue.command(cmd);
+        copy(
+            &mut self.store,
+            memory,
+            is_put(command.kind),
+            x,
+            u32::from(k),
+        );
+        let stalls = self.commands.mark(cmd, u32::from(k));
+        self.tell(stalls, command.tag);
+        true
+    }
+
+    /// Whether the next element of a command may be read.
+    pub(crate) fn may_elem(&self, cmd: u32) -> bool
+        requires { IsKept self.now.commands.queue }
+        ensures { (P : Spe) → ShowsSpe self.now P → result ≡ may_elem P cmd }
+    {
+        !self.is_faulted() && self.commands.next_list(cmd).is_some()
+    }
+
+    /// Reads the next element of a list, if that is allowed. A faulty one takes the place of any status.
+    fn elem(&mut self, lines: u32, cmd: u32) -> bool
+        requires can { CanStep lines self.old }
+        requires lines { lines ≤ 524288 }
+        ensures made { (P : Spe) → ShowsSpe self.old P → MatchBool result (IsSomeAnd (elem lines P cmd) (ShowsSpe self.new)) (elem lines P cmd ≡ None) }
+        ensures refused { OnFalse result (self.new ≡ self.old) }
+    {
+        if self.is_faulted() {
+            return false;
+        }
+        let Some(mut list) = self.commands.next_list(cmd) else {
+            return false;
+        };
+        let Some(at) = list.next_at() else {
+            unreachable!();
+        };
+        match list.read_element(self.store.word(at), self.store.word(at + 4), lines) {
+            Ok(x) => {
+                let tag = self.commands.queue.command(cmd).tag;
+                let stalls = self.commands.begin(lines, cmd, list, x);
+                self.tell(stalls, tag);
+            }
+            Err(kind) => self.status = Status::DmaFault { kind },
+        }
         true
     }
 
     /// Whether a command may be retired.
     pub(crate) fn may_retire(&self, cmd: u32) -> bool
-        requires { IsKept self.now.queue }
+        requires { IsKept self.now.commands.queue }
         ensures may { (P : Spe) → ShowsSpe self.now P → result ≡ may_retire P cmd }
-        ensures there { OnTrue result ((calls : List Call) → StandsFor self.now.queue calls → is_outstanding calls cmd ≡ true) }
+        ensures there { OnTrue result (IsOneOf self.now.commands.queue cmd) }
     {
-        if self.is_faulted() {
-            return false;
-        }
-        if self.queue.place(cmd).is_none() {
-            return false;
-        }
-        if self.queue.parts(cmd) != 0 {
-            return false;
-        }
-        self.queue.may_start(cmd)
+        !self.is_faulted() && self.commands.may_retire(cmd)
     }
 
     /// Retires a command, if that is allowed.
     fn retire(&mut self, cmd: u32) -> bool
-        requires { IsKept self.old.queue }
+        requires { IsKept self.old.commands.queue }
         ensures made { (P : Spe) → ShowsSpe self.old P → MatchBool result (IsSomeAnd (retire P cmd) (ShowsSpe self.new)) (retire P cmd ≡ None) }
         ensures refused { OnFalse result (self.new ≡ self.old) }
     {
         if !self.may_retire(cmd) {
             return false;
         }
-        self.queue.retire(cmd);
+        self.commands.retire(cmd);
         true
     }
 
     /// Makes a piece and settles, or leaves all as it is where the piece isn't allowed.
     pub(crate) fn piece_step(&mut self, memory: &mut Memory, cmd: u32, elem: u16, k: u16) -> bool
-        requires kept { IsKept self.old.queue }
-        requires fits { (lines : ℕ) × (length memory.old ≡ 128 * lines) × CommandsFit lines self.old.queue }
+        requires can { (lines : ℕ) × (length memory.old ≡ 128 * lines) × CanStep lines self.old }
         requires small { length memory.old ≤ 67108864 }
         ensures made { (P : Spe) → ShowsSpe self.old P → MatchBool result (IsSomeAnd (piece memory.old P cmd elem k) (λ x. ShowsSpe self.new (settled x.spe) × (x.memory ≡ memory.new))) (piece memory.old P cmd elem k ≡ None) }
         ensures refused { OnFalse result ((self.new ≡ self.old) × (memory.new ≡ memory.old)) }
@@ -185,9 +195,23 @@ impl Processor {
         true
     }
 
+    /// Reads an element and settles, or leaves all as it is where that isn't allowed.
+    pub(crate) fn elem_step(&mut self, lines: u32, cmd: u32) -> bool
+        requires can { CanStep lines self.old }
+        requires lines { lines ≤ 524288 }
+        ensures made { (P : Spe) → ShowsSpe self.old P → MatchBool result (IsSomeAnd (elem lines P cmd) (λ Q. ShowsSpe self.new (settled Q))) (elem lines P cmd ≡ None) }
+        ensures refused { OnFalse result (self.new ≡ self.old) }
+    {
+        if !self.elem(lines, cmd) {
+            return false;
+        }
+        self.settle();
+        true
+    }
+
     /// Retires a command and settles, or leaves all as it is where that isn't allowed.
     pub(crate) fn retire_step(&mut self, cmd: u32) -> bool
-        requires { IsKept self.old.queue }
+        requires { IsKept self.old.commands.queue }
         ensures made { (P : Spe) → ShowsSpe self.old P → MatchBool result (IsSomeAnd (retire P cmd) (λ Q. ShowsSpe self.new (settled Q))) (retire P cmd ≡ None) }
         ensures refused { OnFalse result (self.new ≡ self.old) }
     {
@@ -202,7 +226,7 @@ impl Processor {
     pub(crate) fn settle(&mut self)
         ensures { (P : Spe) → ShowsSpe self.old P → ShowsSpe self.new (settled P) }
     {
-        let busy = self.queue.busy();
-        self.tags.settle(busy, self.queue.issued());
+        let busy = self.commands.queue.busy();
+        self.tags.settle(busy, self.commands.queue.issued());
     }
 }

@@ -183,7 +183,8 @@ impl Queue {
     /// An outstanding command.
     pub fn command(&self, cmd: u32) -> Command
         requires { IsOneOf self.now cmd }
-        ensures { (calls : List Call) → StandsFor self.now calls → slice_get (issued calls) cmd ≡ Some result }
+        ensures command { (calls : List Call) → StandsFor self.now calls → slice_get (issued calls) cmd ≡ Some result }
+        ensures tag { result.tag < 32 }
     {
         match self.index_of(cmd) {
             Some(i) => self.held_at(i).command,
