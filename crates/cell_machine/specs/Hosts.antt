@@ -1,11 +1,11 @@
 -- The next action of the host script.
 use Rattle.std.specs.Prelude.{ℕ, nat_lt, if◌then◌else◌, List, [], ◌∷◌, ◌++◌, length, take, Option, Some, None, slice_get}
 use Rattle.std.specs.Option.{option_and_then, option_map}
-use Rattle.cell_base.specs.Bytes.{put}
 use Rattle.cell_host.specs.declared.HostAction.{HostAction}
 use Rattle.cell_host.specs.declared.HostAction.TheVariants.{Send, Take, TakeIntr, Store, Await}
 use Rattle.cell_host.specs.Script.{advanced}
 use Rattle.cell_machine.specs.Spe.{Spe, is_running}
+use Rattle.cell_machine.specs.Memory.{stored}
 use Rattle.cell_machine.specs.State.{State, with_spe}
 
 -- a processor after an action, and the value that the action took from it
@@ -57,7 +57,7 @@ unfoldable pub acted : State → HostAction → Option Acted
 acted M (Send p value) = at_spe M p (given (Send p value))
 acted M (Take p) = at_spe M p (given (Take p))
 acted M (TakeIntr p) = at_spe M p (given (TakeIntr p))
-acted M (Store ea len bytes) = Some (record { state = record M { memory = put M.memory ea (take len bytes) }; took = None })
+acted M (Store ea len bytes) = Some (record { state = record M { memory = stored M.memory ea (take len bytes) }; took = None })
 acted M (Await p) = at_spe M p (given (Await p))
 
 -- the action is done, and counted

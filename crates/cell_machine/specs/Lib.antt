@@ -1,4 +1,5 @@
 pub mod Spe
+pub mod Memory
 pub mod State
 pub mod Moves
 pub mod MovesShown
@@ -16,4 +17,5 @@ pub mod Run
 pub mod Choices
 pub mod Order
 pub mod Lists
+pub mod Locks
 pub mod Shows

@@ -1,9 +1,10 @@
 -- One step of the written machine.
-use Rattle.std.specs.Prelude.{ℕ, ◌/◌, List, [], ◌∷◌, ◌++◌, length, map, Option, None, slice_get}
+use Rattle.std.specs.Prelude.{ℕ, [], ◌∷◌, ◌++◌, map, Option, None, slice_get}
 use Rattle.std.specs.Option.{option_and_then, option_map}
 use Rattle.cell_base.specs.declared.steps.Step.{Step}
 use Rattle.cell_base.specs.declared.steps.Step.TheVariants.{Exec, Piece, Elem, Retire, Atomic, Host}
 use Rattle.cell_machine.specs.Spe.{Spe}
+use Rattle.cell_machine.specs.Memory.{MainMemory, lines_of}
 use Rattle.cell_machine.specs.State.{State, with_spe}
 use Rattle.cell_machine.specs.Tags.{settled}
 use Rattle.cell_machine.specs.Exec.{exec}
@@ -11,21 +12,17 @@ use Rattle.cell_machine.specs.Transfers.{piece, elem, retire, Left}
 use Rattle.cell_machine.specs.Atomic.{atomic}
 use Rattle.cell_machine.specs.Hosts.{host}
 
--- how many lines a memory has
-abbrev pub lines_of : List ℕ → ℕ
-lines_of memory = length memory / 128
-
 -- what a step that leaves the memory leaves
-abbrev pub left : List ℕ → Spe → Left
+abbrev pub left : MainMemory → Spe → Left
 left memory P = record { spe = P; memory = memory }
 
 -- what a step of a processor leaves: it looks at that processor and at the memory, and at nothing else
-abbrev pub own : List ℕ → Step → Spe → Option Left
+abbrev pub own : MainMemory → Step → Spe → Option Left
 own memory (Exec p) P = option_map (left memory) (exec (lines_of memory) P)
 own memory (Piece p c e k) P = piece memory P c e k
 own memory (Elem p c) P = option_map (left memory) (elem (lines_of memory) P c)
 own memory (Retire p c) P = option_map (left memory) (retire P c)
-own memory (Atomic p) P = option_map (left memory) (atomic P)
+own memory (Atomic p) P = atomic memory P
 own memory Host P = None
 
 -- M with what a step left of its processor p and of the memory

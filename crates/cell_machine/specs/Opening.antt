@@ -1,5 +1,5 @@
 -- What a Setup is, and the state in which its machine begins.
-use Rattle.std.specs.Prelude.{ℕ, ◌*◌, ◌==◌, List, [], map, filter, fold}
+use Rattle.std.specs.Prelude.{ℕ, ◌*◌, ◌==◌, List, [], map, filter, fold, replicate, None}
 use Rattle.std.specs.List.{enumerate_from}
 use Rattle.cell_base.specs.Bytes.{put, zeros}
 use Rattle.spu_regs.specs.Registers.{zero_registers}
@@ -10,6 +10,7 @@ use Rattle.cell_machine.specs.declared.setup.Show.{Show}
 use Rattle.cell_channels.specs.State.{opening_channels}
 use Rattle.tag_groups.specs.Settle.{opening_tags}
 use Rattle.cell_machine.specs.Spe.{Spe, Moves}
+use Rattle.cell_machine.specs.Memory.{MainMemory}
 use Rattle.cell_machine.specs.State.{State}
 
 -- bytes placed in a processor's store
@@ -55,6 +56,7 @@ opening_spe S x = record {
   channels = opening_channels;
   tags = opening_tags;
   moves = no_moves;
+  reserved = None;
 }
 
 abbrev pub opening_spes : Opening → List Spe
@@ -64,8 +66,9 @@ opening_spes S = map (opening_spe S) (enumerate_from 0 S.entries)
 abbrev pub filled : List ℕ → List InMemory → List ℕ
 filled memory pieces = fold (λ bytes x. put bytes x.at x.bytes) memory pieces
 
-abbrev pub opening_memory : Opening → List ℕ
-opening_memory S = filled (zeros (128 * S.lines)) S.memory
+-- no line was touched by a store yet
+abbrev pub opening_memory : Opening → MainMemory
+opening_memory S = record { bytes = filled (zeros (128 * S.lines)) S.memory; versions = replicate S.lines 0 }
 
 unfoldable pub opening : Opening → State
 opening S = record { spes = opening_spes S; memory = opening_memory S; host = opening_host S.actions; steps = [] }

@@ -1,5 +1,5 @@
 -- Runs of the written machine, and how they end.
-use Rattle.std.specs.Prelude.{◌≡◌, ℕ, ◌<◌, ◌≤◌, ◌%◌, Bool, true, false, ◌==◌, nat_lt, if◌then◌else◌, List, [], ◌∷◌, ◌++◌, length, map, filter, flat_map, Option, Some, None, is_some, IsSome, slice_get}
+use Rattle.std.specs.Prelude.{◌≡◌, ℕ, ◌<◌, ◌≤◌, ◌%◌, Bool, true, false, not, ◌&&◌, ◌==◌, nat_lt, if◌then◌else◌, List, [], ◌∷◌, ◌++◌, length, map, filter, flat_map, Option, Some, None, is_some, is_none, IsSome, slice_get}
 use Rattle.std.specs.List.{list_all, range_with_len}
 use Rattle.std.specs.Option.{option_and_then, option_map_or}
 use Rattle.cell_base.specs.declared.steps.Actor.{Actor}
@@ -85,9 +85,9 @@ HasEnded M = (s : Step) → next M s ≡ None
 abbrev pub CanGoOn : State → Type 0
 CanGoOn M = (s : Step) × IsSome (next M s)
 
--- whether no processor runs and no command is outstanding
+-- whether no processor runs, no slot is taken and no command is outstanding
 abbrev pub is_quiet_spe : Spe → Bool
-is_quiet_spe P = if is_running P.status then false else length (outstanding P) == 0
+is_quiet_spe P = not (is_running P.status) && is_none P.channels.slot && length (outstanding P) == 0
 
 abbrev pub is_quiet : State → Bool
 is_quiet M = list_all is_quiet_spe M.spes

@@ -1,15 +1,21 @@
 -- What the code's parts stand for.
-use Rattle.std.specs.Prelude.{◌≡◌, ℕ, ◌*◌, ◌≤◌, true, false, IsSomeAnd, map, List, [], ◌∷◌, length, Option, Some, None, All, slice_get}
+use Rattle.std.specs.Prelude.{◌≡◌, ℕ, ◌≤◌, true, false, IsSomeAnd, IfSome, map, List, [], ◌∷◌, length, Option, Some, None, All, slice_get}
 use Rattle.cell_base.specs.declared.steps.Step.{Step}
 use Rattle.cell_machine.specs.declared.commands.Commands.{Commands}
+use Rattle.cell_machine.specs.declared.memory.SharedMemory.{SharedMemory}
 use Rattle.cell_machine.specs.declared.processor.Processor.{Processor}
+use Rattle.lock_lines.specs.Versions.{Reserved}
+use Rattle.lock_lines.specs.Stands.{StandsForVersions, line_count}
 use Rattle.mfc_command.specs.declared.command.Command.{Command}
+use Rattle.mfc_command.specs.declared.command.Order.TheVariants.{Atomic}
+use Rattle.mfc_command.specs.Check.{OrderFits}
 use Rattle.mfc_command.specs.Order.{is_list}
 use Rattle.mfc_lists.specs.declared.Element.{Element}
 use Rattle.mfc_lists.specs.declared.ListState.{ListState}
 use Rattle.mfc_lists.specs.Elements.{ElementFits}
 use Rattle.mfc_lists.specs.Readings.{StandsFor as StandsForReading, with_element}
 use Rattle.cell_machine.specs.Spe.{Spe, Moves}
+use Rattle.cell_machine.specs.Memory.{MainMemory}
 use Rattle.cell_machine.specs.Transfers.{has_part, has_element}
 use Rattle.cell_machine.specs.MovesShown.{ShowsQueue, reading}
 use Rattle.cell_machine.specs.Tags.{settled}
@@ -78,10 +84,19 @@ AllTwo R (x ∷ xs) (y ∷ ys) = R x y × AllTwo R xs ys
 AllTwo R [] (y ∷ ys) = ⊥
 AllTwo R (x ∷ xs) [] = ⊥
 
+-- the memory is what the written machine has, and its lines' words are the versions with these reservations of the processors
+pub record ShowsMemory (c : SharedMemory) (m : MainMemory) (reserved : List (Option Reserved)) : Type 0 where
+  pub bytes : m.bytes ≡ c.bytes
+  pub versions : StandsForVersions c.locks (record { lines = m.versions; spes = reserved })
+
+-- what each processor reserved
+abbrev pub reservations : List Spe → List (Option Reserved)
+reservations spes = map (λ P. P.reserved) spes
+
 -- the processors, the memory and the host are the written machine's
-pub record Shows (processors : List Processor) (memory : List ℕ) (host : Progress) (M : State) : Type 0 where
+pub record Shows (processors : List Processor) (memory : SharedMemory) (host : Progress) (M : State) : Type 0 where
   pub spes : AllTwo ShowsSpe processors M.spes
-  pub memory_is : M.memory ≡ memory
+  pub memory_is : ShowsMemory memory M.memory (reservations M.spes)
   pub host_is : M.host ≡ host
 
 -- what an action took from a processor, and what it leaves of it
@@ -92,33 +107,38 @@ Gives None (Some g) c = ⊥
 Gives (Some t) None c = ⊥
 
 -- and what it leaves of a state
-abbrev pub Leaves : Option Taken → Option Acted → List Processor → List ℕ → Progress → Type 0
+abbrev pub Leaves : Option Taken → Option Acted → List Processor → SharedMemory → Progress → Type 0
 Leaves None None processors memory host = Unit {0}
 Leaves (Some t) (Some d) processors memory host = Shows processors memory host d.state × (d.took ≡ t.value)
 Leaves None (Some d) processors memory host = ⊥
 Leaves (Some t) None processors memory host = ⊥
 
+-- it has words for so many lines and processors
+abbrev pub HasSize : ℕ → ℕ → SharedMemory → Type 0
+HasSize lines spes memory = (line_count memory.locks ≡ lines) × (memory.locks.spes ≡ spes)
+
 -- the memory has some lines, and the action fits
-pub record Fits (spes : ℕ) (memory : List ℕ) (action : HostAction) : Type 0 where
+pub record Fits (spes : ℕ) (memory : SharedMemory) (action : HostAction) : Type 0 where
   pub lines : ℕ
-  pub long : length memory ≡ 128 * lines
+  pub size : HasSize lines spes memory
   pub fits : FitsAction lines spes action
 
 -- the memory has some lines, and each action of the script fits
-pub record IsFit (spes : ℕ) (memory : List ℕ) (host : Progress) : Type 0 where
+pub record IsFit (spes : ℕ) (memory : SharedMemory) (host : Progress) : Type 0 where
   pub lines : ℕ
-  pub long : length memory ≡ 128 * lines
+  pub size : HasSize lines spes memory
   pub actions : All (FitsAction lines spes) host.script
 
 -- all processors are settled
 abbrev pub AreSettled : List Spe → Type 0
 AreSettled spes = map settled spes ≡ spes
 
--- at most n commands were issued, and they and their elements fit so many lines of memory
+-- at most n commands were issued, and they, their elements and the atomic command in the slot fit so many lines of memory
 pub record IsBounded (lines n : ℕ) (P : Spe) : Type 0 where
   pub few : length P.moves.issued ≤ n
   pub fits : MovesFit lines P.moves.issued
   pub elements : All (λ r. ElementFits lines r.element) P.moves.read
+  pub slot : IfSome P.channels.slot (λ a. OrderFits lines (Atomic a))
 
 abbrev pub AreBounded : ℕ → ℕ → List Spe → Type 0
 AreBounded lines n spes = (p : ℕ) (P : Spe) → slice_get spes p ≡ Some P → IsBounded lines n P
@@ -130,13 +150,13 @@ pub record CanStep (lines : ℕ) (c : Processor) : Type 0 where
   pub bounded : IsBounded lines 999999 spe
 
 -- each processor can make a step, and the memory has some lines
-pub record CanGo (processors : List Processor) (memory : List ℕ) : Type 0 where
+pub record CanGo (processors : List Processor) (memory : SharedMemory) : Type 0 where
   pub lines : ℕ
-  pub long : length memory ≡ 128 * lines
+  pub size : HasSize lines (length processors) memory
   pub each : All (CanStep lines) processors
 
 -- the processors, the memory and the host stand for the replay of the steps from the setup, and the record has room for a run
-pub record IsMachine (setup : Opening) (steps : List Step) (capacity : ℕ) (processors : List Processor) (memory : List ℕ) (host : Progress) : Type 0 where
+pub record IsMachine (setup : Opening) (steps : List Step) (capacity : ℕ) (processors : List Processor) (memory : SharedMemory) (host : Progress) : Type 0 where
   pub room : setup.budget ≤ capacity
   pub within : length steps ≤ setup.budget
   pub small : setup.budget ≤ 1000000
@@ -147,6 +167,6 @@ pub record IsMachine (setup : Opening) (steps : List Step) (capacity : ℕ) (pro
   pub shown : Shows processors memory host state
   pub settled : AreSettled state.spes
   pub bounded : AreBounded setup.lines (length steps) state.spes
-  pub long : length memory ≡ 128 * setup.lines
+  pub size : HasSize setup.lines (length processors) memory
   pub script : host.script ≡ setup.actions
   pub actions : All (FitsAction setup.lines (length setup.entries)) setup.actions

@@ -3,10 +3,11 @@ use Rattle.std.specs.Prelude.{ℕ, List, slice_set}
 use Rattle.cell_base.specs.declared.steps.Step.{Step}
 use Rattle.cell_host.specs.Script.{Progress}
 use Rattle.cell_machine.specs.Spe.{Spe}
+use Rattle.cell_machine.specs.Memory.{MainMemory}
 
 pub record State : Type 0 where
   pub spes : List Spe
-  pub memory : List ℕ  -- the main memory, 128 bytes a line
+  pub memory : MainMemory
   pub host : Progress  -- the host script, how many of its actions were done, and the values taken
   pub steps : List Step  -- the record: the steps made so far, in their order
 

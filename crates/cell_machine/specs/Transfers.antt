@@ -14,6 +14,7 @@ use Rattle.mfc_lists.specs.declared.Element.{Element}
 use Rattle.mfc_lists.specs.Elements.{element_of}
 use Rattle.cell_machine.specs.declared.status.Status.TheVariants.{DmaFault}
 use Rattle.cell_machine.specs.Spe.{Spe, Moves, PartDone, is_faulted}
+use Rattle.cell_machine.specs.Memory.{MainMemory, stored}
 use Rattle.cell_machine.specs.Moves.{is_moved, read_of, present, parts_in, is_done, is_stalled, is_at_rest, are_all_there, was_retired, may_begin}
 
 -- whether command c, which passes a test, may begin
@@ -55,14 +56,14 @@ is_put Barrier = false
 -- what a step leaves: the processor, and the main memory
 pub record Left : Type 0 where
   pub spe : Spe
-  pub memory : List ℕ
+  pub memory : MainMemory
 
 -- the bytes of a part are copied to the memory, or to the store
-unfoldable pub copied : List ℕ → Spe → Bool → Part → Left
+unfoldable pub copied : MainMemory → Spe → Bool → Part → Left
 copied memory P put_it x =
     if put_it
-    then record { spe = P; memory = put memory x.ea (slice_range P.store x.ls (x.ls + x.len)) }
-    else record { spe = record P { store = put P.store x.ls (slice_range memory x.ea (x.ea + x.len)) }; memory = memory }
+    then record { spe = P; memory = stored memory x.ea (slice_range P.store x.ls (x.ls + x.len)) }
+    else record { spe = record P { store = put P.store x.ls (slice_range memory.bytes x.ea (x.ea + x.len)) }; memory = memory }
 
 abbrev pub with_done : Moves → ℕ → ℕ → ℕ → Moves
 with_done m c e k = record m { done = m.done ++ record { cmd = c; elem = e; part = k } ∷ [] }
@@ -75,11 +76,11 @@ after_part P c e k d = notified (record P { moves = with_done P.moves c e k }) c
 abbrev pub part_in : Element → ℕ → Part
 part_in x k = part_of x.ls x.ea x.size k
 
-abbrev pub piece_of : List ℕ → Spe → ℕ → ℕ → Command → Element → Left
+abbrev pub piece_of : MainMemory → Spe → ℕ → ℕ → Command → Element → Left
 piece_of memory P c k d x = copied memory (after_part P c x.number k d) (is_put d.kind) (part_in x k)
 
 -- what is left after part k of element e of command c
-unfoldable pub piece : List ℕ → Spe → ℕ → ℕ → ℕ → Option Left
+unfoldable pub piece : MainMemory → Spe → ℕ → ℕ → ℕ → Option Left
 piece memory P c e k =
     if may_piece P c e k
     then option_and_then (λ d. option_map (piece_of memory P c k d) (present P.moves.read c d)) (slice_get P.moves.issued c)
