@@ -8,7 +8,7 @@ ghost use Rattle.spu_exec.specs.Places.{RegisterFits};
 ghost use Rattle.cell_machine.specs.Spe.{Spe};
 ghost use Rattle.mfc_queue.specs.Calls.{Call, outstanding};
 ghost use Rattle.mfc_queue.specs.Stands.{StandsFor, HasNumber};
-ghost use Rattle.cell_machine.specs.Channels.{channel, listed, count, given, went_on, bad_channel, read_inbound, read_status, read_stalls, acknowledged, commanded};
+ghost use Rattle.cell_machine.specs.Channels.{channel, count, is_atomic, may_write, given, went_on, read_inbound, read_status, read_atomic, read_stalls, acknowledged, commanded};
 ghost use Rattle.cell_machine.specs.Exec.{op_of};
 
 use crate::processor::Processor;
@@ -17,9 +17,9 @@ use cell_base::{ChannelOp, Quad};
 use cell_channels::{
     Counts, MFC_CMD, MFC_LSA, MFC_RD_ATOMIC_STAT, MFC_RD_LIST_STALL_STAT, MFC_RD_TAG_MASK,
     MFC_RD_TAG_STAT, MFC_TAG_ID, MFC_WR_LIST_STALL_ACK, MFC_WR_TAG_MASK, MFC_WR_TAG_UPDATE,
-    SPU_RD_IN_MBOX, SPU_WR_OUT_INTR_MBOX, SPU_WR_OUT_MBOX, Way, way,
+    SPU_RD_IN_MBOX, SPU_WR_OUT_INTR_MBOX, SPU_WR_OUT_MBOX, way,
 };
-use mfc_command::{DmaFault, Order, check, is_atomic};
+use mfc_command::{AtomicOp, DmaFault, Order, check, is_atomic};
 use spu_decode::{Instr, Row};
 use spu_exec::next_pc;
 use spu_regs::Regs;
@@ -44,17 +44,6 @@ pub(crate) fn operation(i: Instr, registers: &Regs) -> Option<ChannelOp>
     }
 }
 
-/// The way of a channel that is there.
-#[tactic(auto, unfolding(crate::specs::Channels::listed))]
-fn listed(ch: u8) -> Option<Way>
-    ensures { result ≡ listed ch }
-{
-    match ch {
-        MFC_RD_ATOMIC_STAT => None,
-        _ => way(ch),
-    }
-}
-
 /// Whether a channel holds a parameter of the next command.
 fn is_param(ch: u8) -> bool
     ensures { result ≡ (nat_le 16 ch && nat_le ch 20) }
@@ -67,7 +56,7 @@ impl Processor {
 
     /// The count of a channel.
     fn count(&self, ch: u8) -> u32
-        ensures { (P : Spe) → ShowsSpe self.now P → is_some (listed ch) ≡ true → result ≡ count P ch }
+        ensures { (P : Spe) → ShowsSpe self.now P → is_some (way_of ch) ≡ true → result ≡ count P ch }
     {
         let counts = Counts {
             free: self.commands.queue.free(),
@@ -112,6 +101,7 @@ impl Processor {
             }
             MFC_RD_TAG_STAT => self.read_status(rt),
             MFC_RD_LIST_STALL_STAT => self.read_stalls(rt),
+            MFC_RD_ATOMIC_STAT => self.read_atomic(rt),
             SPU_RD_IN_MBOX => self.read_inbound(rt),
             _ => {
                 self.status = Status::BadChannel;
@@ -156,6 +146,24 @@ impl Processor {
         }
     }
 
+    /// Reads the status of the atomic command that was done last, if it wasn't read.
+    fn read_atomic(&mut self, rt: u8) -> bool
+        requires { rt < 128 }
+        ensures made { (P : Spe) → ShowsSpe self.old P → MatchBool result (IsSomeAnd (read_atomic P rt P.channels.atomic) (ShowsSpe self.new)) (read_atomic P rt P.channels.atomic ≡ None) }
+        ensures refused { OnFalse result (self.new ≡ self.old) }
+    {
+        if self.channels.atomic.is_none() {
+            return false;
+        }
+        match self.channels.read_atomic() {
+            Ok(status) => {
+                self.give(rt, status);
+                true
+            }
+            Err(_) => unreachable!(),
+        }
+    }
+
     /// Reads the oldest value of the inbound mailbox, if there is one.
     fn read_inbound(&mut self, rt: u8) -> bool
         requires { rt < 128 }
@@ -174,7 +182,7 @@ impl Processor {
         requires { rt < 128 }
         ensures { (lines : ℕ) (P : Spe) → ShowsSpe self.old P → IsSomeAnd (channel lines P (ChannelOp.Count rt ch)) (ShowsSpe self.new) }
     {
-        match listed(ch) {
+        match way(ch) {
             None => self.status = Status::BadChannel,
             Some(_) => {
                 let value = self.count(ch);
@@ -237,14 +245,25 @@ impl Processor {
         self.go_on();
     }
 
-    /// Asks for a command, if the queue has a free place.
+    /// Whether a command may be asked for: an atomic one where the slot is free, every other where the queue has a free place.
+    fn may_command(&self, op: u32) -> bool
+        ensures { (P : Spe) → ShowsChannels self.now P → result ≡ may_write P 21 op }
+    {
+        if is_atomic(op) {
+            self.channels.slot().is_none()
+        } else {
+            self.commands.queue.free() > 0
+        }
+    }
+
+    /// Asks for a command, if that is allowed.
     fn write_command(&mut self, lines: u32, op: u32) -> bool
         requires number { HasNumber self.old.commands.queue }
         requires lines { lines ≤ 524288 }
         ensures made { (P : Spe) → ShowsSpe self.old P → MatchBool result (IsSomeAnd (channel lines P (ChannelOp.Write 21 op)) (ShowsSpe self.new)) (channel lines P (ChannelOp.Write 21 op) ≡ None) }
         ensures refused { OnFalse result (self.new ≡ self.old) }
     {
-        if self.commands.queue.free() == 0 {
+        if !self.may_command(op) {
             return false;
         }
         self.command(lines, op);
@@ -256,20 +275,31 @@ impl Processor {
     fn command(&mut self, lines: u32, op: u32)
         requires number { HasNumber self.old.commands.queue }
         requires lines { lines ≤ 524288 }
-        requires free { (calls : List Call) → StandsFor self.old.commands.queue calls → length (outstanding calls) < 16 }
+        requires free { is_atomic op ≡ false → (calls : List Call) → StandsFor self.old.commands.queue calls → length (outstanding calls) < 16 }
+        requires slot { is_atomic op ≡ true → self.old.channels.slot ≡ None }
         ensures { (P : Spe) → ShowsSpe self.old P → ShowsSpe self.new (commanded lines P op) }
     {
-        if is_atomic(op) {
-            self.refuse(DmaFault::Opcode);
-            return;
-        }
         match check(self.channels.params(), op, lines) {
             Ok(Order::Queued(command)) => {
                 self.commands.issue(lines, command);
                 self.go_on();
             }
-            Ok(Order::Atomic(_)) => self.refuse(DmaFault::Opcode),
+            Ok(Order::Atomic(a)) => {
+                self.fill_slot(a);
+                self.go_on();
+            }
             Err(kind) => self.refuse(kind),
+        }
+    }
+
+    /// Puts an atomic command into the slot, which is free.
+    fn fill_slot(&mut self, a: AtomicOp)
+        requires { self.old.channels.slot ≡ None }
+        ensures { (P : Spe) → ShowsSpe self.old P → ShowsSpe self.new (record P { channels = record P.channels { slot = Some a } }) }
+    {
+        match self.channels.set_slot(a) {
+            Ok(()) => {}
+            Err(_) => unreachable!(),
         }
     }
 
@@ -329,7 +359,7 @@ impl Processor {
         match op {
             ChannelOp::Read { ch, .. } => self.may_read(ch),
             ChannelOp::Count { .. } => true,
-            ChannelOp::Write { ch, .. } => self.may_write(ch),
+            ChannelOp::Write { ch, value } => self.may_write(ch, value),
         }
     }
 
@@ -340,17 +370,18 @@ impl Processor {
         match ch {
             MFC_RD_TAG_STAT => self.tags.ready(),
             MFC_RD_LIST_STALL_STAT => self.channels.has_stall(),
+            MFC_RD_ATOMIC_STAT => self.channels.atomic.is_some(),
             SPU_RD_IN_MBOX => self.inbound.len() > 0,
             _ => true,
         }
     }
 
     /// Whether a write to a channel is allowed.
-    fn may_write(&self, ch: u8) -> bool
-        ensures { (lines : ℕ) (P : Spe) (value : ℕ) → ShowsChannels self.now P → result ≡ is_some (channel lines P (ChannelOp.Write ch value)) }
+    fn may_write(&self, ch: u8, value: u32) -> bool
+        ensures { (lines : ℕ) (P : Spe) → ShowsChannels self.now P → result ≡ is_some (channel lines P (ChannelOp.Write ch value)) }
     {
         match ch {
-            MFC_CMD => self.commands.queue.free() > 0,
+            MFC_CMD => self.may_command(value),
             SPU_WR_OUT_MBOX => self.outbound.len() < OUTBOUND_PLACES,
             SPU_WR_OUT_INTR_MBOX => self.interrupt.len() < OUTBOUND_PLACES,
             _ => true,

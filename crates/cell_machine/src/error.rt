@@ -2,6 +2,7 @@
 
 use cell_host::HostError;
 use local_store::StoreError;
+use lock_lines::LockError;
 use main_memory::MemoryError;
 use spu_regs::RegsError;
 use std::alloc::{AllocError, AllocFailed};
@@ -38,6 +39,12 @@ impl From<StoreError> for MachineError {
 
 impl From<MemoryError> for MachineError {
     fn from(_: MemoryError) -> MachineError {
+        MachineError::Memory
+    }
+}
+
+impl From<LockError> for MachineError {
+    fn from(_: LockError) -> MachineError {
         MachineError::Memory
     }
 }

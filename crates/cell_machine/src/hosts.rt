@@ -1,16 +1,17 @@
 //! The host script's actions.
 
-ghost use Rattle.std.specs.Prelude.{◌≡◌, ℕ, ◌≤◌, ◌<◌, List, length, take, Option, is_some, true, None, IfSome, IfNone, IsSomeAnd, MatchBool};
+ghost use Rattle.std.specs.Prelude.{◌≡◌, ℕ, ◌≤◌, ◌<◌, length, take, Option, is_some, true, None, IfSome, IfNone, IsSomeAnd, MatchBool};
 ghost use Rattle.std.specs.Bool.{OnFalse};
 ghost use Rattle.cell_host.specs.Script.{Progress, takes};
+ghost use Rattle.lock_lines.specs.Stands.{HasSameSize};
 ghost use Rattle.cell_machine.specs.Spe.{Spe};
 ghost use Rattle.cell_machine.specs.State.{State};
 ghost use Rattle.cell_machine.specs.Hosts.{sent, taken, taken_interrupt, awaited, given, at_spe, acted, host};
 ghost use Rattle.cell_machine.specs.Shows.{Shows, Gives, Leaves, Fits, IsFit};
 
+use crate::memory::SharedMemory;
 use crate::processor::Processor;
 use cell_host::{Host, HostAction};
-use main_memory::Memory;
 
 /// How many values the inbound mailbox takes.
 const INBOUND_PLACES: u32 = 4;
@@ -98,7 +99,7 @@ impl Processor {
 
 /// Does what an action asks of processor `spe`, or leaves all as it is where that isn't allowed.
 fn answer_at(processors: &mut [Processor], spe: u8, action: HostAction) -> Option<Taken>
-    ensures made { (memory : List ℕ) (host : Progress) (M : State) → Shows processors.old memory host M → Leaves result (at_spe M spe (given action)) processors.new memory host }
+    ensures made { (memory : SharedMemory) (host : Progress) (M : State) → Shows processors.old memory host M → Leaves result (at_spe M spe (given action)) processors.new memory host }
     ensures refused { IfNone result (processors.new ≡ processors.old) }
     ensures takes { IfSome result (λ t. is_some t.value ≡ takes action) }
 {
@@ -110,7 +111,7 @@ fn answer_at(processors: &mut [Processor], spe: u8, action: HostAction) -> Optio
 
 /// Whether processor `spe` lets the host do an action.
 fn lets_at(processors: &[Processor], spe: u8, action: HostAction) -> bool
-    ensures { (memory : List ℕ) (host : Progress) (M : State) → Shows processors.now memory host M → result ≡ is_some (at_spe M spe (given action)) }
+    ensures { (memory : SharedMemory) (host : Progress) (M : State) → Shows processors.now memory host M → result ≡ is_some (at_spe M spe (given action)) }
 {
     if spe as usize >= processors.len() {
         return false;
@@ -120,19 +121,23 @@ fn lets_at(processors: &[Processor], spe: u8, action: HostAction) -> bool
 }
 
 /// Does an action, or leaves all as it is where it isn't allowed.
-fn perform(processors: &mut [Processor], memory: &mut Memory, action: HostAction) -> Option<Taken>
+fn perform(
+    processors: &mut [Processor],
+    memory: &mut SharedMemory,
+    action: HostAction,
+) -> Option<Taken>
     requires { Fits (length processors.old) memory.old action }
     ensures made { (host : Progress) (M : State) → Shows processors.old memory.old host M → Leaves result (acted M action) processors.new memory.new host }
     ensures refused { IfNone result ((processors.new ≡ processors.old) × (memory.new ≡ memory.old)) }
     ensures takes { IfSome result (λ t. is_some t.value ≡ takes action) }
-    ensures long { length memory.new ≡ length memory.old }
+    ensures size { HasSameSize memory.old.locks memory.new.locks }
 {
     match action {
         HostAction::Send { spe, .. } => answer_at(processors, spe, action),
         HostAction::Take { spe } => answer_at(processors, spe, action),
         HostAction::TakeIntr { spe } => answer_at(processors, spe, action),
         HostAction::Store { ea, len, bytes } => {
-            memory.copy_in(ea, &bytes[..len as usize]);
+            memory.store(ea, &bytes[..len as usize]);
             Some(Taken { value: None })
         }
         HostAction::Await { spe } => answer_at(processors, spe, action),
@@ -140,11 +145,15 @@ fn perform(processors: &mut [Processor], memory: &mut Memory, action: HostAction
 }
 
 /// Does the next action of the script, or leaves all as it is where there is none or it isn't allowed.
-pub(crate) fn act_host(processors: &mut [Processor], memory: &mut Memory, script: &mut Host) -> bool
+pub(crate) fn act_host(
+    processors: &mut [Processor],
+    memory: &mut SharedMemory,
+    script: &mut Host,
+) -> bool
     requires { IsFit (length processors.old) memory.old script.old }
     ensures made { (M : State) → Shows processors.old memory.old script.old M → MatchBool result (IsSomeAnd (host M) (Shows processors.new memory.new script.new)) (host M ≡ None) }
     ensures refused { OnFalse result ((processors.new ≡ processors.old) × (memory.new ≡ memory.old) × (script.new ≡ script.old)) }
-    ensures long { length memory.new ≡ length memory.old }
+    ensures size { HasSameSize memory.old.locks memory.new.locks }
     ensures script { script.new.script ≡ script.old.script }
 {
     let Some(action) = script.next() else {
@@ -159,7 +168,7 @@ pub(crate) fn act_host(processors: &mut [Processor], memory: &mut Memory, script
 
 /// Whether the next action is there and allowed.
 pub(crate) fn may_act_host(processors: &[Processor], script: &Host) -> bool
-    ensures { (memory : List ℕ) (M : State) → Shows processors.now memory script.now M → result ≡ is_some (host M) }
+    ensures { (memory : SharedMemory) (M : State) → Shows processors.now memory script.now M → result ≡ is_some (host M) }
 {
     let Some(action) = script.next() else {
         return false;

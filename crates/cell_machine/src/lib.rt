@@ -1,11 +1,13 @@
 //! The machine: processors that execute instructions of their local stores, one atomic step at a time, and the record of those steps.
 #![tactic(auto)]
 
+mod atomics;
 mod channels;
 mod commands;
 mod error;
 mod hosts;
 mod machine;
+mod memory;
 mod processor;
 mod setup;
 mod status;

@@ -17,12 +17,15 @@ ghost use Rattle.cell_machine.specs.Limits.{shown, shown_memory};
 ghost use Rattle.cell_machine.specs.Run.{Ran, IsRun, state_of, next_of, spe_of, picked_of, first_of, first_allowed, picked, allowed, is_quiet, IsEnd};
 ghost use Rattle.cell_machine.specs.Order.{IsInOrder};
 ghost use Rattle.cell_machine.specs.Lists.{ListsAreInOrder};
+ghost use Rattle.cell_machine.specs.Locks.{AreLocksKept};
+ghost use Rattle.lock_lines.specs.Stands.{HasSameSize};
 ghost use Rattle.cell_machine.specs.Shows.{Shows, AllTwo, ShowsSpe, IsFit, CanGo, AreSettled};
 
 use crate::error::MachineError;
 use crate::hosts::{act_host, may_act_host};
+use crate::memory::SharedMemory;
 use crate::processor::Processor;
-use crate::setup::{MemoryBytes, PlacedBytes, Setup};
+use crate::setup::{PlacedBytes, Setup};
 use crate::status::{End, Refused, Status};
 use cell_base::{Actor, Quad, Step};
 use cell_host::Host;
@@ -36,7 +39,7 @@ use std::marker::Model;
 pub struct Machine {
     setup: Setup,
     processors: Vec<Processor>,
-    memory: Memory,
+    memory: SharedMemory,
     host: Host,
     steps: Vec<Step>,
 }
@@ -55,15 +58,15 @@ impl Model for Machine {
 }
 
 /// Does the step, or leaves all as it is where it isn't allowed.
-fn act(processors: &mut [Processor], memory: &mut Memory, host: &mut Host, s: Step) -> bool
+fn act(processors: &mut [Processor], memory: &mut SharedMemory, host: &mut Host, s: Step) -> bool
     requires fit { IsFit (length processors.old) memory.old host.old }
     requires can { CanGo processors.old memory.old }
     ensures made { (M : State) → Shows processors.old memory.old host.old M → AreSettled M.spes → MatchBool result (IsSomeAnd (act M s) (λ N. Shows processors.new memory.new host.new (settled_in N))) (act M s ≡ None) }
     ensures refused { OnFalse result ((processors.new ≡ processors.old) × (memory.new ≡ memory.old) × (host.new ≡ host.old)) }
-    ensures long { length memory.new ≡ length memory.old }
+    ensures size { HasSameSize memory.old.locks memory.new.locks }
     ensures script { host.new.script ≡ host.old.script }
 {
-    let lines = memory.lines();
+    let lines = memory.bytes.lines();
     match s {
         Step::Exec { spe } => {
             if spe as usize >= processors.len() {
@@ -94,7 +97,12 @@ fn act(processors: &mut [Processor], memory: &mut Memory, host: &mut Host, s: St
             }
             processors[spe as usize].retire_step(cmd)
         }
-        Step::Atomic { .. } => false,
+        Step::Atomic { spe } => {
+            if spe as usize >= processors.len() {
+                return false;
+            }
+            processors[spe as usize].atomic_step(memory, spe)
+        }
         Step::Host => act_host(processors, memory, host),
     }
 }
@@ -117,25 +125,11 @@ fn opening_processors(
     Ok(processors)
 }
 
-/// The memory at the start.
-fn opening_memory(alloc: Global, lines: u32, pieces: &[MemoryBytes]) -> Result<Memory, MachineError>
-    requires lines { (0 < lines) × (lines ≤ 32768) }
-    requires fits { All (λ x. x.at + length x.bytes.items ≤ 128 * lines) pieces.now }
-    ensures filled { IfOk result (λ memory. memory ≡ filled (zeros (128 * lines)) (shown_memory pieces.now)) }
-    ensures long { IfOk result (λ memory. length memory ≡ 128 * lines) }
-{
-    let mut memory = Memory::new(alloc, lines)?;
-    for piece in pieces {
-        memory.copy_in(piece.at, &piece.bytes);
-    }
-    Ok(memory)
-}
-
 /// The first allowed step of the first actor that has one.
 fn first_step(processors: &[Processor], host: &Host) -> Option<Step>
     requires many { length processors.now ≤ 8 }
     requires kept { All (λ c. IsKept c.commands.queue) processors.now }
-    ensures { (memory : List ℕ) (M : State) → Shows processors.now memory host.now M → result ≡ first_allowed M }
+    ensures { (memory : SharedMemory) (M : State) → Shows processors.now memory host.now M → result ≡ first_allowed M }
 {
     let of_spus = first_of_spus(processors);
     if of_spus.is_some() {
@@ -151,7 +145,7 @@ fn first_step(processors: &[Processor], host: &Host) -> Option<Step>
 /// The first allowed instruction.
 fn first_of_spus(processors: &[Processor]) -> Option<Step>
     requires { length processors.now ≤ 8 }
-    ensures { (memory : List ℕ) (host : Progress) (M : State) → Shows processors.now memory host M → result ≡ slice_get (all_of_spus M) 0 }
+    ensures { (memory : SharedMemory) (host : Progress) (M : State) → Shows processors.now memory host M → result ≡ slice_get (all_of_spus M) 0 }
 {
     for spe in 0..processors.len() {
         let processor = &processors[spe];
@@ -166,7 +160,7 @@ fn first_of_spus(processors: &[Processor]) -> Option<Step>
 fn first_of_mfcs(processors: &[Processor]) -> Option<Step>
     requires many { length processors.now ≤ 8 }
     requires kept { All (λ c. IsKept c.commands.queue) processors.now }
-    ensures { (memory : List ℕ) (host : Progress) (M : State) → Shows processors.now memory host M → result ≡ slice_get (all_of_mfcs M) 0 }
+    ensures { (memory : SharedMemory) (host : Progress) (M : State) → Shows processors.now memory host M → result ≡ slice_get (all_of_mfcs M) 0 }
 {
     for spe in 0..processors.len() {
         let processor = &processors[spe];
@@ -180,7 +174,7 @@ fn first_of_mfcs(processors: &[Processor]) -> Option<Step>
 
 /// The host's step, if it is allowed.
 fn first_of_host(processors: &[Processor], host: &Host) -> Option<Step>
-    ensures { (memory : List ℕ) (M : State) → Shows processors.now memory host.now M → result ≡ slice_get (allowed M Actor.Host) 0 }
+    ensures { (memory : SharedMemory) (M : State) → Shows processors.now memory host.now M → result ≡ slice_get (allowed M Actor.Host) 0 }
 {
     if may_act_host(processors, host) {
         Some(Step::Host)
@@ -189,9 +183,9 @@ fn first_of_host(processors: &[Processor], host: &Host) -> Option<Step>
     }
 }
 
-/// Whether no processor runs and no command is outstanding.
+/// Whether no processor runs, no slot is taken and no command is outstanding.
 fn is_quiet(processors: &[Processor]) -> bool
-    ensures { (memory : List ℕ) (host : Progress) (M : State) → Shows processors.now memory host M → result ≡ is_quiet M }
+    ensures { (memory : SharedMemory) (host : Progress) (M : State) → Shows processors.now memory host M → result ≡ is_quiet M }
 {
     for processor in processors {
         if !processor.is_quiet() {
@@ -204,7 +198,7 @@ fn is_quiet(processors: &[Processor]) -> bool
 /// The allowed step of the actor at the place that is the choice's remainder.
 fn nth_step(processors: &[Processor], host: &Host, actor: Actor, choice: u64) -> Option<Step>
     requires { All (λ c. IsKept c.commands.queue) processors.now }
-    ensures { (memory : List ℕ) (M : State) → Shows processors.now memory host.now M → result ≡ picked M actor choice }
+    ensures { (memory : SharedMemory) (M : State) → Shows processors.now memory host.now M → result ≡ picked M actor choice }
 {
     match actor {
         Actor::Spu(spe) => {
@@ -236,7 +230,8 @@ impl Machine {
         ensures { IfOk result (λ m. m ≡ record { setup = setup; steps = [] }) }
     {
         let processors = opening_processors(alloc, &setup.entries, &setup.placed)?;
-        let memory = opening_memory(alloc, setup.lines, &setup.memory)?;
+        let spes = setup.entries.len() as u8;
+        let memory = SharedMemory::new(alloc, setup.lines, spes, &setup.memory)?;
         let host = Host::new(alloc, &setup.actions)?;
         let steps = Vec::with_capacity(alloc, setup.budget as usize)?;
         Ok(Machine {
@@ -277,12 +272,14 @@ impl Machine {
 
     /// The steps made so far, which are a run from its setup. Each step of a queued command comes after the commands that go
     /// before it are complete (CBEA, "Command ordering"), and what is complete stays complete. The elements of a list are read
-    /// in their order, each after the one before it was copied and, where it stalls, acknowledged.
+    /// in their order, each after the one before it was copied and, where it stalls, acknowledged. A PUTLLC stores exactly where
+    /// its processor's latest GETLLAR or PUTLLC was a GETLLAR of that line and no store has touched the line since.
     pub fn steps(&self) -> &[Step]
         ensures steps { result.now ≡ self.now.steps }
         ensures run { IsRun self.now.setup self.now.steps }
         ensures order { IsInOrder self.now }
         ensures lists { ListsAreInOrder self.now }
+        ensures locks { AreLocksKept self.now }
     {
         &self.steps
     }
@@ -332,10 +329,10 @@ impl Machine {
 
     /// The main memory.
     pub fn memory(&self) -> &Memory
-        ensures memory { IsSomeAnd (state_of self.now) (λ M. M.memory ≡ result.now) }
+        ensures memory { IsSomeAnd (state_of self.now) (λ M. M.memory.bytes ≡ result.now) }
         ensures long { length result.now ≡ 128 * self.now.setup.lines }
     {
-        &self.memory
+        &self.memory.bytes
     }
 
     /// The host: its script, how many of the actions were done, and the values that these took.

@@ -174,11 +174,14 @@ impl Processor {
         }
     }
 
-    /// Whether it doesn't run and has nothing outstanding.
+    /// Whether it doesn't run, its atomic slot is free and it has nothing outstanding.
     pub(crate) fn is_quiet(&self) -> bool
         ensures { (P : Spe) → ShowsSpe self.now P → result ≡ is_quiet_spe P }
     {
         if self.is_running() {
+            return false;
+        }
+        if self.channels.slot().is_some() {
             return false;
         }
         self.queued() == 0

@@ -21,7 +21,7 @@ pub enum Status {
 /// How a run ended.
 #[derive(Clone, Copy, Debug, PartialEq, Eq)]
 pub enum End {
-    /// No step is allowed, no processor runs and nothing is outstanding.
+    /// No step is allowed, no processor runs, no command is outstanding and no atomic slot is taken.
     AllStopped,
     /// No step is allowed otherwise.
     Stuck,

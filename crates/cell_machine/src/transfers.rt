@@ -1,15 +1,20 @@
 //! The steps of queued commands: pieces, the reading of list elements, and retirements.
 
-ghost use Rattle.std.specs.Prelude.{◌≡◌, ℕ, ◌+◌, ◌*◌, ◌≤◌, ◌<◌, length, None, IsSomeAnd, MatchBool, slice_range, if◌then◌else◌};
+ghost use Rattle.std.specs.Prelude.{◌≡◌, ℕ, ◌+◌, ◌≤◌, ◌<◌, List, Option, length, None, IsSomeAnd, MatchBool, slice_range, if◌then◌else◌};
 ghost use Rattle.std.specs.Bool.{OnFalse, OnTrue};
 ghost use Rattle.cell_base.specs.Bytes.{put};
+ghost use Rattle.lock_lines.specs.Stands.{line_count, HasSameSize};
+ghost use Rattle.lock_lines.specs.Versions.{Reserved};
 ghost use Rattle.mfc_queue.specs.Stands.{IsOneOf};
 ghost use Rattle.cell_machine.specs.Spe.{Spe, is_faulted};
+ghost use Rattle.cell_machine.specs.Memory.{MainMemory, stored};
 ghost use Rattle.cell_machine.specs.Moves.{parts_in};
 ghost use Rattle.cell_machine.specs.Kept.{IsKept};
 ghost use Rattle.cell_machine.specs.Tags.{settled};
 ghost use Rattle.cell_machine.specs.Transfers.{may_elem, may_retire, piece, elem, retire, copied, is_put, part_in, told};
+ghost use Rattle.cell_machine.specs.Shows.{ShowsMemory};
 
+use crate::memory::SharedMemory;
 use crate::processor::Processor;
 use crate::status::Status;
 use local_store::LocalStore;
@@ -34,20 +39,21 @@ fn is_put(kind: Kind) -> bool
 }
 
 /// Copies a part from the store to the memory.
-fn put_part(store: &LocalStore, memory: &mut Memory, x: Part)
+pub(crate) fn put_part(store: &LocalStore, memory: &mut SharedMemory, x: Part)
+    requires some { 0 < x.len }
     requires few { x.len ≤ 128 }
     requires store { x.ls + x.len ≤ 262144 }
-    requires memory { x.ea + x.len ≤ length memory.old }
-    ensures bytes { memory.new ≡ put memory.old x.ea (slice_range store.now x.ls (x.ls + x.len)) }
-    ensures long { length memory.new ≡ length memory.old }
+    requires memory { x.ea + x.len ≤ length memory.old.bytes }
+    ensures stores { (m : MainMemory) (reserved : List (Option Reserved)) → ShowsMemory memory.old m reserved → ShowsMemory memory.new (stored m x.ea (slice_range store.now x.ls (x.ls + x.len))) reserved }
+    ensures size { HasSameSize memory.old.locks memory.new.locks }
 {
     let mut bytes = [0; PIECE_BYTES];
     store.copy_out(x.ls, &mut bytes[..x.len as usize]);
-    memory.copy_in(x.ea, &bytes[..x.len as usize]);
+    memory.store(x.ea, &bytes[..x.len as usize]);
 }
 
 /// Copies a part from the memory to the store.
-fn get_part(store: &mut LocalStore, memory: &Memory, x: Part)
+pub(crate) fn get_part(store: &mut LocalStore, memory: &Memory, x: Part)
     requires few { x.len ≤ 128 }
     requires store { x.ls + x.len ≤ 262144 }
     requires memory { x.ea + x.len ≤ length memory.now }
@@ -59,20 +65,21 @@ fn get_part(store: &mut LocalStore, memory: &Memory, x: Part)
 }
 
 /// Copies part `k` of an element between the store and the memory.
-fn copy(store: &mut LocalStore, memory: &mut Memory, put_it: bool, x: Element, k: u32)
+fn copy(store: &mut LocalStore, memory: &mut SharedMemory, put_it: bool, x: Element, k: u32)
     requires few { x.size ≤ 16384 }
     requires store { x.ls + x.size ≤ 262144 }
-    requires memory { x.ea + x.size ≤ length memory.old }
-    requires small { length memory.old ≤ 67108864 }
+    requires memory { x.ea + x.size ≤ length memory.old.bytes }
+    requires small { length memory.old.bytes ≤ 67108864 }
     requires there { k < parts_in x }
-    ensures copied { (P : Spe) → P.store ≡ store.old → copied memory.old P put_it (part_in x k) ≡ record { spe = record P { store = store.new }; memory = memory.new } }
-    ensures long { length memory.new ≡ length memory.old }
+    ensures store { (P : Spe) (m : MainMemory) (reserved : List (Option Reserved)) → ShowsMemory memory.old m reserved → P.store ≡ store.old → (copied m P put_it (part_in x k)).spe ≡ record P { store = store.new } }
+    ensures memory { (P : Spe) (m : MainMemory) (reserved : List (Option Reserved)) → ShowsMemory memory.old m reserved → P.store ≡ store.old → ShowsMemory memory.new (copied m P put_it (part_in x k)).memory reserved }
+    ensures size { HasSameSize memory.old.locks memory.new.locks }
 {
     let y = part(x.ls, x.ea, x.size, k);
     if put_it {
         put_part(store, memory, y);
     } else {
-        get_part(store, memory, y);
+        get_part(store, &memory.bytes, y);
     }
 }
 
@@ -97,12 +104,12 @@ impl Processor {
     }
 
     /// Copies a part, if that is allowed.
-    fn piece(&mut self, memory: &mut Memory, cmd: u32, elem: u16, k: u16) -> bool
-        requires can { (lines : ℕ) × (length memory.old ≡ 128 * lines) × CanStep lines self.old }
-        requires small { length memory.old ≤ 67108864 }
-        ensures made { (P : Spe) → ShowsSpe self.old P → MatchBool result (IsSomeAnd (piece memory.old P cmd elem k) (λ x. ShowsSpe self.new x.spe × (x.memory ≡ memory.new))) (piece memory.old P cmd elem k ≡ None) }
+    fn piece(&mut self, memory: &mut SharedMemory, cmd: u32, elem: u16, k: u16) -> bool
+        requires can { CanStep (line_count memory.old.locks) self.old }
+        requires small { length memory.old.bytes ≤ 67108864 }
+        ensures made { (P : Spe) (m : MainMemory) (reserved : List (Option Reserved)) → ShowsSpe self.old P → ShowsMemory memory.old m reserved → MatchBool result (IsSomeAnd (piece m P cmd elem k) (λ x. ShowsSpe self.new x.spe × ShowsMemory memory.new x.memory reserved)) (piece m P cmd elem k ≡ None) }
         ensures refused { OnFalse result ((self.new ≡ self.old) × (memory.new ≡ memory.old)) }
-        ensures long { length memory.new ≡ length memory.old }
+        ensures size { HasSameSize memory.old.locks memory.new.locks }
     {
         if self.is_faulted() {
             return false;
@@ -181,12 +188,18 @@ impl Processor {
     }
 
     /// Makes a piece and settles, or leaves all as it is where the piece isn't allowed.
-    pub(crate) fn piece_step(&mut self, memory: &mut Memory, cmd: u32, elem: u16, k: u16) -> bool
-        requires can { (lines : ℕ) × (length memory.old ≡ 128 * lines) × CanStep lines self.old }
-        requires small { length memory.old ≤ 67108864 }
-        ensures made { (P : Spe) → ShowsSpe self.old P → MatchBool result (IsSomeAnd (piece memory.old P cmd elem k) (λ x. ShowsSpe self.new (settled x.spe) × (x.memory ≡ memory.new))) (piece memory.old P cmd elem k ≡ None) }
+    pub(crate) fn piece_step(
+        &mut self,
+        memory: &mut SharedMemory,
+        cmd: u32,
+        elem: u16,
+        k: u16,
+    ) -> bool
+        requires can { CanStep (line_count memory.old.locks) self.old }
+        requires small { length memory.old.bytes ≤ 67108864 }
+        ensures made { (P : Spe) (m : MainMemory) (reserved : List (Option Reserved)) → ShowsSpe self.old P → ShowsMemory memory.old m reserved → MatchBool result (IsSomeAnd (piece m P cmd elem k) (λ x. ShowsSpe self.new (settled x.spe) × ShowsMemory memory.new x.memory reserved)) (piece m P cmd elem k ≡ None) }
         ensures refused { OnFalse result ((self.new ≡ self.old) × (memory.new ≡ memory.old)) }
-        ensures long { length memory.new ≡ length memory.old }
+        ensures size { HasSameSize memory.old.locks memory.new.locks }
     {
         if !self.piece(memory, cmd, elem, k) {
             return false;

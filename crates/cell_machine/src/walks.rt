@@ -1,13 +1,13 @@
-//! The allowed steps of a flow controller, in the order of its commands and of their parts.
+//! The allowed steps of a flow controller: that of its atomic command, then those of its queued ones in the order of their numbers and parts.
 
-ghost use Rattle.std.specs.Prelude.{◌≡◌, ℕ, ◌%◌, ◌<◌, ◌≤◌, List, [], ◌∷◌, Some, length, filter, slice_get, if◌then◌else◌};
+ghost use Rattle.std.specs.Prelude.{◌≡◌, ℕ, ◌%◌, ◌<◌, ◌≤◌, List, [], ◌∷◌, Some, length, filter, flat_map, slice_get, if◌then◌else◌};
 ghost use Rattle.std.specs.Option.{option_map_or};
 ghost use Rattle.mfc_queue.specs.At.{IsAt};
 ghost use Rattle.mfc_queue.specs.Stands.{IsOneOf};
 ghost use Rattle.mfc_command.specs.declared.command.Command.{Command};
 ghost use Rattle.cell_machine.specs.Spe.{Spe};
-ghost use Rattle.cell_machine.specs.Moves.{present};
-ghost use Rattle.cell_machine.specs.Run.{pieces_of};
+ghost use Rattle.cell_machine.specs.Moves.{present, outstanding};
+ghost use Rattle.cell_machine.specs.Run.{pieces_of, steps_of_number};
 ghost use Rattle.cell_machine.specs.Kept.{IsKept};
 ghost use Rattle.cell_machine.specs.Choices.{may, allowed_of_number, allowed_of_mfc};
 
@@ -69,10 +69,10 @@ impl Processor {
         }
     }
 
-    /// The allowed step at place `n`, or how far `n` is behind the last one.
-    fn step_of_mfc(&self, spe: u8, n: u64) -> Result<Step, u64>
+    /// The allowed step of a queued command at place `n`, or how far `n` is behind the last one.
+    fn step_of_queue(&self, spe: u8, n: u64) -> Result<Step, u64>
         requires { IsKept self.now.commands.queue }
-        ensures { (P : Spe) → ShowsSpe self.now P → IsAt result n (allowed_of_mfc spe P) }
+        ensures { (P : Spe) → ShowsSpe self.now P → IsAt result n (filter (may P) (flat_map (steps_of_number spe P) (outstanding P))) }
     {
         let mut next = 0;
         let mut rest = n;
@@ -84,6 +84,17 @@ impl Processor {
             next = cmd + 1;
         }
         Err(rest)
+    }
+
+    /// The allowed step at place `n`, or how far `n` is behind the last one: that of the atomic command stands before the others.
+    fn step_of_mfc(&self, spe: u8, n: u64) -> Result<Step, u64>
+        requires { IsKept self.now.commands.queue }
+        ensures { (P : Spe) → ShowsSpe self.now P → IsAt result n (allowed_of_mfc spe P) }
+    {
+        match alone(Step::Atomic { spe }, self.may_atomic(), n) {
+            Ok(step) => Ok(step),
+            Err(behind) => self.step_of_queue(spe, behind),
+        }
     }
 
     /// The first allowed step.

@@ -66,11 +66,11 @@ shows-more f out made new own shows i d inside same before wrote =
     ∙ ap (λ t. out ++ t) (ap (λ t. flat_map f (take i shows) ++ t) (sym (append-nil (f s))) ∙ sym (flat_map-append f (take i shows) (s ∷ [])) ∙ ap (flat_map f) (sym more))
 
 -- the bytes of main memory
-pub memory_there : (o : Option State) (memory : List ℕ) (M : State) → o ≡ Some M → IsSomeAnd o (λ N. N.memory ≡ memory) → M.memory ≡ memory
+pub memory_there : (o : Option State) (memory : List ℕ) (M : State) → o ≡ Some M → IsSomeAnd o (λ N. N.memory.bytes ≡ memory) → M.memory.bytes ≡ memory
 memory_there o memory M e h = rw e at h
 
 pub memory_shown : {T E : Type 0} (r : Result T E) (o : Option State) (out new : List ℕ) (at len : ℕ) (memory bytes : List ℕ) (show : Show) → show ≡ Memory at len
-    → IsSomeAnd o (λ M. M.memory ≡ memory) → bytes ≡ slice_range memory at (at + len)
+    → IsSomeAnd o (λ M. M.memory.bytes ≡ memory) → bytes ≡ slice_range memory at (at + len)
     → OnOk r (new ≡ out ++ memory_line at bytes) → OnOk r ((M : State) → o ≡ Some M → new ≡ out ++ show_line M show)
 memory_shown (Ok x) o out new at len memory bytes show is own read wrote = λ M stands.
     rw is (wrote ∙ ap (λ t. out ++ memory_line at t) (read ∙ ap (λ s. slice_range s at (at + len)) (sym (memory_there o memory M stands own))))

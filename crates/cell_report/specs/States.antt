@@ -102,7 +102,7 @@ local_line p at bytes = codes "ls " ++ decimal p ++ codes " 0x" ++ hex 5 at ++ c
 
 -- a range of main memory or of a local store
 abbrev pub show_line : State → Show → List ℕ
-show_line M (Memory at len) = memory_line at (slice_range M.memory at (at + len))
+show_line M (Memory at len) = memory_line at (slice_range M.memory.bytes at (at + len))
 show_line M (Local p at len) = local_line p at (local_bytes at len (slice_get M.spes p))
 
 -- the states of M, whose end word this is, and the ranges that are shown

@@ -1,0 +1,9 @@
+ila $3,0x1000
+wrch $ch16,$3
+stqd $3,0($3)
+rdch $4,$ch29
+il $5,0xb0
+wrch $ch21,$5
+rdch $6,$ch27
+wrch $ch28,$6
+stop 0

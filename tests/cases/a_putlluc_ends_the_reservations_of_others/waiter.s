@@ -1,0 +1,11 @@
+ila $3,0x1000
+wrch $ch16,$3
+il $4,0xd0
+wrch $ch21,$4
+rdch $5,$ch27
+wrch $ch28,$5
+rdch $6,$ch29
+il $7,0xb4
+wrch $ch21,$7
+rdch $8,$ch27
+stop 0

@@ -1,0 +1,19 @@
+il $3,0x1000
+wrch $ch18,$3
+il $4,8
+wrch $ch19,$4
+il $5,0x44
+wrch $ch21,$5
+il $6,15
+wrch $ch18,$0
+il $7,0x42
+again: wrch $ch21,$7
+ai $6,$6,-1
+brnz $6,again
+rchcnt $8,$ch21
+ila $9,0x1080
+wrch $ch16,$9
+il $10,0xd0
+wrch $ch21,$10
+rdch $11,$ch27
+wrch $ch21,$7
