@@ -13,3 +13,6 @@ pub mod Staying
 pub mod Bounds
 pub mod Places
 pub mod Completion
+pub mod MemoryShown
+pub mod AtomicSteps
+pub mod LocksKept
