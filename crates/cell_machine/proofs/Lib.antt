@@ -13,3 +13,5 @@ pub mod Staying
 pub mod Bounds
 pub mod Places
 pub mod Completion
+pub mod ListsGo
+pub mod CommandsShown
