@@ -11,7 +11,7 @@ use Rattle.cell_machine.specs.Channels.{with_issued, with_resumed}
 use Rattle.cell_machine.specs.Transfers.{with_done, with_read, with_retired}
 use Rattle.cell_machine.specs.Moves.{is_complete, is_complete_as, is_moved, is_at_rest, are_all_there, was_retired, elements_of, elements_in, read_of, present, is_done, is_finished, is_resumed, stall_of, stalls_behind, is_stalled, parts_in}
 
-any_more : {X : Type 0} (f : X → Bool) (xs ys : List X) → list_any f xs ≡ true → list_any f (xs ++ ys) ≡ true
+pub any_more : {X : Type 0} (f : X → Bool) (xs ys : List X) → list_any f xs ≡ true → list_any f (xs ++ ys) ≡ true
 any_more f [] ys h = absurd (true≢false (sym h))
 any_more f (x ∷ xs) ys h = on (f x) h (any_more f xs ys)
   where
@@ -19,7 +19,7 @@ any_more f (x ∷ xs) ys h = on (f x) h (any_more f xs ys)
     on true g k = refl
     on false g k = k g
 
-all_more : {X : Type 0} (f g : X → Bool) (xs : List X) → ((x : X) → f x ≡ true → g x ≡ true) → list_all f xs ≡ true → list_all g xs ≡ true
+pub all_more : {X : Type 0} (f g : X → Bool) (xs : List X) → ((x : X) → f x ≡ true → g x ≡ true) → list_all f xs ≡ true → list_all g xs ≡ true
 all_more f g [] k h = refl
 all_more f g (x ∷ xs) k h = on (f x) (g x) h (k x) (all_more f g xs k)
   where
@@ -74,7 +74,7 @@ finished-more : (m n : Moves) (c : ℕ) (x : Element) → IsMore m n c → is_fi
 unfolding is_finished
 finished-more m n c x more h = all_more (is_done m.done c x.number) (is_done n.done c x.number) (range_with_len 0 (parts_in x)) (more.done x.number) h
 
-both : (a b : Bool) → (a && b) ≡ true → (a ≡ true) × (b ≡ true)
+pub both : (a b : Bool) → (a && b) ≡ true → (a ≡ true) × (b ≡ true)
 both true b h = (refl, h)
 both false b h = absurd (true≢false (sym h))
 
@@ -82,7 +82,7 @@ join : (a b : Bool) → a ≡ true → b ≡ true → (a && b) ≡ true
 join true b p q = q
 join false b p q = absurd (true≢false (sym p))
 
-not_true : (b : Bool) → not b ≡ true → b ≡ false
+pub not_true : (b : Bool) → not b ≡ true → b ≡ false
 not_true false h = refl
 not_true true h = absurd (true≢false (sym h))
 
@@ -161,7 +161,7 @@ retired-keeps m d c h = on_issued (is_complete_as m c) (is_complete_as (with_ret
       retired = any_more (λ r. r == c) m.retired (d ∷ []);
     })) h
 
-other-read : (reads : List ElementRead) (c d : ℕ) (x : Element) → (d == c) ≡ false
+pub other-read : (reads : List ElementRead) (c d : ℕ) (x : Element) → (d == c) ≡ false
     → map (λ (r : ElementRead). r.element) (filter (λ r. r.cmd == c) (reads ++ record { cmd = d; element = x } ∷ [])) ≡ map (λ (r : ElementRead). r.element) (filter (λ r. r.cmd == c) reads)
 other-read [] c d x p = ap (λ b. map (λ (r : ElementRead). r.element) (cond b (record { cmd = d; element = x } ∷ []) [])) p
 other-read (r ∷ reads) c d x p = on (filter (λ r. r.cmd == c) (reads ++ record { cmd = d; element = x } ∷ [])) (filter (λ r. r.cmd == c) reads) (r.cmd == c) (other-read reads c d x p)
