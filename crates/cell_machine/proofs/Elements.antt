@@ -12,7 +12,7 @@ use Rattle.mfc_lists.proofs.ReadingLemmas.{last_or-snoc}
 use Rattle.cell_machine.specs.Spe.{Moves, Stall, PartDone, ElementRead}
 use Rattle.cell_machine.specs.Channels.{with_issued, with_resumed}
 use Rattle.cell_machine.specs.Transfers.{with_done, with_read, with_retired, has_part, is_part_left, has_element}
-use Rattle.cell_machine.specs.Moves.{is_moved, read_of, whole, elements_of, are_all_there, is_at_rest, present, parts_in, is_done, is_finished, is_resumed, stalls_behind, stall_of, is_stalled}
+use Rattle.cell_machine.specs.Moves.{is_moved, read_of, whole, elements_in, elements_of, are_all_there, is_at_rest, present, parts_in, is_done, is_finished, is_resumed, stalls_behind, stall_of, is_stalled}
 use Rattle.cell_machine.specs.MovesShown.{AreElements, IsUntouched}
 use Rattle.cell_machine.proofs.Staying.{any_more, all_more, other-read, both, not_true}
 
@@ -184,6 +184,7 @@ same-elements m n c d read done was els =
     let elements : elements_of n.read c d ≡ elements_of m.read c d = ap (λ xs. cond (is_list d.kind) xs (whole d ∷ [])) read in
     let last : present n.read c d ≡ present m.read c d = present-last n.read c d ∙ ap (λ xs. last_or None xs) elements ∙ sym (present-last m.read c d) in
     record {
+      few = subst (λ l. length l ≤ elements_in d) (sym elements) els.few;
       numbers = λ i x e. els.numbers i x (ap (λ l. slice_get l i) (sym elements) ∙ e);
       earlier = λ i x y e p b. finished-same m.done n.done c x done ∙ els.earlier i x y (ap (λ l. slice_get l i) (sym elements) ∙ e) (sym last ∙ p) b;
       later = λ e k b. done e k ∙ els.later e k (subst (λ l. length l ≤ e) elements b);
@@ -227,6 +228,7 @@ elements-read m c d x has number els =
     let longer : length (elements_of (with_read m c x).read c d) ≡ length (read_of m.read c) + 1 = ap length now ∙ grind (arith, length-append) in
     let last : present (with_read m c x).read c d ≡ Some x = present-last (with_read m c x).read c d ∙ ap (λ xs. last_or None xs) now ∙ last_or-snoc None (read_of m.read c) x in
     record {
+      few = let most = els.few in let less : (length (elements_of m.read c d) == elements_in d) ≡ false = may.left in one_less (length (elements_of m.read c d)) (elements_in d) _ most less (omega (arith, longer, size));
       numbers = λ i y e. numbered may.list i y (came (read_of m.read c) x i y (ap (λ l. slice_get l i) (sym now) ∙ e));
       earlier = λ i y z e p b. let same : z ≡ x = some_same z x (sym p ∙ last) in ended_before may.finished i y (came (read_of m.read c) x i y (ap (λ l. slice_get l i) (sym now) ∙ e)) (subst (λ w. i < w.number) same b);
       later = λ e k b. els.later e k (omega (arith, b, longer, size));
@@ -234,6 +236,9 @@ elements-read m c d x has number els =
       resumed = λ y p left. let same : y ≡ x = some_same y x (sym p ∙ last) in subst (λ w. is_resumed m.resumed c w.number ≡ false) (sym same) (els.not_resumed x.number (omega (arith, number, size)));
     }
   where
+    one_less : (a b n : ℕ) → a ≤ b → (a == b) ≡ false → n ≡ a + 1 → n ≤ b
+    one_less a b n h e g = grind (arith, nat_tests)
+
     some_same : (a b : Element) → Some a ≡ Some b → a ≡ b
     some_same a b e = cc
 
@@ -267,6 +272,7 @@ elements-done m c e k d has els =
     let last = last-number m c d of.element els of.there in
     let number = of.number in
     record {
+      few = els.few;
       numbers = els.numbers;
       earlier = λ i y z g q b. done-more m c e k c y (els.earlier i y z g q b);
       later = λ f j b. later-done m.done c e f k j (omega (arith, last, number, b)) ∙ els.later f j b;
@@ -287,6 +293,7 @@ AreStallsOf m c d stalls = (e : ℕ) → list_any (is_stall_of c e) stalls ≡ t
 
 pub elements-acknowledged : (m : Moves) (c : ℕ) (d : Command) (stalls : List Stall) → AreStallsOf m c d stalls → AreElements m c d → AreElements (with_resumed m stalls) c d
 elements-acknowledged m c d stalls own els = record {
+  few = els.few;
   numbers = els.numbers;
   earlier = els.earlier;
   later = els.later;
@@ -344,6 +351,7 @@ elements-issued m d fresh = on (is_list d.kind) refl
         let none : elements_of m.read (length m.issued) d ≡ [] = list-elements m.read (length m.issued) d h ∙ empty (read_of m.read (length m.issued)) fresh.read in
         let absent : present m.read (length m.issued) d ≡ None = present-last m.read (length m.issued) d ∙ ap (λ xs. last_or None xs) none in
         record {
+          few = let size = ap length none in omega (arith, size);
           numbers = λ n x e. nothing n x (ap (λ l. slice_get l n) (sym none) ∙ e);
           earlier = λ n x y e p b. no_one y (sym absent ∙ p);
           later = λ e k b. fresh.done e k;
@@ -354,6 +362,7 @@ elements-issued m d fresh = on (is_list d.kind) refl
         let one : elements_of m.read (length m.issued) d ≡ whole d ∷ [] = rw h refl in
         let there : present m.read (length m.issued) d ≡ Some (whole d) = present-last m.read (length m.issued) d ∙ ap (λ xs. last_or None xs) one in
         record {
+          few = subst (λ l. length l ≤ elements_in d) (sym one) (rw h (omega arith));
           numbers = λ n x e. at_whole n x (ap (λ l. slice_get l n) (sym one) ∙ e);
           earlier = λ n x y e p b. let z = last_whole y (sym there ∙ p) in absurd (omega (arith, z, b));
           later = λ e k b. fresh.done e k;
