@@ -14,3 +14,4 @@ pub mod Staying
 pub mod Bounds
 pub mod Places
 pub mod Completion
+pub mod Elements
