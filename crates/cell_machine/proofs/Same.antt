@@ -216,7 +216,7 @@ same-stall m n c d s =
     ∙ ap (λ xs. stall_by c (is_done m.done c) (is_resumed m.resumed c) (elements_by d xs)) s.read
     ∙ sym (stall-as m c d)
 
-same-complete_as : (m n : Moves) (c : ℕ) (d : Command) → SameOf m n c → is_complete_as n c d ≡ is_complete_as m c d
+pub same-complete_as : (m n : Moves) (c : ℕ) (d : Command) → SameOf m n c → is_complete_as n c d ≡ is_complete_as m c d
 same-complete_as m n c d s =
     complete-as n c d
     ∙ ap (λ f. complete_by c d f (is_resumed n.resumed c) (was_retired n.retired c) (elements_of n.read c d)) s.done
@@ -258,6 +258,7 @@ same-elements m n c d s els =
     let elements : elements_of m.read c d ≡ elements_of n.read c d = ap (elements_by d) (sym s.read) in
     let last : present m.read c d ≡ present n.read c d = sym (same-present m n c d s) in
     record {
+      few = subst (λ l. length l ≤ elements_in d) elements els.few;
       numbers = λ i x e. els.numbers i x (ap (λ l. slice_get l i) elements ∙ e);
       earlier = λ i x y e p b. ap (λ f. ended f x) s.done ∙ els.earlier i x y (ap (λ l. slice_get l i) elements ∙ e) (last ∙ p) b;
       later = λ e k b. ap (λ f. f e k) s.done ∙ els.later e k (subst (λ l. length l ≤ e) (sym elements) b);
