@@ -9,6 +9,7 @@ pub mod ChannelSteps
 pub mod HostSteps
 pub mod Same
 pub mod MovesShown
+pub mod ListsGo
 pub mod SpeShown
 pub mod Staying
 pub mod Bounds

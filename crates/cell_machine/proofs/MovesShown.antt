@@ -60,7 +60,7 @@ pub complete-unfinished : (m : Moves) (c : ℕ) (d : Command) (x : Element) → 
     → is_complete m c ≡ false
 complete-unfinished m c d x at moved p h = complete-at m c d at ∙ as-unfinished m c d x moved p h
 
-unfinished : (m : Moves) (c k : ℕ) (x : Element) → k < parts_in x → is_done m.done c x.number k ≡ false → is_finished m.done c x ≡ false
+pub unfinished : (m : Moves) (c k : ℕ) (x : Element) → k < parts_in x → is_done m.done c x.number k ≡ false → is_finished m.done c x ≡ false
 unfolding is_finished
 unfinished m c k x within left = range-fails (is_done m.done c x.number) 0 (parts_in x) k (omega arith) (omega (arith, within)) left
 
@@ -222,7 +222,7 @@ pub others-mark : (calls : List Call) (m : Moves) (c e k : ℕ) (d : Command) �
     → ShowsOthers (calls ++ Mark c k ∷ []) (with_done m c e k) c
 others-mark calls m c e k d shows at list has = others-marked calls m c e k d shows at has
 
-not_not : (b : Bool) → b ≡ not (not b)
+pub not_not : (b : Bool) → b ≡ not (not b)
 not_not true = refl
 not_not false = refl
 
@@ -285,7 +285,7 @@ left-moved m c d rest els =
     let differs : length (elements_of m.read c d) ≢ elements_in d = eq_not _ _ rest.left in
     list-moved d rest.list (nonempty d (length (elements_of m.read c d)) rest.list (let few = els.few in omega (arith, few, differs)))
 
-present-list : (read : List ElementRead) (c : ℕ) (d : Command) → is_list d.kind ≡ true → present read c d ≡ last_or None (read_of read c)
+pub present-list : (read : List ElementRead) (c : ℕ) (d : Command) → is_list d.kind ≡ true → present read c d ≡ last_or None (read_of read c)
 unfolding present
 present-list read c d h = rw h refl
 
