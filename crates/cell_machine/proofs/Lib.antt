@@ -7,6 +7,7 @@ pub mod AnyStep
 pub mod Execs
 pub mod ChannelSteps
 pub mod HostSteps
+pub mod Same
 pub mod MovesShown
 pub mod SpeShown
 pub mod Staying
