@@ -7,11 +7,13 @@ pub mod AnyStep
 pub mod Execs
 pub mod ChannelSteps
 pub mod HostSteps
+pub mod Same
 pub mod MovesShown
+pub mod ListsGo
 pub mod SpeShown
 pub mod Staying
 pub mod Bounds
 pub mod Places
 pub mod Completion
-pub mod ListsGo
 pub mod CommandsShown
+pub mod Elements
