@@ -17,3 +17,4 @@ pub mod Places
 pub mod Completion
 pub mod CommandsShown
 pub mod Elements
+pub mod Acknowledged
