@@ -15,4 +15,5 @@ pub mod Staying
 pub mod Bounds
 pub mod Places
 pub mod Completion
+pub mod CommandsShown
 pub mod Elements
