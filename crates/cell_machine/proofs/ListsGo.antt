@@ -1,6 +1,6 @@
 -- How the reading of a list goes on with what is added to the moves.
-use Rattle.std.proofs.Common.{◌≡◌, ◌≢◌, ℕ, zero, suc, ◌+◌, ◌*◌, ◌/◌, ◌<◌, ◌==◌, ◌&&◌, ◌||◌, not, Bool, true, false, List, [], ◌∷◌, ◌++◌, length, refl, sym, ◌∙◌, ap, true≢false, arith}
-use Rattle.std.specs.Prelude.{Option, Some, None, slice_get, cond, is_some, option_and_then}
+use Rattle.std.proofs.Common.{◌≡◌, ℕ, suc, ◌+◌, ◌*◌, ◌/◌, ◌<◌, ◌==◌, ◌&&◌, ◌||◌, not, Bool, true, false, List, [], ◌∷◌, ◌++◌, length, refl, sym, ◌∙◌, ap, true≢false, arith}
+use Rattle.std.specs.Prelude.{Some, None, slice_get, cond, is_some, option_and_then}
 use Rattle.std.specs.List.{list_any, list_all, last_or}
 use Rattle.mfc_command.specs.declared.command.Command.{Command}
 use Rattle.mfc_command.specs.Order.{is_list}
@@ -12,8 +12,8 @@ use Rattle.cell_machine.specs.Moves.{read_of, elements_of, present, is_done, is_
 use Rattle.cell_machine.specs.Transfers.{has_part, has_element, next_at, with_done, with_read, with_retired}
 use Rattle.cell_machine.specs.Channels.{with_issued, with_resumed}
 use Rattle.cell_machine.specs.MovesShown.{AreElements, IsUntouched, reading}
-use Rattle.cell_machine.proofs.Same.{and-left, and-right, eq_is, eq_not, eq_same, all-snoc, last-fails, empty, some_same, SameOf, same-stall, a_stall, ended, read-more, done-elsewhere, read-elsewhere, resumed-elsewhere, issued-elsewhere}
-use Rattle.cell_machine.proofs.Elements.{snoc-of-all, get-snoc, list-elements, done-more, part-is, stall-is}
+use Rattle.cell_machine.proofs.Same.{eq_not, eq_same, get-last, snoc-of-all, all-snoc, last-fails, empty, some_same, SameOf, same-stall, a_stall, ended, read-more, done-elsewhere, read-elsewhere, resumed-elsewhere, issued-elsewhere}
+use Rattle.cell_machine.proofs.Elements.{list-elements, finished-more, part-is, stall-is}
 use Rattle.cell_machine.proofs.MovesShown.{unfinished, present-list, not_not}
 
 -- ---- a reading by its parts
@@ -52,7 +52,7 @@ all-last : (f : Element → Bool) (xs : List Element) (x : Element) → last_or 
     → list_all f xs ≡ f x
 all-last f xs x e numbers earlier =
     let s = snoc-of-all xs x e in
-    let at : slice_get xs (length s.0) ≡ Some x = ap (λ l. slice_get l (length s.0)) s.1 ∙ get-snoc s.0 x in
+    let at : slice_get xs (length s.0) ≡ Some x = ap (λ l. slice_get l (length s.0)) s.1 ∙ get-last s.0 x in
     let number : x.number ≡ length s.0 = numbers (length s.0) x at in
     ap (λ l. list_all f l) s.1 ∙ all-snoc f s.0 x (all-each f s.0 (x ∷ []) (λ n y g b. earlier n y (ap (λ l. slice_get l n) s.1 ∙ g) (omega (arith, number, b))))
 
@@ -164,7 +164,7 @@ part-done m c d x k h els p =
     same-made d _ _ _ _ _ _ refl
     (ap not (all-last (is_finished (with_done m c x.number k).done c) (read_of m.read c) x (sym (present-list m.read c d h) ∙ p)
     (λ n y e. els.numbers n y (ap (λ l. slice_get l n) same ∙ e))
-    (λ n y e b. done-more m c x.number k c y (els.earlier n y x (ap (λ l. slice_get l n) same ∙ e) p b))))
+    (λ n y e b. finished-more m c x.number k c y (els.earlier n y x (ap (λ l. slice_get l n) same ∙ e) p b))))
     (stalled-behind (with_done m c x.number k) c d x p)
 
 -- a part that isn't the last leaves the reading
