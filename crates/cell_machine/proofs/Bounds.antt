@@ -1,6 +1,7 @@
 -- What a step does to the commands and the tags of the processors.
 use Rattle.std.proofs.Common.{◌≡◌, ℕ, zero, suc, ◌+◌, ◌<◌, ◌≤◌, ◌==◌, List, [], ◌∷◌, ◌++◌, map, length, arith, refl, sym, ◌∙◌, ap, subst, slice_set, true, false, Bool, ◌⊎◌, inl, inr, length-append, true≢false}
 use Rattle.std.specs.Prelude.{Option, Some, None, IsSomeAnd, IfSome, MatchBool, slice_get, option_map, option_and_then, nat_lt, is_some, cond, Result, Ok, Err}
+use Rattle.mfc_queue.proofs.AtLemmas.{got-map}
 use Rattle.mfc_command.specs.declared.command.Command.{Command}
 use Rattle.mfc_command.specs.declared.command.Kind.{Kind}
 use Rattle.mfc_command.specs.declared.command.Kind.TheVariants.{Put, Get, PutList, GetList, Barrier}
@@ -359,13 +360,8 @@ kept_at lines old new p P at (inr x) =
     (x.is, subst (λ xs. slice_get xs p ≡ Some x.is) (sym x.set) got, subst (λ (y : Spe). Keeps y.moves x.is.moves) was x.how.1))
     (λ got. (P, subst (λ xs. slice_get xs p ≡ Some P) (sym x.set) got, λ c h. h))
 
-got_map : {X Y : Type 0} (f : X → Y) (xs : List X) (q : ℕ) (x : X) → slice_get xs q ≡ Some x → slice_get (map f xs) q ≡ Some (f x)
-got_map f [] q x h = absurd (cc)
-got_map f (y ∷ xs) zero x h = ap (option_map f) h
-got_map f (y ∷ xs) (suc q) x h = got_map f xs q x h
-
 pub act-keeps : (M : State) (s : Step) (N : State) (p : ℕ) (P : Spe) → act M s ≡ Some N → slice_get M.spes p ≡ Some P
     → (Q : Spe) × (slice_get (map settled N.spes) p ≡ Some Q) × Keeps P.moves Q.moves
 act-keeps M s N p P e at =
     let k = kept_at (lines_of M) M.spes N.spes p P at (if_is (act M s) N (λ K. Changes (Grown (lines_of M)) M.spes K.spes) e (act_changes M s)) in
-    (settled k.0, got_map settled N.spes p k.0 k.1, k.2)
+    (settled k.0, got-map settled N.spes p k.0 k.1, k.2)

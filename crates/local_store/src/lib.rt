@@ -45,7 +45,7 @@ impl LocalStore {
     pub fn new(alloc: Global) -> Result<LocalStore, StoreError>
         ensures { IfOk result (λ s. s ≡ zeros 262144) }
     {
-        let bytes = vec![in alloc; 0u8; 262_144]?;
+        let bytes = vec![in alloc; 0u8; STORE_BYTES]?;
         Ok(LocalStore { bytes })
     }
 

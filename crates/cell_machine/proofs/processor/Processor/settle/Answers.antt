@@ -17,6 +17,6 @@ returns c = λ P shows.
       outbound = shows.outbound;
       interrupt = shows.interrupt;
       params = shows.params;
-      tags = rw (b, n, shows.tags) (sym c.settle.ensures);
+      tags = rw (b, n, shows.tags) (sym c.settle.ensures.settled);
       queue = shows.queue;
     }
