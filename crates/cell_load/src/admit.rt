@@ -5,12 +5,15 @@ ghost use Rattle.cell_load.specs.Order.{admit, counted, fits_action, in_line, in
 ghost use Rattle.cell_load.specs.declared.line.Stage.TheVariants.{Start, Headed, Sized, Body};
 
 use crate::line::{Counts, Line, Refusal, Stage};
-use cell_host::{HostAction, MAX_ACTIONS};
+use cell_host::HostAction;
 
 const LOCAL_BYTES: usize = 262_144;
 
 /// How many bytes a line of main memory has.
 const LINE_BYTES: usize = 128;
+
+/// How many actions a script may have.
+const MAX_ACTIONS: u32 = 4096;
 
 /// How many bytes a host action may store.
 const MAX_STORED: usize = 16;
@@ -143,7 +146,7 @@ fn count_action(counts: Counts, action: HostAction) -> Result<Counts, Refusal>
     if !fits_action(counts, action) {
         return Err(Refusal::Form);
     }
-    if counts.actions as usize >= MAX_ACTIONS {
+    if counts.actions >= MAX_ACTIONS {
         return Err(Refusal::Limit);
     }
     let mut next = counts;
