@@ -28,7 +28,7 @@ use Rattle.cell_host.specs.declared.HostAction.{HostAction}
 use Rattle.cell_host.specs.declared.HostAction.TheVariants.{Send, Take, TakeIntr, Store, Await}
 use Rattle.cell_machine.specs.Spe.{Spe, is_running}
 use Rattle.cell_machine.specs.State.{State, with_spe}
-use Rattle.cell_machine.specs.Moves.{has_pieces, busy, is_complete}
+use Rattle.cell_machine.specs.Moves.{has_pieces, busy}
 use Rattle.cell_machine.specs.Tags.{settled}
 use Rattle.cell_machine.specs.Channels.{given as with_value, bad_channel, listed, is_read, is_write, count, channel, read_inbound, read_status, issued_by, commanded, written}
 use Rattle.cell_machine.specs.Exec.{exec, exec_instr, followed}
@@ -42,7 +42,7 @@ use Rattle.cell_machine.specs.declared.processor.Processor.{Processor}
 use Rattle.cell_machine.specs.Shows.{Shows, ShowsSpe, AllTwo, AreSettled, IsBounded, AreBounded}
 use Rattle.cell_machine.proofs.MovesShown.{get-cases}
 use Rattle.mfc_command.proofs.CheckLemmas.{checked-fits}
-use Rattle.cell_machine.proofs.Staying.{Keeps, issued-keeps, done-keeps, retired-keeps}
+use Rattle.cell_machine.proofs.Staying.{Keeps, keeps-same, issued-keeps, done-keeps, retired-keeps}
 use Rattle.cell_machine.proofs.Steps.{settled-set}
 
 -- what holds of each outcome holds of the one that comes
@@ -66,13 +66,13 @@ if_is (Some y) x R e h = let same : y ≡ x = cc in subst R same h
 abbrev HasIssued : ℕ → Spe → Spe → Type 0
 HasIssued lines P Q = (Q.moves.issued ≡ P.moves.issued) ⊎ ((d : Command) × (has_pieces d ≡ true → TransferFits lines d) × (Q.moves.issued ≡ P.moves.issued ++ d ∷ []))
 
--- and each command that was complete is complete still
+-- and each command keeps its number, and is complete still where it was
 abbrev pub Grown : ℕ → Spe → Spe → Type 0
 Grown lines P Q = HasIssued lines P Q × Keeps P.moves Q.moves
 
 -- the commands are as they were
 as_before : (lines : ℕ) (P : Spe) → HasIssued lines P P × Keeps P.moves P.moves
-as_before lines P = (inl refl, λ c h. h)
+as_before lines P = (inl refl, keeps-same P.moves)
 
 kind_fits : (lines : ℕ) (d : Command) (k : Kind) → d.kind ≡ k → KindFits lines d k → has_pieces d ≡ true → TransferFits lines d
 kind_fits lines d Put e fits h = fits
@@ -253,7 +253,7 @@ act_changes M (Piece p c e k) = in_changes (Grown (lines_of M)) (λ P. piece M.m
 act_changes M (Elem p c) = in_changes (Grown (lines_of M)) (λ P. elem P c) (λ Q. Q) M.spes p (with_spe M p) (λ P. elem_grown (lines_of M) P c) (λ Q. refl)
 act_changes M (Retire p c) = in_changes (Grown (lines_of M)) (λ P. retire P c) (λ Q. Q) M.spes p (with_spe M p) (λ P. retire_grown (lines_of M) P c) (λ Q. refl)
 act_changes M (Atomic p) = in_changes (Grown (lines_of M)) atomic (λ Q. Q) M.spes p (with_spe M p) (atomic_grown (lines_of M)) (λ Q. refl)
-act_changes M Host = if_on (host_step M) _ _ (λ N. weaken IsLike (Grown (lines_of M)) M.spes N.spes (λ P Q like. (inl (ap (λ m. m.issued) like.1), λ c h. subst (λ m. is_complete m c ≡ true) (sym like.1) h))) (host_changes M)
+act_changes M Host = if_on (host_step M) _ _ (λ N. weaken IsLike (Grown (lines_of M)) M.spes N.spes (λ P Q like. (inl (ap (λ m. m.issued) like.1), subst (Keeps P.moves) (sym like.1) (keeps-same P.moves)))) (host_changes M)
 
 -- the processors stay settled
 pub settled-after : {R : Spe → Spe → Type 0} (old new : List Spe) → AreSettled old → Changes R old new → AreSettled (map settled new)
@@ -340,7 +340,7 @@ act-bounded M s N lines n same e all =
     settled_bounded lines (n + 1) N.spes (bounded_after lines n M.spes N.spes all
     (subst (λ k. Changes (Grown k) M.spes N.spes) same (if_is (act M s) N (λ K. Changes (Grown (lines_of M)) M.spes K.spes) e (act_changes M s))))
 
--- what was complete is complete still
+-- a command keeps its number, and is complete still where it was
 abbrev KeptAt : Spe → List Spe → ℕ → Type 0
 KeptAt P new p = (Q : Spe) × (slice_get new p ≡ Some Q) × Keeps P.moves Q.moves
 
@@ -352,13 +352,13 @@ set_got (z ∷ xs) (suc p) zero y x G h new old = old h
 set_got (z ∷ xs) (suc p) (suc q) y x G h new old = set_got xs p q y x G h (λ e. new (ap suc e)) old
 
 kept_at : (lines : ℕ) (old new : List Spe) (p : ℕ) (P : Spe) → slice_get old p ≡ Some P → Changes (Grown lines) old new → KeptAt P new p
-kept_at lines old new p P at (inl same) = (P, subst (λ xs. slice_get xs p ≡ Some P) (sym same) at, λ c h. h)
+kept_at lines old new p P at (inl same) = (P, subst (λ xs. slice_get xs p ≡ Some P) (sym same) at, keeps-same P.moves)
 kept_at lines old new p P at (inr x) =
     set_got old x.p p x.is P (KeptAt P new p) at
     (λ e got.
     let was : x.was ≡ P = let a : slice_get old p ≡ Some x.was = subst (λ q. slice_get old q ≡ Some x.was) e x.at in cc in
     (x.is, subst (λ xs. slice_get xs p ≡ Some x.is) (sym x.set) got, subst (λ (y : Spe). Keeps y.moves x.is.moves) was x.how.1))
-    (λ got. (P, subst (λ xs. slice_get xs p ≡ Some P) (sym x.set) got, λ c h. h))
+    (λ got. (P, subst (λ xs. slice_get xs p ≡ Some P) (sym x.set) got, keeps-same P.moves))
 
 pub act-keeps : (M : State) (s : Step) (N : State) (p : ℕ) (P : Spe) → act M s ≡ Some N → slice_get M.spes p ≡ Some P
     → (Q : Spe) × (slice_get (map settled N.spes) p ≡ Some Q) × Keeps P.moves Q.moves

@@ -1,5 +1,5 @@
--- A command that is complete stays complete.
-use Rattle.std.proofs.Common.{◌≡◌, ℕ, zero, suc, ◌==◌, ◌&&◌, ◌||◌, Bool, true, false, List, [], ◌∷◌, ◌++◌, refl, sym, ◌∙◌, ap, true≢false}
+-- A command keeps its number, and one that is complete stays complete.
+use Rattle.std.proofs.Common.{◌≡◌, ℕ, zero, suc, ◌==◌, ◌&&◌, ◌||◌, Bool, true, false, List, [], ◌∷◌, ◌++◌, refl, sym, ◌∙◌, ap, true≢false, append-nil, append_assoc}
 use Rattle.std.specs.Prelude.{Option, Some, None, slice_get, cond}
 use Rattle.std.specs.List.{list_any, list_all, range_with_len}
 use Rattle.std.specs.Option.{option_map_or}
@@ -9,9 +9,21 @@ use Rattle.cell_machine.specs.Moves.{is_done, is_complete, is_complete_by, has_p
 use Rattle.cell_machine.specs.Channels.{with_issued}
 use Rattle.cell_machine.specs.Transfers.{with_done, with_retired}
 
--- each command that is complete in the first is complete in the second
-abbrev pub Keeps : Moves → Moves → Type 0
-Keeps m n = (c : ℕ) → is_complete m c ≡ true → is_complete n c ≡ true
+-- each command that is complete in the first is complete in the second, whose commands are those of the first and later ones
+pub record Keeps (m n : Moves) : Type 0 where
+  pub complete : (c : ℕ) → is_complete m c ≡ true → is_complete n c ≡ true
+  pub later : List Command
+  pub issued : n.issued ≡ m.issued ++ later
+
+pub keeps-same : (m : Moves) → Keeps m m
+keeps-same m = record { complete = λ c h. h; later = []; issued = sym (append-nil m.issued) }
+
+pub keeps-then : (m n o : Moves) → Keeps m n → Keeps n o → Keeps m o
+keeps-then m n o first second = record {
+  complete = λ c h. second.complete c (first.complete c h);
+  later = first.later ++ second.later;
+  issued = second.issued ∙ ap (λ xs. xs ++ second.later) first.issued ∙ append_assoc m.issued first.later second.later;
+}
 
 any_more : {X : Type 0} (f : X → Bool) (xs ys : List X) → list_any f xs ≡ true → list_any f (xs ++ ys) ≡ true
 any_more f [] ys h = absurd (true≢false (sym h))
@@ -45,18 +57,21 @@ by_more f g was is c d parts left h = on (has_pieces d) h
     on true e = all_more f g (range_with_len 0 (pieces_of d)) parts e
     on false e = left e
 
-pub issued-keeps : (m : Moves) (d : Command) → Keeps m (with_issued m d)
+issued_complete : (m : Moves) (d : Command) (c : ℕ) → is_complete m c ≡ true → is_complete (with_issued m d) c ≡ true
 unfolding is_complete is_done
-issued-keeps m d c h = on (slice_get m.issued c) refl h
+issued_complete m d c h = on (slice_get m.issued c) refl h
   where
     on : (o : Option Command) → slice_get m.issued c ≡ o → option_map_or (is_complete_by (is_done m c) m.retired c) o false ≡ true
         → option_map_or (is_complete_by (is_done m c) m.retired c) (slice_get (m.issued ++ d ∷ []) c) false ≡ true
     on None e g = absurd (true≢false (sym g))
     on (Some x) e g = ap (λ o. option_map_or (is_complete_by (is_done m c) m.retired c) o false) (get_more m.issued (d ∷ []) c x e) ∙ g
 
-pub done-keeps : (m : Moves) (d k : ℕ) → Keeps m (with_done m d k)
+pub issued-keeps : (m : Moves) (d : Command) → Keeps m (with_issued m d)
+issued-keeps m d = record { complete = issued_complete m d; later = d ∷ []; issued = refl }
+
+done_complete : (m : Moves) (d k c : ℕ) → is_complete m c ≡ true → is_complete (with_done m d k) c ≡ true
 unfolding is_complete is_done
-done-keeps m d k c h = on (slice_get m.issued c) h
+done_complete m d k c h = on (slice_get m.issued c) h
   where
     on : (o : Option Command) → option_map_or (is_complete_by (is_done m c) m.retired c) o false ≡ true
         → option_map_or (is_complete_by (is_done (with_done m d k) c) m.retired c) o false ≡ true
@@ -64,11 +79,17 @@ done-keeps m d k c h = on (slice_get m.issued c) h
     on (Some x) g = by_more (is_done m c) (is_done (with_done m d k) c) m.retired m.retired c x
         (λ j. any_more (λ (y : PartDone). y.cmd == c && y.part == j) m.done (record { cmd = d; part = k } ∷ [])) (λ e. e) g
 
-pub retired-keeps : (m : Moves) (d : ℕ) → Keeps m (with_retired m d)
+pub done-keeps : (m : Moves) (d k : ℕ) → Keeps m (with_done m d k)
+done-keeps m d k = record { complete = done_complete m d k; later = []; issued = sym (append-nil m.issued) }
+
+retired_complete : (m : Moves) (d c : ℕ) → is_complete m c ≡ true → is_complete (with_retired m d) c ≡ true
 unfolding is_complete is_done
-retired-keeps m d c h = on (slice_get m.issued c) h
+retired_complete m d c h = on (slice_get m.issued c) h
   where
     on : (o : Option Command) → option_map_or (is_complete_by (is_done m c) m.retired c) o false ≡ true
         → option_map_or (is_complete_by (is_done m c) (m.retired ++ d ∷ []) c) o false ≡ true
     on None g = g
     on (Some x) g = by_more (is_done m c) (is_done m c) m.retired (m.retired ++ d ∷ []) c x (λ j e. e) (any_more (λ r. r == c) m.retired (d ∷ [])) g
+
+pub retired-keeps : (m : Moves) (d : ℕ) → Keeps m (with_retired m d)
+retired-keeps m d = record { complete = retired_complete m d; later = []; issued = sym (append-nil m.issued) }

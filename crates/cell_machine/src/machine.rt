@@ -270,7 +270,7 @@ impl Machine {
     }
 
     /// The steps made so far, which are a run from its setup. Each step of a queued command comes after the commands that go
-    /// before it are complete (CBEA, "Command ordering"), and what is complete stays complete.
+    /// before it are complete (CBEA, "Command ordering"), what is complete stays complete, and a command keeps its number.
     pub fn steps(&self) -> &[Step]
         ensures steps { result.now ≡ self.now.steps }
         ensures run { IsRun self.now.setup self.now.steps }

@@ -52,7 +52,7 @@ impl LocalStore {
     /// All bytes, from address 0 on.
     pub fn bytes(&self) -> &[u8]
         ensures all { result.now ≡ self.now }
-        ensures count { length self.now ≡ 262144 }
+        ensures count { length self.now ≡ STORE_BYTES }
     {
         self.bytes.as_slice()
     }

@@ -53,7 +53,7 @@ impl Memory {
 
     /// How many lines of 128 bytes there are.
     pub fn lines(&self) -> u32
-        ensures count { 128 * result ≡ length self.now }
+        ensures count { LINE_BYTES * result ≡ length self.now }
         ensures few { result ≤ 524288 }
     {
         self.lines

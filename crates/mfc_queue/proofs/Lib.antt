@@ -5,3 +5,4 @@ mod SetLemmas
 mod Holding
 mod PlaceLemmas
 mod Before
+mod Groups

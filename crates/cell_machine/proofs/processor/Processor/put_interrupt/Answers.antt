@@ -1,4 +1,4 @@
-use Rattle.std.proofs.Common.{◌≡◌, [], ◌∷◌, sym, ◌∙◌}
+use Rattle.std.proofs.Common.{[], ◌∷◌, sym, ◌∙◌}
 use Rattle.cell_machine.proofs.ChannelSteps.{put-first}
 use Rattle.cell_machine.proofs.processor.Processor.put_interrupt.Goals as goal
 
