@@ -43,3 +43,5 @@ end:	.pushsection .text
 	.text
 	.previous
 	.byte	1
+	.quad	-8>>1		# a shift right fills with zeros
+	.fill	0,1,8

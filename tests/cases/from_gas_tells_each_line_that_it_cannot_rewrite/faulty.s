@@ -33,5 +33,6 @@ f:
 	il	$3,'
 	il	$3,1 2
 	.align	13
+	.text	1
 	.end
 	nonsense
