@@ -10,7 +10,6 @@ pub mod HostSteps
 pub mod Same
 pub mod MovesShown
 pub mod ListsGo
-pub mod Stalls
 pub mod SpeShown
 pub mod Staying
 pub mod Bounds

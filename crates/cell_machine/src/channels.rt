@@ -95,7 +95,7 @@ impl Processor {
         ensures { (P : Spe) → ShowsSpe self.old P → ShowsSpe self.new (given P rt value) }
     {
         self.registers.set(rt, Quad::in_first_word(value));
-        self.pc = next_pc(self.pc);
+        self.go_on();
     }
 
     /// Reads a channel, and says whether that was allowed.
@@ -288,7 +288,7 @@ impl Processor {
         if self.outbound.put(value).is_err() {
             return false;
         }
-        self.pc = next_pc(self.pc);
+        self.go_on();
         true
     }
 
@@ -300,7 +300,7 @@ impl Processor {
         if self.interrupt.put(value).is_err() {
             return false;
         }
-        self.pc = next_pc(self.pc);
+        self.go_on();
         true
     }
 
