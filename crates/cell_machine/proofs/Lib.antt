@@ -18,3 +18,4 @@ pub mod Completion
 pub mod CommandsShown
 pub mod Elements
 pub mod Acknowledged
+pub mod Controllers
