@@ -140,6 +140,9 @@ kept-of lines c can =
     let q = can.shows.queue in
     record { calls = q.calls; stands = q.stands; numbered = let e = ap length q.moves.done.issued in let few = can.bounded.few in omega arith }
 
+pub can-lines : (lines n : ℕ) (c : Processor) → lines ≡ n → CanStep lines c → CanStep n c
+can-lines lines n c same can = subst (λ k. CanStep k c) same can
+
 pub issue-of : (lines : ℕ) (c : Processor) → CanStep lines c → CanIssue c.commands
 issue-of lines c can = record { moves = can.spe.moves; shows = can.shows.queue; few = let few = can.bounded.few in omega arith }
 
