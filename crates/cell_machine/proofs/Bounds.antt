@@ -199,10 +199,22 @@ exec_goes lines p P = if_so (is_running P.status) _ (Goes lines (Exec p) p P)
 not_faulted : (P : Spe) (c : ℕ) (f : Command → Bool) → may_of P c f ≡ true → is_faulted P.status ≡ true → ⊥
 not_faulted P c f h k = true≢false (sym (both (not (is_faulted P.status)) (begins P.moves c f) h).0 ∙ ap not k)
 
+-- which command it is, and that it may begin
+pub may-is : (P : Spe) (c : ℕ) (f : Command → Bool) → may_of P c f ≡ true → (d : Command) × (slice_get P.moves.issued c ≡ Some d) × (f d ≡ true)
+may-is P c f h = on (slice_get P.moves.issued c) refl (both (option_map_or f (slice_get P.moves.issued c) false) (may_begin P.moves c) (both (not (is_faulted P.status)) (begins P.moves c f) h).1).0
+  where
+    on : (o : Option Command) → slice_get P.moves.issued c ≡ o → option_map_or f o false ≡ true → (d : Command) × (slice_get P.moves.issued c ≡ Some d) × (f d ≡ true)
+    on None at g = absurd (true≢false (sym g))
+    on (Some d) at g = (d, at, g)
+
+pub may-begun : (P : Spe) (c : ℕ) (f : Command → Bool) → may_of P c f ≡ true → may_begin P.moves c ≡ true
+may-begun P c f h = (both (option_map_or f (slice_get P.moves.issued c) false) (may_begin P.moves c) (both (not (is_faulted P.status)) (begins P.moves c f) h).1).1
+
 passes : (P : Spe) (c : ℕ) (f : Command → Bool) (d : Command) → may_of P c f ≡ true → slice_get P.moves.issued c ≡ Some d → f d ≡ true
-passes P c f d h at =
-    let begun = (both (not (is_faulted P.status)) (begins P.moves c f) h).1 in
-    ap (λ o. option_map_or f o false) (sym at) ∙ (both (option_map_or f (slice_get P.moves.issued c) false) (may_begin P.moves c) begun).0
+passes P c f d h at = let is = may-is P c f h in let same : is.0 ≡ d = some_same is.0 d (sym is.1 ∙ at) in ap f (sym same) ∙ is.2
+  where
+    some_same : (x y : Command) → Some x ≡ Some y → x ≡ y
+    some_same x y e = cc
 
 told_moves : (b : Bool) (P : Spe) (tag : ℕ) → (cond b (told P tag) P).moves ≡ P.moves
 told_moves true P tag = refl
@@ -267,12 +279,9 @@ elem_goes lines p P c = if_so (may_of P c (has_element P.moves c)) _ (Goes lines
 
 retire_goes : (lines p : ℕ) (P : Spe) (c : ℕ) → IfSome (retire P c) (Goes lines (Retire p c) p P)
 unfolding retire may_retire
-retire_goes lines p P c = if_so (may_of P c (is_left P.moves c)) _ (Goes lines (Retire p c) p P) (λ may. begun may (slice_get P.moves.issued c) refl)
-  where
-    begun : may_of P c (is_left P.moves c) ≡ true → (o : Option Command) → slice_get P.moves.issued c ≡ o → Goes lines (Retire p c) p P (record P { moves = with_retired P.moves c })
-    begun may None at = absurd (true≢false (sym (both (option_map_or (is_left P.moves c) (slice_get P.moves.issued c) false) (may_begin P.moves c) (both (not (is_faulted P.status)) (begins P.moves c (is_left P.moves c)) may).1).0
-        ∙ ap (λ o. option_map_or (is_left P.moves c) o false) at))
-    begun may (Some d) at = record { moved = retires c d refl at (passes P c (is_left P.moves c) d may at) refl; faulted = λ f. absurd (not_faulted P c (is_left P.moves c) may f) }
+retire_goes lines p P c = if_so (may_of P c (is_left P.moves c)) _ (Goes lines (Retire p c) p P) (λ may.
+    let is = may-is P c (is_left P.moves c) may in
+    record { moved = retires c is.0 refl is.1 is.2 refl; faulted = λ f. absurd (not_faulted P c (is_left P.moves c) may f) })
 
 atomic_goes : (lines p : ℕ) (P : Spe) → IfSome (atomic P) (Goes lines (Atomic p) p P)
 unfolding atomic
