@@ -37,7 +37,7 @@ use Rattle.cell_machine.specs.declared.status.Status.{Status}
 use Rattle.cell_machine.specs.declared.status.Status.TheVariants.{Running, Stopped, Halted, BadWord, BadChannel, DmaFault}
 use Rattle.cell_machine.specs.Spe.{Spe, Moves, ElementRead, is_running, is_faulted}
 use Rattle.cell_machine.specs.State.{State, with_spe}
-use Rattle.cell_machine.specs.Moves.{busy, read_of, is_complete, present, is_stalled, are_all_there, stalls_of_tag, may_begin}
+use Rattle.cell_machine.specs.Moves.{busy, read_of, present, is_stalled, are_all_there, stalls_of_tag, may_begin}
 use Rattle.cell_machine.specs.Tags.{settled}
 use Rattle.cell_machine.specs.Channels.{given as with_value, bad_channel, listed, is_read, is_write, is_atomic, count, channel, read_by, read_inbound, read_status, issued_by, commanded, acknowledged, written, with_issued, with_resumed}
 use Rattle.cell_machine.specs.Exec.{exec, exec_instr, followed, asks, asked_by, op_of}
@@ -48,7 +48,7 @@ use Rattle.cell_machine.specs.Next.{act, act_in, own, lines_of, left, with_left,
 use Rattle.cell_machine.specs.Kept.{MovesFit}
 use Rattle.cell_machine.specs.Shows.{Shows, ShowsSpe, AllTwo, AreSettled, IsBounded, AreBounded}
 use Rattle.cell_machine.proofs.MovesShown.{get-cases}
-use Rattle.cell_machine.proofs.Staying.{Keeps, both, issued-keeps, done-keeps, read-keeps, resumed-keeps, retired-keeps}
+use Rattle.cell_machine.proofs.Staying.{Keeps, both, keeps-same, issued-keeps, done-keeps, read-keeps, resumed-keeps, retired-keeps}
 use Rattle.cell_machine.proofs.Elements.{part-is, element-is}
 use Rattle.cell_machine.proofs.Steps.{settled-set}
 
@@ -586,12 +586,12 @@ act-seen M s N p P e at =
     let k = seen_after (lines_of M.memory) s M.spes N.spes p P at (if_is (act M s) N (λ K. Changes (s ≡ Host) (Goes (lines_of M.memory) s) M.spes K.spes) e (act_changes M s)) in
     (settled k.0, got_map settled N.spes p k.0 k.1, seen_settled (lines_of M.memory) s p P k.0 k.2)
 
--- what was complete is complete still
+-- a command keeps its number, and is complete still where it was
 same-keeps : (m n : Moves) → n ≡ m → Keeps m n
-same-keeps m n same c h = subst (λ k. is_complete k c ≡ true) (sym same) h
+same-keeps m n same = subst (Keeps m) (sym same) (keeps-same m)
 
 as-keeps : (m n k : Moves) → k ≡ n → Keeps m n → Keeps m k
-as-keeps m n k same keeps c h = subst (λ l. is_complete l c ≡ true) (sym same) (keeps c h)
+as-keeps m n k same keeps = subst (Keeps m) (sym same) keeps
 
 moved-keeps : (lines : ℕ) (s : Step) (p : ℕ) (P Q : Spe) → Moved lines s p P Q → Keeps P.moves Q.moves
 moved-keeps lines s p P Q (executes of (stays same)) = same-keeps P.moves Q.moves same

@@ -1,5 +1,5 @@
 -- On a run every step of a command stands after the place at which each command that goes before it became complete,
--- and a command that is complete stays complete.
+-- and a command keeps its number, and stays complete where it is.
 use Rattle.std.proofs.Common.{◌≡◌, ◌≢◌, ℕ, zero, suc, ◌+◌, ◌<◌, ◌≤◌, ◌==◌, ◌&&◌, ◌||◌, not, Bool, true, false, List, [], ◌∷◌, ◌++◌, length, arith, refl, sym, ◌∙◌, ap, subst, true≢false}
 use Rattle.std.specs.Prelude.{Option, Some, None, slice_get, nat_lt, filter, map, cond, is_some, option_map, option_and_then}
 use Rattle.std.specs.List.{list_any, range_with_len}
@@ -23,7 +23,7 @@ use Rattle.cell_machine.specs.Order.{is_step_of, IsInOrder}
 use Rattle.cell_machine.proofs.SpeShown.{first_of_both, second_of_both, not_of}
 use Rattle.cell_machine.proofs.MovesShown.{eq_is, eq_not, get-within}
 use Rattle.cell_machine.proofs.Choices.{next-piece, next-elem, next-retire}
-use Rattle.cell_machine.proofs.Staying.{Keeps}
+use Rattle.cell_machine.proofs.Staying.{Keeps, keeps-same, keeps-then}
 use Rattle.cell_machine.proofs.Bounds.{may-begun, act-keeps}
 
 or_off : (a b : Bool) → (a || b) ≡ false → (a ≡ false) × (b ≡ false)
@@ -138,16 +138,15 @@ next-act M s N e = on (act M s) refl e
     on None a g = absurd (cc)
     on (Some K) a g = (K, a, (let same : ended_by M s K ≡ N = cc in ap (λ (x : State). x.spes) same))
 
--- a command that is complete stays complete through these steps
+-- through these steps a command keeps its number, and stays complete where it is
 replay-keeps : (M : State) (steps : List Step) (N : State) (p : ℕ) (P Q : Spe) → replay M steps ≡ Some N → slice_get M.spes p ≡ Some P → slice_get N.spes p ≡ Some Q → Keeps P.moves Q.moves
-replay-keeps M [] N p P Q run at last = let same : P ≡ Q = cc in subst (λ (y : Spe). Keeps P.moves y.moves) same (λ c h. h)
+replay-keeps M [] N p P Q run at last = let same : P ≡ Q = cc in subst (λ (y : Spe). Keeps P.moves y.moves) same (keeps-same P.moves)
 replay-keeps M (s ∷ steps) N p P Q run at last =
     let first = some-of (λ K. replay K steps) (next M s) N run in
     let acted = next-act M s first.0 first.1 in
     let kept = act-keeps M s acted.0 p P acted.1 at in
     let there : slice_get first.0.spes p ≡ Some kept.0 = subst (λ xs. slice_get xs p ≡ Some kept.0) acted.2 kept.1 in
-    let later = replay-keeps first.0 steps N p kept.0 Q first.2 there last in
-    λ c h. later c (kept.2 c h)
+    keeps-then P.moves kept.0.moves Q.moves kept.2 (replay-keeps first.0 steps N p kept.0 Q first.2 there last)
 
 replay-rest : (M : State) (before between : List Step) (N K : State) → replay M before ≡ Some N → replay M (before ++ between) ≡ Some K → replay N between ≡ Some K
 replay-rest M [] between N K e f = let same : M ≡ N = cc in subst (λ L. replay L between ≡ Some K) same f
@@ -155,9 +154,9 @@ replay-rest M (s ∷ before) between N K e f =
     let first = some-of (λ L. replay L before) (next M s) N e in
     replay-rest first.0 before between N K first.2 (subst (λ o. option_and_then (λ L. replay L (before ++ between)) o ≡ Some K) first.1 f)
 
-run-stays : (S : Opening) (before between : List Step) (p : ℕ) (P Q : Spe) → spe_of (record { setup = S; steps = before }) p ≡ Some P
+run-keeps : (S : Opening) (before between : List Step) (p : ℕ) (P Q : Spe) → spe_of (record { setup = S; steps = before }) p ≡ Some P
     → spe_of (record { setup = S; steps = before ++ between }) p ≡ Some Q → Keeps P.moves Q.moves
-run-stays S before between p P Q early late =
+run-keeps S before between p P Q early late =
     let M = some-of (λ (N : State). slice_get N.spes p) (replay (opening S) before) P early in
     let N = some-of (λ (N : State). slice_get N.spes p) (replay (opening S) (before ++ between)) Q late in
     replay-keeps M.0 between N.0 p P Q (replay-rest (opening S) before between M.0 N.0 M.1 N.1) M.2 N.2
@@ -169,5 +168,6 @@ machine-in_order setup steps capacity processors memory host m is view =
       waits = λ before after s p c d P e of at goes.
           let run : IsRun setup steps = (ap is_some is.replayed, is.within) in
           run-waits setup before after s p c d P (subst (IsRun setup) e run) of at goes;
-      stays = λ before between after p c P Q e early late. run-stays setup before between p P Q early late c;
+      stays = λ before between after p c P Q e early late. (run-keeps setup before between p P Q early late).complete c;
+      grows = λ before between after p P Q e early late. let k = run-keeps setup before between p P Q early late in (k.later, k.issued);
     })
