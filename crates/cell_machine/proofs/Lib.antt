@@ -9,9 +9,11 @@ pub mod ChannelSteps
 pub mod HostSteps
 pub mod Same
 pub mod MovesShown
+pub mod ListsGo
 pub mod SpeShown
 pub mod Staying
 pub mod Bounds
 pub mod Places
 pub mod Completion
+pub mod CommandsShown
 pub mod Elements

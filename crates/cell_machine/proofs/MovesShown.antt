@@ -1,7 +1,7 @@
 -- The calls made on a queue and what was issued and done keep step.
-use Rattle.std.proofs.Common.{◌≡◌, ◌≢◌, ℕ, zero, suc, ◌+◌, ◌/◌, ◌%◌, ◌*◌, ◌<◌, ◌≤◌, ◌==◌, ◌||◌, ◌&&◌, not, Bool, true, false, List, [], ◌∷◌, ◌++◌, length, arith, refl, sym, ◌∙◌, ap, subst, length-append, true≢false}
+use Rattle.std.proofs.Common.{◌≡◌, ◌≢◌, ℕ, ◌/◌, ◌%◌, ◌<◌, ◌≤◌, ◌==◌, ◌||◌, ◌&&◌, not, Bool, true, false, List, [], ◌∷◌, ◌++◌, length, arith, refl, sym, ◌∙◌, ap, subst, length-append, true≢false}
 use Rattle.std.specs.Prelude.{Option, Some, None, is_some, slice_get, nat_lt, cond, option_and_then}
-use Rattle.std.specs.List.{list_any, list_all, range_with_len, last_or}
+use Rattle.std.specs.List.{list_all, range_with_len, last_or}
 use Rattle.std.specs.Option.{option_map_or}
 use Rattle.std.proofs.lemmas.List.Folds.{list_any-append}
 use Rattle.std.proofs.lemmas.Bool.Decides.{nat_tests}
@@ -18,14 +18,14 @@ use Rattle.mfc_lists.proofs.ReadingLemmas.{last_or-snoc}
 use Rattle.mfc_queue.specs.Calls.{Call, Issue, SetParts, Mark, Retire, issued, is_retired, parts, is_marked, all_marked}
 use Rattle.mfc_queue.proofs.CallLaws.{parts-more, marked-more, retired-more, issued-same, issued-marked, issued-retired, issued-issued, retired-same, retired-marked, retired-issued}
 use Rattle.cell_machine.specs.Spe.{Moves, ElementRead, Stall}
-use Rattle.cell_machine.specs.Moves.{is_moved, read_of, whole, elements_in, elements_of, are_all_there, present, parts_in, is_done, is_finished, is_resumed, stalls_behind, stall_of, is_stalled, is_at_rest, was_retired, is_complete_as, is_complete}
-use Rattle.cell_machine.specs.Transfers.{has_part, is_part_left, has_element, with_done, with_read, with_retired}
+use Rattle.cell_machine.specs.Moves.{is_moved, read_of, whole, elements_in, elements_of, are_all_there, present, parts_in, is_done, is_finished, stalls_behind, stall_of, is_stalled, is_at_rest, was_retired, is_complete_as, is_complete}
+use Rattle.cell_machine.specs.Transfers.{has_part, has_element, with_done, with_read, with_retired}
 use Rattle.cell_machine.specs.Channels.{with_issued, with_resumed}
 use Rattle.cell_machine.specs.Opening.{no_moves}
 use Rattle.cell_machine.specs.MovesShown.{IsUntouched, AreElements, parts_now, ShowsDone, ShowsMoves, ShowsOthers, reading}
-use Rattle.cell_machine.proofs.Same.{a_stall, stall_by, stall-as, same-complete_as, elements_by, or_false, or_true, and-left, and-right, not-true, eq_same, eq_off, eq_is, eq_not, lt_is, agree, get-within, get-past, get-left, get-last, get-cases, by-number, range-fails, last-fails, empty, some_same, complete-at, complete-none, SameOf, same-present, same-complete, same-untouched, same-elements, same-parts, done-more, read-more, done-elsewhere, read-elsewhere, retired-elsewhere, resumed-elsewhere, issued-elsewhere}
-use Rattle.cell_machine.proofs.Elements.{elements-issued, elements-read, elements-done, elements-resumed}
-
+use Rattle.cell_machine.proofs.Same.{a_stall, same-complete_as, elements_by, or_false, or_true, eq_same, eq_off, eq_is, eq_not, lt_is, agree, get-within, get-past, get-left, get-last, get-cases, by-number, range-fails, last-fails, empty, some_same, complete-at, complete-none, SameOf, same-present, same-complete, same-untouched, same-elements, same-parts, done-more, read-more, done-elsewhere, read-elsewhere, retired-elsewhere, resumed-elsewhere, issued-elsewhere}
+use Rattle.cell_machine.proofs.Staying.{both, not_true}
+use Rattle.cell_machine.proofs.Elements.{list-elements, present-last, IsLeftOf, part-is, stall-is, MayRead, element-is, elements-issued, elements-read, elements-done, elements-resumed}
 pub use Rattle.cell_machine.proofs.Same.{or_false, or_true, eq_same, eq_off, eq_is, eq_not, agree, get-within, get-past, get-left, get-last, get-cases, complete-none}
 
 -- ---- what is complete
@@ -60,44 +60,16 @@ pub complete-unfinished : (m : Moves) (c : ℕ) (d : Command) (x : Element) → 
     → is_complete m c ≡ false
 complete-unfinished m c d x at moved p h = complete-at m c d at ∙ as-unfinished m c d x moved p h
 
-unfinished : (m : Moves) (c k : ℕ) (x : Element) → k < parts_in x → is_done m.done c x.number k ≡ false → is_finished m.done c x ≡ false
+pub unfinished : (m : Moves) (c k : ℕ) (x : Element) → k < parts_in x → is_done m.done c x.number k ≡ false → is_finished m.done c x ≡ false
 unfolding is_finished
 unfinished m c k x within left = range-fails (is_done m.done c x.number) 0 (parts_in x) k (omega arith) (omega (arith, within)) left
 
 -- ---- a part is marked
 
--- part k is of the present element, and is left
-record IsPart (m : Moves) (c e k : ℕ) (d : Command) : Type 0 where
-  element : Element
-  moved : is_moved d ≡ true
-  is_present : present m.read c d ≡ Some element
-  number : element.number ≡ e
-  within : k < parts_in element
-  left : is_done m.done c e k ≡ false
-
-part-is : (m : Moves) (c e k : ℕ) (d : Command) → has_part m c e k d ≡ true → IsPart m c e k d
-part-is m c e k d h = at (present m.read c d) refl (and-right (is_moved d) _ h)
-  where
-    of : (x : Element) → present m.read c d ≡ Some x → is_part_left m.done c e k x ≡ true → IsPart m c e k d
-    of x p g =
-        let tests : (x.number == e && nat_lt k (parts_in x)) ≡ true = and-left _ (not (is_done m.done c e k)) g in
-        record {
-          element = x;
-          moved = and-left (is_moved d) _ h;
-          is_present = p;
-          number = eq_is x.number e (and-left (x.number == e) _ tests);
-          within = lt_is k (parts_in x) (and-right (x.number == e) _ tests);
-          left = not-true (is_done m.done c e k) (and-right (x.number == e && nat_lt k (parts_in x)) _ g);
-        }
-
-    at : (o : Option Element) → present m.read c d ≡ o → option_map_or (is_part_left m.done c e k) o false ≡ true → IsPart m c e k d
-    at None p g = absurd (true≢false (sym g))
-    at (Some x) p g = of x p g
-
 -- so its command isn't complete
-part-open : (m : Moves) (c e k : ℕ) (d : Command) → slice_get m.issued c ≡ Some d → (part : IsPart m c e k d) → is_complete m c ≡ false
+part-open : (m : Moves) (c e k : ℕ) (d : Command) → slice_get m.issued c ≡ Some d → (part : IsLeftOf m c e k d) → is_complete m c ≡ false
 part-open m c e k d at part =
-    complete-unfinished m c d part.element at part.moved part.is_present
+    complete-unfinished m c d part.element at part.moved part.there
     (unfinished m c k part.element part.within (ap (λ n. is_done m.done c n k) part.number ∙ part.left))
 
 -- all parts are marked where the present element is finished
@@ -126,7 +98,7 @@ done-mark calls m c e k d shows at has = record {
     own : Marked c d
     own j x2 p =
         let part = part-is m c e k d has in
-        let same : part.element ≡ x2 = some_same part.element x2 (sym part.is_present ∙ p) in
+        let same : part.element ≡ x2 = some_same part.element x2 (sym part.there ∙ p) in
         let number : (e == x2.number) ≡ true = ap (λ n. e == n) (sym (ap (λ (y : Element). y.number) same) ∙ part.number) ∙ eq_same e in
         marked-more calls (Mark c k) c j
         ∙ ap (λ b. b || (c == c && k == j)) (shows.marked c j d x2 at p)
@@ -150,10 +122,7 @@ done-mark calls m c e k d shows at has = record {
 pub finished-now : (calls : List Call) (m : Moves) (c e k : ℕ) (d : Command) (x : Element) → ShowsMoves calls m → slice_get m.issued c ≡ Some d → present m.read c d ≡ Some x → has_part m c e k d ≡ true
     → is_finished (with_done m c e k).done c x ≡ all_marked (calls ++ Mark c k ∷ []) c
 finished-now calls m c e k d x shows at p has =
-    marked-all (calls ++ Mark c k ∷ []) (with_done m c e k) c d x (done-mark calls m c e k d shows.done at has) at (and-left (is_moved d) _ has) p
-
-others-done : (m : Moves) (c e k j : ℕ) → c ≢ j → is_complete m j ≡ is_complete (with_done m c e k) j
-others-done m c e k j differs = sym (same-complete m (with_done m c e k) j refl (done-elsewhere m c e k j differs))
+    marked-all (calls ++ Mark c k ∷ []) (with_done m c e k) c d x (done-mark calls m c e k d shows.done at has) at ((both (is_moved d) _ has).0) p
 
 done-retire : (calls : List Call) (m : Moves) (c : ℕ) → ShowsDone calls m → ShowsDone (calls ++ Retire c ∷ []) m
 done-retire calls m c shows = record {
@@ -195,7 +164,7 @@ pub moves-mark : (calls : List Call) (m : Moves) (c e k : ℕ) (d : Command) →
 moves-mark calls m c e k d shows at has all =
     let part = part-is m c e k d has in
     others-open (calls ++ Mark c k ∷ []) (with_done m c e k) c (others-marked calls m c e k d shows at has)
-    (complete-unfinished (with_done m c e k) c d part.element at part.moved part.is_present (finished-now calls m c e k d part.element shows at part.is_present has ∙ all))
+    (complete-unfinished (with_done m c e k) c d part.element at part.moved part.there (finished-now calls m c e k d part.element shows at part.there has ∙ all))
 
 and_true : (b : Bool) → (b && true) ≡ b
 and_true true = refl
@@ -215,14 +184,14 @@ pub moves-mark_last : (calls : List Call) (m : Moves) (c e k : ℕ) (d : Command
     → all_marked (calls ++ Mark c k ∷ []) c ≡ true → ShowsMoves ((calls ++ Mark c k ∷ []) ++ Retire c ∷ []) (with_done m c e k)
 moves-mark_last calls m c e k d shows at plain has all =
     others-closed (calls ++ Mark c k ∷ []) (with_done m c e k) c (others-marked calls m c e k d shows at has)
-    (plain-complete (with_done m c e k) c d at plain (and-left (is_moved d) _ has) ∙ finished-now calls m c e k d (whole d) shows at (plain-present m.read c d plain) has ∙ all)
+    (plain-complete (with_done m c e k) c d at plain ((both (is_moved d) _ has).0) ∙ finished-now calls m c e k d (whole d) shows at (plain-present m.read c d plain) has ∙ all)
 
 -- whether a list is complete then, is told by what is kept of it
 pub others-mark : (calls : List Call) (m : Moves) (c e k : ℕ) (d : Command) → ShowsMoves calls m → slice_get m.issued c ≡ Some d → is_list d.kind ≡ true → has_part m c e k d ≡ true
     → ShowsOthers (calls ++ Mark c k ∷ []) (with_done m c e k) c
 others-mark calls m c e k d shows at list has = others-marked calls m c e k d shows at has
 
-not_not : (b : Bool) → b ≡ not (not b)
+pub not_not : (b : Bool) → b ≡ not (not b)
 not_not true = refl
 not_not false = refl
 
@@ -266,28 +235,17 @@ moves-retire calls m c d shows at plain = record {
 
 -- ---- an element is read
 
--- a list has an element left, and rests
-record IsAtRest (m : Moves) (c : ℕ) (d : Command) : Type 0 where
-  list : is_list d.kind ≡ true
-  left : are_all_there m.read c d ≡ false
-
-rest-is : (m : Moves) (c : ℕ) (d : Command) → has_element m c d ≡ true → IsAtRest m c d
-rest-is m c d h =
-    let tests : (is_list d.kind && not (are_all_there m.read c d)) ≡ true = and-left _ (is_at_rest m c d) h in
-    record { list = and-left (is_list d.kind) _ tests; left = not-true (are_all_there m.read c d) (and-right (is_list d.kind) _ tests) }
-
 -- a list of which fewer elements are there than it has isn't of size 0
 nonempty : (d : Command) (n : ℕ) → is_list d.kind ≡ true → n < elements_in d → d.size ≢ 0
 nonempty d n h b e = let size : elements_in d ≡ d.size / 8 = rw h refl in absurd (omega (arith, b, size, e))
 
-left-moved : (m : Moves) (c : ℕ) (d : Command) → IsAtRest m c d → AreElements m c d → is_moved d ≡ true
+left-moved : (m : Moves) (c : ℕ) (d : Command) → MayRead m c d → AreElements m c d → is_moved d ≡ true
 left-moved m c d rest els =
     let differs : length (elements_of m.read c d) ≢ elements_in d = eq_not _ _ rest.left in
     list-moved d rest.list (nonempty d (length (elements_of m.read c d)) rest.list (let few = els.few in omega (arith, few, differs)))
 
-present-list : (read : List ElementRead) (c : ℕ) (d : Command) → is_list d.kind ≡ true → present read c d ≡ last_or None (read_of read c)
-unfolding present
-present-list read c d h = rw h refl
+pub present-list : (read : List ElementRead) (c : ℕ) (d : Command) → is_list d.kind ≡ true → present read c d ≡ last_or None (read_of read c)
+present-list read c d h = present-last read c d ∙ ap (λ xs. last_or None xs) (list-elements read c d h)
 
 present-read : (m : Moves) (c : ℕ) (d : Command) (x : Element) → is_list d.kind ≡ true → present (with_read m c x).read c d ≡ Some x
 present-read m c d x h = present-list (with_read m c x).read c d h ∙ ap (λ xs. last_or None xs) (read-more m c x) ∙ last_or-snoc None (read_of m.read c) x
@@ -298,15 +256,15 @@ done-read calls m c d x shows at has number = record {
   issued = issued-same calls c (parts_in x) ∙ shows.issued;
   parts = by-number m.issued c d (λ c2 d2. parts (calls ++ SetParts c (parts_in x) ∷ []) c2 ≡ parts_now (with_read m c x).read c2 d2) at own_parts
       (λ c2 d2 differs at2. parts-more calls (SetParts c (parts_in x)) c2 ∙ ap (λ b. cond b (parts_in x) (parts calls c2)) (eq_off c c2 differs)
-          ∙ shows.parts c2 d2 at2 ∙ sym (same-parts m (with_read m c x) c2 d2 (read-elsewhere m c x c2 differs)));
+      ∙ shows.parts c2 d2 at2 ∙ sym (same-parts m (with_read m c x) c2 d2 (read-elsewhere m c x c2 differs)));
   marked = λ c2 j d2 x2 at2. by-number m.issued c d Marked at own other c2 d2 at2 j x2;
   elements = by-number m.issued c d (λ c2 d2. AreElements (with_read m c x) c2 d2) at (elements-read m c d x has number (shows.elements c d at))
       (λ c2 d2 differs at2. same-elements m (with_read m c x) c2 d2 (read-elsewhere m c x c2 differs) (shows.elements c2 d2 at2));
   fresh = λ c2 past. same-untouched m (with_read m c x) c2 (read-elsewhere m c x c2 (let l = get-within m.issued c d at in omega (arith, l, past))) (shows.fresh c2 past);
 }
   where
-    rest : IsAtRest m c d
-    rest = rest-is m c d has
+    rest : MayRead m c d
+    rest = element-is m c d has
 
     own_parts : parts (calls ++ SetParts c (parts_in x) ∷ []) c ≡ parts_now (with_read m c x).read c d
     own_parts =
@@ -331,7 +289,7 @@ done-read calls m c d x shows at has number = record {
 pub others-read : (calls : List Call) (m : Moves) (c : ℕ) (d : Command) (x : Element) → ShowsMoves calls m → slice_get m.issued c ≡ Some d → has_element m c d ≡ true → x.number ≡ length (read_of m.read c)
     → ShowsOthers (calls ++ SetParts c (parts_in x) ∷ []) (with_read m c x) c
 others-read calls m c d x shows at has number =
-    let rest = rest-is m c d has in
+    let rest = element-is m c d has in
     record {
       done = done-read calls m c d x shows.done at has number;
       complete = λ other differs. ap (λ f. f other) (retired-same calls c (parts_in x) ∙ shows.complete)
@@ -341,18 +299,6 @@ others-read calls m c d x shows at has number =
     }
 
 -- ---- a stall is acknowledged
-
-stall-cmd : (m : Moves) (c : ℕ) (d : Command) (s : Stall) → stall_of m c d ≡ Some s → s.cmd ≡ c
-unfolding stall_of
-stall-cmd m c d s e = at (present m.read c d) e
-  where
-    if_so : (x : Element) (b : Bool) → cond b (Some (a_stall c x)) None ≡ Some s → s.cmd ≡ c
-    if_so x false k = absurd (cc)
-    if_so x true k = let same : a_stall c x ≡ s = cc in sym (ap (λ (z : Stall). z.cmd) same)
-
-    at : (o : Option Element) → option_and_then (λ x. cond (stalls_behind m c x) (Some (a_stall c x)) None) o ≡ Some s → s.cmd ≡ c
-    at None k = absurd (cc)
-    at (Some x) k = if_so x (stalls_behind m c x) k
 
 -- only a list stalls, and one of which an element was read
 stall-list : (m : Moves) (c : ℕ) (d : Command) (s : Stall) → stall_of m c d ≡ Some s → is_list d.kind ≡ true
@@ -373,7 +319,7 @@ stall-read m c d s e = on (elements_of m.read c d) e
 
 stall-elsewhere : (m : Moves) (c : ℕ) (d : Command) (s : Stall) → stall_of m c d ≡ Some s → (c2 : ℕ) → c ≢ c2 → SameOf m (with_resumed m (s ∷ [])) c2
 stall-elsewhere m c d s stalls c2 differs =
-    resumed-elsewhere m (s ∷ []) c2 (λ e. ap (λ b. b && s.elem == e || false) (ap (λ n. n == c2) (stall-cmd m c d s stalls) ∙ eq_off c c2 differs))
+    resumed-elsewhere m (s ∷ []) c2 (λ e. ap (λ b. b && s.elem == e || false) (ap (λ n. n == c2) ((stall-is m c d s stalls).cmd) ∙ eq_off c c2 differs))
 
 done-resumed : (calls : List Call) (m : Moves) (c : ℕ) (d : Command) (s : Stall) → ShowsDone calls m → slice_get m.issued c ≡ Some d → stall_of m c d ≡ Some s → ShowsDone calls (with_resumed m (s ∷ []))
 done-resumed calls m c d s shows at stalls = record {
@@ -428,7 +374,7 @@ new-open : (m : Moves) (c : ℕ) (d : Command) → IsUntouched m c → (is_list 
 new-open m c d none size = on (is_moved d) (is_list d.kind) refl refl
   where
     some : is_moved d ≡ true → (d.size == 0) ≡ false
-    some moved = not-true (d.size == 0) (and-right (not (is_barrier d.kind)) _ moved)
+    some moved = not_true (d.size == 0) ((both (not (is_barrier d.kind)) _ moved).1)
 
     no_elements : is_list d.kind ≡ true → is_moved d ≡ true → are_all_there m.read c d ≡ false
     no_elements h moved =

@@ -14,6 +14,7 @@ use Rattle.cell_machine.specs.Moves.{is_moved, read_of, whole, elements_in, elem
 use Rattle.cell_machine.specs.Transfers.{with_done, with_read, with_retired}
 use Rattle.cell_machine.specs.Channels.{with_issued, with_resumed}
 use Rattle.cell_machine.specs.MovesShown.{IsUntouched, AreElements, parts_now}
+use Rattle.cell_machine.proofs.Staying.{other-read, both}
 
 -- ---- tests
 
@@ -24,18 +25,6 @@ or_false false = refl
 pub or_true : (b : Bool) → (b || true) ≡ true
 or_true true = refl
 or_true false = refl
-
-pub and-left : (a b : Bool) → (a && b) ≡ true → a ≡ true
-and-left true b h = refl
-and-left false b h = h
-
-pub and-right : (a b : Bool) → (a && b) ≡ true → b ≡ true
-and-right true b h = h
-and-right false b h = absurd (true≢false (sym h))
-
-pub not-true : (b : Bool) → not b ≡ true → b ≡ false
-not-true true h = absurd (true≢false (sym h))
-not-true false h = refl
 
 pub eq_same : (a : ℕ) → (a == a) ≡ true
 eq_same a = grind (arith, nat_tests)
@@ -151,17 +140,8 @@ last-fails f xs x e h = let s = snoc-of-all xs x e in ap (list_all f) s.1 ∙ sn
 
 pub all-at : (f : Element → Bool) (ys : List Element) (n : ℕ) (y : Element) → list_all f ys ≡ true → slice_get ys n ≡ Some y → f y ≡ true
 all-at f [] n y h e = absurd (cc)
-all-at f (z ∷ ys) zero y h e = let same : z ≡ y = cc in ap f (sym same) ∙ and-left (f z) (list_all f ys) h
-all-at f (z ∷ ys) (suc n) y h e = all-at f ys n y (and-right (f z) (list_all f ys) h) e
-
-pub all_more : {X : Type 0} (f g : X → Bool) (xs : List X) → ((x : X) → f x ≡ true → g x ≡ true) → list_all f xs ≡ true → list_all g xs ≡ true
-all_more f g [] k h = refl
-all_more f g (x ∷ xs) k h = on (f x) (g x) h (k x) (all_more f g xs k)
-  where
-    on : (a b : Bool) → (a && list_all f xs) ≡ true → (a ≡ true → b ≡ true) → (list_all f xs ≡ true → list_all g xs ≡ true) → (b && list_all g xs) ≡ true
-    on true true e p q = q e
-    on true false e p q = absurd (true≢false (sym (p refl)))
-    on false b e p q = absurd (true≢false (sym e))
+all-at f (z ∷ ys) zero y h e = let same : z ≡ y = cc in ap f (sym same) ∙ (both (f z) (list_all f ys) h).0
+all-at f (z ∷ ys) (suc n) y h e = all-at f ys n y ((both (f z) (list_all f ys) h).1) e
 
 pub empty : (xs : List Element) → length xs ≡ 0 → xs ≡ []
 empty [] h = refl
@@ -280,25 +260,13 @@ done-elsewhere m c e k c2 differs = record { read = refl; done = fun_ext (λ e2.
     off : (e2 k2 : ℕ) → (is_done m.done c2 e2 k2 || (c == c2 && e == e2 && k == k2)) ≡ is_done m.done c2 e2 k2
     off e2 k2 = ap (λ b. is_done m.done c2 e2 k2 || (b && e == e2 && k == k2)) (eq_off c c2 differs) ∙ or_false (is_done m.done c2 e2 k2)
 
-abbrev element_in : ElementRead → Element
-element_in r = r.element
-
-other-read : (reads : List ElementRead) (c d : ℕ) (x : Element) → (d == c) ≡ false
-    → map element_in (filter (λ r. r.cmd == c) (reads ++ record { cmd = d; element = x } ∷ [])) ≡ map element_in (filter (λ r. r.cmd == c) reads)
-other-read [] c d x p = ap (λ b. map element_in (cond b (record { cmd = d; element = x } ∷ []) [])) p
-other-read (r ∷ reads) c d x p = on (filter (λ r. r.cmd == c) (reads ++ record { cmd = d; element = x } ∷ [])) (filter (λ r. r.cmd == c) reads) (r.cmd == c) (other-read reads c d x p)
-  where
-    on : (xs ys : List ElementRead) (b : Bool) → map element_in xs ≡ map element_in ys → map element_in (cond b (r ∷ xs) xs) ≡ map element_in (cond b (r ∷ ys) ys)
-    on xs ys true q = ap (λ zs. r.element ∷ zs) q
-    on xs ys false q = q
-
 own-read : (reads : List ElementRead) (c : ℕ) (x : Element)
-    → map element_in (filter (λ r. r.cmd == c) (reads ++ record { cmd = c; element = x } ∷ [])) ≡ map element_in (filter (λ r. r.cmd == c) reads) ++ x ∷ []
-own-read [] c x = ap (λ b. map element_in (cond b (record { cmd = c; element = x } ∷ []) [])) (eq_same c)
+    → map (λ (r : ElementRead). r.element) (filter (λ r. r.cmd == c) (reads ++ record { cmd = c; element = x } ∷ [])) ≡ map (λ (r : ElementRead). r.element) (filter (λ r. r.cmd == c) reads) ++ x ∷ []
+own-read [] c x = ap (λ b. map (λ (r : ElementRead). r.element) (cond b (record { cmd = c; element = x } ∷ []) [])) (eq_same c)
 own-read (r ∷ reads) c x = on (filter (λ r. r.cmd == c) (reads ++ record { cmd = c; element = x } ∷ [])) (filter (λ r. r.cmd == c) reads) (r.cmd == c) (own-read reads c x)
   where
-    on : (xs ys : List ElementRead) (b : Bool) → map element_in xs ≡ map element_in ys ++ x ∷ []
-        → map element_in (cond b (r ∷ xs) xs) ≡ map element_in (cond b (r ∷ ys) ys) ++ x ∷ []
+    on : (xs ys : List ElementRead) (b : Bool) → map (λ (r : ElementRead). r.element) xs ≡ map (λ (r : ElementRead). r.element) ys ++ x ∷ []
+        → map (λ (r : ElementRead). r.element) (cond b (r ∷ xs) xs) ≡ map (λ (r : ElementRead). r.element) (cond b (r ∷ ys) ys) ++ x ∷ []
     on xs ys true q = ap (λ zs. r.element ∷ zs) q
     on xs ys false q = q
 

@@ -2,6 +2,6 @@ pub mod CallLaws
 pub mod AtLemmas
 mod Walks
 mod SetLemmas
-mod Holding
+pub mod Holding
 mod PlaceLemmas
 mod Before
