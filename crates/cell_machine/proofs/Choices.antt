@@ -332,8 +332,9 @@ spe_none processors M p s shows all absent there =
 -- the elements of its commands are in order
 spe_elements : {memory : List ℕ} {host : Progress} (processors : List Processor) (M : State) (p : ℕ) (P : Spe) (c : ℕ) (d : Command) → Shows processors memory host M → slice_get M.spes p ≡ Some P → slice_get P.moves.issued c ≡ Some d → AreElements P.moves c d
 spe_elements processors M p P c d shows at there = elim (two_found ShowsSpe processors M.spes p shows.spes) as (λ _. AreElements P.moves c d) [
-    inl none ↦ absurd (no_spe (sym none ∙ at)) |
-    inr two ↦ let same : two.1 ≡ P = same_spe two.1 P (sym two.2 ∙ at) in shown two.0 (subst (λ y. ShowsSpe two.0 y) same two.3) ]
+  | inl none ↦ absurd (no_spe (sym none ∙ at))
+  | inr two ↦ let same : two.1 ≡ P = same_spe two.1 P (sym two.2 ∙ at) in shown two.0 (subst (λ y. ShowsSpe two.0 y) same two.3)
+]
   where
     no_spe : None ≡ Some P → ⊥
     no_spe e = cc

@@ -107,7 +107,7 @@ step-waits M (Exec q) p c d P allowed of at before = absurd (true≢false (sym o
 step-waits M (Atomic q) p c d P allowed of at before = absurd (true≢false (sym of))
 step-waits M Host p c d P allowed of at before = absurd (true≢false (sym of))
 
-replay-part : (M : State) (before after : List Step) (s : Step) → is_some (replay M (before ++ s ∷ after)) ≡ true → (N : State) → replay M before ≡ Some N → is_some (next N s) ≡ true
+pub replay-part : (M : State) (before after : List Step) (s : Step) → is_some (replay M (before ++ s ∷ after)) ≡ true → (N : State) → replay M before ≡ Some N → is_some (next N s) ≡ true
 replay-part M [] after s run N at = on (next M s) refl run
   where
     on : (o : Option State) → next M s ≡ o → is_some (option_and_then (λ K. replay K after) o) ≡ true → is_some (next N s) ≡ true
@@ -120,7 +120,7 @@ replay-part M (t ∷ before) after s run N at = on (next M t) run at (λ K r a. 
     on None g a k = absurd (true≢false (sym g))
     on (Some K) g a k = k K g a
 
-some-of : {X Y : Type 0} (f : X → Option Y) (o : Option X) (y : Y) → option_and_then f o ≡ Some y → (x : X) × (o ≡ Some x) × (f x ≡ Some y)
+pub some-of : {X Y : Type 0} (f : X → Option Y) (o : Option X) (y : Y) → option_and_then f o ≡ Some y → (x : X) × (o ≡ Some x) × (f x ≡ Some y)
 some-of f None y h = absurd (cc)
 some-of f (Some x) y h = (x, refl, h)
 
@@ -131,7 +131,7 @@ run-waits S before after s p c d P run of at goes =
     let M = some-of (λ (N : State). slice_get N.spes p) (replay (opening S) before) P at in
     step-waits M.0 s p c d P (replay-part (opening S) before after s run.0 M.0 M.1) of M.2 goes
 
-next-act : (M : State) (s : Step) (N : State) → next M s ≡ Some N → (K : State) × (act M s ≡ Some K) × (map settled K.spes ≡ N.spes)
+pub next-act : (M : State) (s : Step) (N : State) → next M s ≡ Some N → (K : State) × (act M s ≡ Some K) × (map settled K.spes ≡ N.spes)
 next-act M s N e = on (act M s) refl e
   where
     on : (o : Option State) → act M s ≡ o → option_map (ended_by M s) o ≡ Some N → (K : State) × (act M s ≡ Some K) × (map settled K.spes ≡ N.spes)
@@ -148,7 +148,7 @@ replay-keeps M (s ∷ steps) N p P Q run at last =
     let there : slice_get first.0.spes p ≡ Some kept.0 = subst (λ xs. slice_get xs p ≡ Some kept.0) acted.2 kept.1 in
     keeps-then P.moves kept.0.moves Q.moves kept.2 (replay-keeps first.0 steps N p kept.0 Q first.2 there last)
 
-replay-rest : (M : State) (before between : List Step) (N K : State) → replay M before ≡ Some N → replay M (before ++ between) ≡ Some K → replay N between ≡ Some K
+pub replay-rest : (M : State) (before between : List Step) (N K : State) → replay M before ≡ Some N → replay M (before ++ between) ≡ Some K → replay N between ≡ Some K
 replay-rest M [] between N K e f = let same : M ≡ N = cc in subst (λ L. replay L between ≡ Some K) same f
 replay-rest M (s ∷ before) between N K e f =
     let first = some-of (λ L. replay L before) (next M s) N e in

@@ -17,3 +17,5 @@ pub mod Places
 pub mod Completion
 pub mod CommandsShown
 pub mod Elements
+pub mod ListSteps
+pub mod ListOrder

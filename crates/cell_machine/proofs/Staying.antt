@@ -98,15 +98,15 @@ unfolding stall_of present
 stalled-more m n c d more all h =
     ap (λ els. is_some (option_and_then (λ x. cond (stalls_behind n c x) (Some (a_stall c x)) None) (last_or None els))) (elements-same m n c d more)
     ∙ no_stall c (stalls_behind m c) (stalls_behind n c) (last_or None (elements_of m.read c d))
-        (λ x e. not_behind x.flagged (is_finished m.done c x) (is_finished n.done c x) (is_resumed m.resumed c x.number) (is_resumed n.resumed c x.number)
-            (all_last (is_finished m.done c) None (elements_of m.read c d) x refl all e) (more.resumed x.number)) h
+    (λ x e. not_behind x.flagged (is_finished m.done c x) (is_finished n.done c x) (is_resumed m.resumed c x.number) (is_resumed n.resumed c x.number)
+    (all_last (is_finished m.done c) None (elements_of m.read c d) x refl all e) (more.resumed x.number)) h
 
 rest-more : (m n : Moves) (c : ℕ) (d : Command) → IsMore m n c → is_at_rest m c d ≡ true → is_at_rest n c d ≡ true
 rest-more m n c d more h =
     let p = both (list_all (is_finished m.done c) (elements_of m.read c d)) (not (is_stalled m c d)) h in
     join (list_all (is_finished n.done c) (elements_of n.read c d)) (not (is_stalled n c d))
-        (ap (λ els. list_all (is_finished n.done c) els) (elements-same m n c d more) ∙ all_more (is_finished m.done c) (is_finished n.done c) (elements_of m.read c d) (λ x. finished-more m n c x more) p.0)
-        (is_not _ (stalled-more m n c d more p.0 (not_true _ p.1)))
+    (ap (λ els. list_all (is_finished n.done c) els) (elements-same m n c d more) ∙ all_more (is_finished m.done c) (is_finished n.done c) (elements_of m.read c d) (λ x. finished-more m n c x more) p.0)
+    (is_not _ (stalled-more m n c d more p.0 (not_true _ p.1)))
 
 pub complete-more : (m n : Moves) (c : ℕ) (d : Command) → IsMore m n c → is_complete_as m c d ≡ true → is_complete_as n c d ≡ true
 unfolding is_complete_as
@@ -199,6 +199,7 @@ read_complete m d x left c h = by (d == c) refl
     other : (d == c) ≡ false → is_complete (with_read m d x) c ≡ true
     other p = on_issued (is_complete_as m c) (is_complete_as (with_read m d x) c) (slice_get m.issued c)
         (λ y q. complete-more m (with_read m d x) c y (record { read = other-read m.read c d x p; done = λ f j r. r; resumed = λ f r. r; retired = λ r. r })) h
+
     own : (d ≡ c) → is_complete (with_read m d x) c ≡ true
     own p = on_issued (is_complete_as m c) (is_complete_as (with_read m d x) c) (slice_get m.issued c)
         (λ y q e. on (are_all_there m.read c y) (is_at_rest m c y) (was_retired m.retired c) (are_all_there (with_read m d x).read c y && is_at_rest (with_read m d x) c y) (is_moved y) (subst (λ k. are_all_there m.read k y ≡ false) p (left y (ap (λ k. slice_get m.issued k) p ∙ q))) e) h
@@ -206,6 +207,7 @@ read_complete m d x left c h = by (d == c) refl
         on : (a b r z moved : Bool) → a ≡ false → cond moved (a && b) r ≡ true → cond moved z r ≡ true
         on a b r z true q e = absurd (true≢false (sym e ∙ ap (λ k. k && b) q))
         on a b r z false q e = e
+
     by : (b : Bool) → (d == c) ≡ b → is_complete (with_read m d x) c ≡ true
     by true p = own (eq_is d c p)
     by false p = other p
