@@ -1,6 +1,6 @@
 -- The channels that are there, and their counts.
-use Rattle.std.proofs.Common.{◌≡◌, ◌≢◌, ℕ, ◌-◌, ◌%◌, ◌==◌, ◌≤◌, ◌&&◌, ◌||◌, Bool, true, false, List, [], ◌∷◌, length, arith, refl, sym, ◌∙◌, ap, subst, true≢false}
-use Rattle.std.specs.Prelude.{MatchBool, Option, Some, None, nat_lt, nat_le, is_some, IsSomeAnd, cond, Ok, Err}
+use Rattle.std.proofs.Common.{◌≡◌, ◌≢◌, ◌↔◌, ℕ, ◌-◌, ◌%◌, ◌==◌, ◌<◌, ◌≤◌, ◌&&◌, ◌||◌, Bool, true, false, List, [], ◌∷◌, ◌++◌, length, arith, refl, sym, ◌∙◌, ap, subst, true≢false}
+use Rattle.std.specs.Prelude.{MatchBool, Option, Some, None, nat_lt, nat_le, is_some, IsSomeAnd, cond, Result, Ok, Err, is_err, IsOk, OnOk}
 use Rattle.std.proofs.lemmas.Bool.Decides.{nat_tests}
 use Rattle.cell_channels.specs.State.{opening_channels, count_of, with_param}
 use Rattle.cell_channels.specs.Table.{way_of}
@@ -142,6 +142,12 @@ command-full lines P op n is zero = rw (← is, zero) refl
 pub command-taken : (lines : ℕ) (P : Spe) (op n : ℕ) → n ≡ 16 - length (outstanding P) → n ≢ 0 → channel lines P (Write 21 op) ≡ Some (commanded lines P op)
 unfolding channel listed way_of count count_of written
 command-taken lines P op n is some = let t : nat_lt 0 n ≡ true = grind (arith, nat_tests) in rw (← is, t) refl
+
+-- what a mailbox of one place that takes a value had, and has
+pub put-first : {X Y : Type 0} (r : Result X Y) (old new : List ℕ) (v : ℕ) → is_err r ≡ false → (IsOk r ↔ (length old < 1)) → OnOk r (new ≡ old ++ v ∷ []) → (old ≡ []) × (new ≡ v ∷ [])
+put-first (Err e) old new v h k f = absurd (true≢false h)
+put-first (Ok u) [] new v h k f = (refl, f)
+put-first (Ok u) (x ∷ old) new v h k f = let l : length (x ∷ old) < 1 = k.0 refl in absurd (omega arith)
 
 pub outbound-put : (lines : ℕ) (P : Spe) (value : ℕ) → P.outbound ≡ [] → channel lines P (Write 28 value) ≡ Some (went_on (record P { outbound = value ∷ [] }))
 unfolding channel listed way_of count count_of written

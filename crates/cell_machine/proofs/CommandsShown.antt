@@ -1,7 +1,7 @@
 -- The queue and the states of lists keep step with what is issued and done.
-use Rattle.std.proofs.Common.{◌≡◌, ◌≢◌, ℕ, zero, suc, ◌+◌, ◌<◌, ◌≤◌, ◌==◌, ◌&&◌, not, Bool, true, false, List, [], ◌∷◌, ◌++◌, length, arith, refl, sym, ◌∙◌, ap, subst, slice_set, true≢false}
+use Rattle.std.proofs.Common.{◌≡◌, ◌≢◌, ℕ, zero, suc, ◌+◌, ◌<◌, ◌≤◌, ◌==◌, ◌&&◌, not, Bool, true, false, List, [], ◌∷◌, ◌++◌, length, ◌/◌, ◌%◌, length-append, arith, refl, sym, ◌∙◌, ap, subst, slice_set, true≢false}
 use Rattle.std.specs.Prelude.{Option, Some, None, slice_get, is_some, nat_lt, if◌then◌else◌}
-use Rattle.std.specs.List.{list_all, last_or}
+use Rattle.std.specs.List.{list_all, last_or, range_with_len}
 use Rattle.std.proofs.lemmas.Bool.Decides.{nat_tests}
 use Rattle.mfc_command.specs.declared.command.Command.{Command}
 use Rattle.mfc_command.specs.Order.{is_list, is_barrier}
@@ -12,14 +12,16 @@ use Rattle.mfc_queue.specs.declared.Queue.{Queue}
 use Rattle.mfc_queue.specs.Calls.{Call, Issue, SetParts, Mark, Retire, issued, is_retired, is_outstanding, parts, all_marked}
 use Rattle.mfc_queue.specs.Stands.{StandsFor, place_in, KeepsPlaces, KeepsOtherPlaces}
 use Rattle.mfc_queue.proofs.Holding.{no-place}
+use Rattle.mfc_queue.proofs.CallLaws.{retired-more, issued-same, retired-same, issued-issued, retired-issued}
 use Rattle.cell_machine.specs.Spe.{Moves, Stall}
-use Rattle.cell_machine.specs.Moves.{read_of, elements_of, present, parts_in, whole, is_moved, is_finished, stall_of, stalls_behind, is_stalled, is_complete}
+use Rattle.cell_machine.specs.Moves.{read_of, elements_in, elements_of, is_done, present, parts_in, whole, is_moved, is_finished, stall_of, stalls_behind, is_stalled, is_complete}
 use Rattle.cell_machine.specs.Transfers.{has_part, has_element, with_done, with_read, with_retired}
 use Rattle.cell_machine.specs.Channels.{with_issued, with_resumed}
-use Rattle.cell_machine.specs.MovesShown.{ShowsMoves, ShowsOthers, ShowsLists, ShowsOtherLists, ShowsList, ShowsQueue, ShowsQueueBut, parts_now, reading}
-use Rattle.cell_machine.proofs.MovesShown.{moves-issue, moves-mark, moves-mark_last, others-mark, others-read, others-closed, others-open, moves-retire, complete-reading, finished-now, get-cases, get-within, eq_is, eq_off}
+use Rattle.cell_machine.specs.MovesShown.{ShowsMoves, ShowsOthers, ShowsLists, ShowsOtherLists, ShowsList, ShowsQueue, ShowsQueueBut, AreElements, parts_now, reading}
+use Rattle.cell_machine.proofs.MovesShown.{moves-issue, moves-mark, moves-mark_last, others-mark, others-read, others-closed, others-open, moves-retire, complete-reading, finished-now, unfinished, get-cases, get-last, eq_is, eq_off, eq_same, or_true}
+use Rattle.cell_machine.proofs.Elements.{MayRead, element-is}
 use Rattle.cell_machine.proofs.ListsGo.{part-left, part-last, part-other, read-other, read-moved, read-empty, issued-other, issued-own, retired-other}
-use Rattle.cell_machine.proofs.SpeShown.{PartLeft, part-facts, first_of_both, second_of_both, and_off, complete_or, list-moved, outstanding-is, complete-no_part, present-plain, elements-list, all-last}
+use Rattle.cell_machine.proofs.SpeShown.{PartLeft, part-facts, first_of_both, second_of_both, and_off, complete_or, list-moved, outstanding-is, complete-no_part, complete-no_element, present-plain, elements-list, all-last}
 
 -- ---- one state is put
 
@@ -79,6 +81,11 @@ lists-all q lists m c others own = λ o p x at list placed. by o p x at list pla
         let differs : o ≢ c = (λ (z : o ≡ c). true≢false (sym (subst (λ k. (o == k) ≡ true) z (grind (arith, nat_tests))) ∙ e)) in
         others o p x differs at list placed
 
+closed-now : (calls : List Call) (c : ℕ) → is_outstanding (calls ++ Retire c ∷ []) c ≡ false
+closed-now calls c =
+    let gone : is_retired (calls ++ Retire c ∷ []) c ≡ true = retired-more calls (Retire c) c ∙ rw (eq_same c) (or_true (is_retired calls c)) in
+    and_off (nat_lt c (length (issued (calls ++ Retire c ∷ [])))) _ (ap not gone)
+
 -- ---- a list is kept
 
 pub kept-closed : (q r : Queue) (lists : List (Option ListState)) (m : Moves) (c : ℕ) (d : Command) (s : ListState) (but : ShowsQueueBut q lists m c) (new : List (Option ListState))
@@ -93,16 +100,8 @@ kept-closed q r lists m c d s but new at list some stands ended shows after plac
       stands = after;
       moves = moves;
       kept = lists-all r new m c (others-stay q r new m m c shows places (λ o x differs at_o list_o. (at_o, refl)))
-          (λ p x at_c list_c placed. absurd (let none = no-place r (but.calls ++ Retire c ∷ []) c after (closed (but.calls ++ Retire c ∷ []) moves complete) in cc));
+          (λ p x at_c list_c placed. absurd (let none = no-place r (but.calls ++ Retire c ∷ []) c after (closed-now but.calls c) in cc));
     }
-  where
-    closed : (calls : List Call) → ShowsMoves calls m → is_complete m c ≡ true → is_outstanding calls c ≡ false
-    closed calls moves complete = let g : is_retired calls c ≡ true = ap (λ f. f c) moves.complete ∙ complete in off (nat_lt c (length (issued calls))) (is_retired calls c) g
-      where
-        off : (a b : Bool) → b ≡ true → (a && not b) ≡ false
-        off true true h = refl
-        off false b h = refl
-        off true false h = absurd (true≢false (sym h))
 
 pub kept-open : (q r : Queue) (lists : List (Option ListState)) (m : Moves) (c : ℕ) (d : Command) (but : ShowsQueueBut q lists m c) (new : List (Option ListState))
     → slice_get m.issued c ≡ Some d → is_list d.kind ≡ true → d.size ≢ 0 → is_complete_reading (reading m c d) ≡ false
@@ -140,7 +139,7 @@ unfinished-rests false f r h = refl
 unfinished-unstalled : (m : Moves) (c : ℕ) (d : Command) (x : Element) → present m.read c d ≡ Some x → is_finished m.done c x ≡ false → is_stalled m c d ≡ false
 unfinished-unstalled m c d x p h = stalled-at m c d x p ∙ unfinished-rests x.flagged _ _ h
 
-plain-unstalled : (m : Moves) (c : ℕ) (d : Command) → is_list d.kind ≡ false → is_stalled m c d ≡ false
+pub plain-unstalled : (m : Moves) (c : ℕ) (d : Command) → is_list d.kind ≡ false → is_stalled m c d ≡ false
 plain-unstalled m c d plain = stalled-at m c d (whole d) (present-plain m c d plain)
 
 not_same : (o c : ℕ) → o ≢ c → (c == o) ≡ false
@@ -215,3 +214,99 @@ moved-size d moved = λ z. true≢false (sym moved ∙ ap (λ b. not (is_barrier
   where
     eq-on : (n : ℕ) → n ≡ 0 → (n == 0) ≡ true
     eq-on n z = grind (arith, nat_tests)
+
+-- ---- an element is read
+
+pub element-open : (calls : List Call) (m : Moves) (c : ℕ) (d : Command) → ShowsMoves calls m → slice_get m.issued c ≡ Some d → has_element m c d ≡ true → is_outstanding calls c ≡ true
+element-open calls m c d shows at has =
+    outstanding-is calls m c d shows at (complete_or (is_complete m c) (is_complete m c ≡ false) (λ h. absurd (true≢false (sym has ∙ complete-no_element m c d (shows.done.elements c d at) at h))) (λ h. h))
+
+pub outstanding-set : (calls : List Call) (c n : ℕ) → is_outstanding (calls ++ SetParts c n ∷ []) c ≡ is_outstanding calls c
+outstanding-set calls c n = ap (λ cs. nat_lt c (length cs) && not (is_retired (calls ++ SetParts c n ∷ []) c)) (issued-same calls c n) ∙ ap (λ f. nat_lt c (length (issued calls)) && not (f c)) (retired-same calls c n)
+
+-- a list that has an element has a size
+element-size : (m : Moves) (c : ℕ) (d : Command) → AreElements m c d → MayRead m c d → d.size ≢ 0
+element-size m c d els may = λ z. absurd (true≢false (sym (eq-on (length (elements_of m.read c d)) (elements_in d) els.few (let e : elements_in d ≡ d.size / 8 = rw may.list refl in omega arith)) ∙ may.left))
+  where
+    eq-on : (a b : ℕ) → a ≤ b → b ≡ 0 → (a == b) ≡ true
+    eq-on a b h z = grind (arith, nat_tests)
+
+pub read-list : (q r : Queue) (lists : List (Option ListState)) (m : Moves) (c n : ℕ) (d : Command) (x : Element) (shows : ShowsQueue q lists m) → slice_get m.issued c ≡ Some d → has_element m c d ≡ true
+    → x.number ≡ length (read_of m.read c) → n ≡ parts_in x → StandsFor r (shows.calls ++ SetParts c n ∷ []) → KeepsPlaces q r → ShowsQueueBut r lists (with_read m c x) c
+read-list q r lists m c n d x shows at has number count stands places = record {
+  calls = shows.calls ++ SetParts c (parts_in x) ∷ [];
+  stands = subst (λ k. StandsFor r (shows.calls ++ SetParts c k ∷ [])) count stands;
+  moves = others-read shows.calls m c d x shows.moves at has number;
+  kept = others-stay q r lists m (with_read m c x) c shows.kept (λ o differs. places o) (λ o y differs at_o list_o. (at_o, read-other m c o y x list_o (not_same o c differs)));
+}
+
+last-snoc : {X : Type 0} (o : Option X) (xs : List X) (x : X) → last_or o (xs ++ x ∷ []) ≡ Some x
+last-snoc o [] x = refl
+last-snoc o (y ∷ xs) x = last-snoc (Some y) xs x
+
+pub element-current : (r : Reading) (x : Element) → current (with_element r x) ≡ Some x
+element-current r x = last-snoc None r.read x
+
+-- what an element that may be read says of its command, when its number is the next
+pub record Reads (m : Moves) (c : ℕ) (d : Command) (x : Element) : Type 0 where
+  pub list : is_list d.kind ≡ true
+  pub size : d.size ≢ 0
+  pub empty : parts_in x ≡ 0 → reading (with_read m c x) c d ≡ finished (with_element (reading m c d) x) x
+  pub moved : parts_in x ≢ 0 → (reading (with_read m c x) c d ≡ with_element (reading m c d) x) × (false ≡ is_stalled (with_read m c x) c d)
+
+pub element-reads : (m : Moves) (c : ℕ) (d : Command) (x : Element) → AreElements m c d → has_element m c d ≡ true → x.number ≡ length (read_of m.read c) → Reads m c d x
+unfolding is_finished
+element-reads m c d x els has number =
+    let may = element-is m c d has in
+    let past : length (elements_of m.read c d) ≤ x.number = let e = ap length (elements-list m c d may.list) in omega arith in
+    record {
+      list = may.list;
+      size = element-size m c d els may;
+      empty = λ none. read-empty m c d x may.list may.finished (ap (λ n. list_all (is_done m.done c x.number) (range_with_len 0 n)) none) (els.not_resumed x.number past);
+      moved = λ some.
+          let left : is_finished m.done c x ≡ false = unfinished m c 0 x (omega arith) (els.later x.number 0 past) in
+          let goes = read-moved m c d x may.list may.finished may.goes_on left in
+          (goes, sym (ap (λ (r : Reading). r.is_stalled) goes ∙ may.goes_on));
+    }
+
+-- ---- a command is retired
+
+pub retire-queue : (q r : Queue) (lists : List (Option ListState)) (m : Moves) (c : ℕ) (d : Command) (shows : ShowsQueue q lists m) → slice_get m.issued c ≡ Some d → is_moved d ≡ false
+    → StandsFor r (shows.calls ++ Retire c ∷ []) → KeepsOtherPlaces q r c → ShowsQueue r lists (with_retired m c)
+retire-queue q r lists m c d shows at kept stands places = record {
+  calls = shows.calls ++ Retire c ∷ [];
+  stands = stands;
+  moves = moves-retire shows.calls m c d shows.moves at kept;
+  kept = lists-all r lists (with_retired m c) c
+      (others-stay q r lists m (with_retired m c) c shows.kept places (λ o x differs at_o list. (at_o, retired-other m c o x)))
+      (λ p x at_c list placed. absurd (let none = no-place r (shows.calls ++ Retire c ∷ []) c stands (closed-now shows.calls c) in cc));
+}
+
+-- ---- a command is issued
+
+pub issue-queue : (q r : Queue) (lists : List (Option ListState)) (m : Moves) (c n : ℕ) (d : Command) (shows : ShowsQueue q lists m) → (is_list d.kind ≡ true → d.size % 8 ≡ 0)
+    → c ≡ length (issued shows.calls) → n ≡ parts_now [] 0 d → StandsFor r ((shows.calls ++ Issue d ∷ []) ++ SetParts c n ∷ []) → KeepsOtherPlaces q r c
+    → (slice_get (with_issued m d).issued c ≡ Some d) × ShowsOtherLists r lists (with_issued m d) c × ((new : List (Option ListState)) → ShowsLists r new (with_issued m d) → ShowsQueue r new (with_issued m d))
+issue-queue q r lists m c n d shows whole_list number count stands places =
+    let is : c ≡ length m.issued = number ∙ ap length shows.moves.done.issued in
+    let here : slice_get (m.issued ++ d ∷ []) c ≡ Some d = subst (λ k. slice_get (m.issued ++ d ∷ []) k ≡ Some d) (sym is) (get-last m.issued d) in
+    (here,
+     others-stay q r lists m (with_issued m d) c shows.kept places (λ o x differs at_o list_o. (get-cases m.issued d x o _ at_o (λ e. absurd (differs (e ∙ sym is))) (λ old. old), issued-other m o x d list_o)),
+     λ new kept. record {
+       calls = (shows.calls ++ Issue d ∷ []) ++ SetParts (length m.issued) (parts_now [] 0 d) ∷ [];
+       stands = subst (λ k. StandsFor r ((shows.calls ++ Issue d ∷ []) ++ SetParts k (parts_now [] 0 d) ∷ [])) is (subst (λ k. StandsFor r ((shows.calls ++ Issue d ∷ []) ++ SetParts c k ∷ [])) count stands);
+       moves = moves-issue shows.calls m d shows.moves whole_list;
+       kept = kept;
+     })
+
+-- a queue knows nothing of the next number
+pub new-outstanding : (q : Queue) (calls : List Call) (d : Command) (n : ℕ) → StandsFor q calls → n ≡ length (issued calls) → is_outstanding (calls ++ Issue d ∷ []) n ≡ true
+new-outstanding q calls d n stands is = by (stands.fresh (length (issued calls)) (omega arith)).retired
+  where
+    by : is_retired calls (length (issued calls)) ≡ false → is_outstanding (calls ++ Issue d ∷ []) n ≡ true
+    by none =
+        let l = ap length (issued-issued calls d) in
+        let a = length-append (issued calls) (d ∷ []) in
+        let t : nat_lt n (length (issued (calls ++ Issue d ∷ []))) ≡ true = (let less : n < length (issued (calls ++ Issue d ∷ [])) = omega arith in grind (arith, nat_tests)) in
+        let r : is_retired (calls ++ Issue d ∷ []) n ≡ false = ap (λ f. f n) (retired-issued calls d) ∙ ap (is_retired calls) is ∙ none in
+        rw (t, r) refl

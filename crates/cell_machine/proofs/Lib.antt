@@ -19,3 +19,4 @@ pub mod CommandsShown
 pub mod Elements
 pub mod ListSteps
 pub mod ListOrder
+pub mod Acknowledged

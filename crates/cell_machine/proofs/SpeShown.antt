@@ -118,7 +118,7 @@ begins-closed calls m c f shows closed ended =
     complete_or (is_complete m c) (begins m c f ≡ false) (λ h. begins-at m c d f at ∙ ap (λ b. b && may_begin m c) (ended d at h))
     (λ h. absurd (true≢false (sym (outstanding-is calls m c d shows at h) ∙ closed))))
 
-complete-at : (m : Moves) (c : ℕ) (d : Command) → slice_get m.issued c ≡ Some d → is_complete m c ≡ is_complete_as m c d
+pub complete-at : (m : Moves) (c : ℕ) (d : Command) → slice_get m.issued c ≡ Some d → is_complete m c ≡ is_complete_as m c d
 unfolding is_complete
 complete-at m c d at = rw at refl
 
@@ -298,3 +298,7 @@ part-is calls m c e k d x shows at p number less unmarked =
 
 pub elements-list : (m : Moves) (c : ℕ) (d : Command) → is_list d.kind ≡ true → elements_of m.read c d ≡ read_of m.read c
 elements-list m c d h = rw h refl
+
+-- the command of the calls, as it was issued
+pub issued-at : (calls : List Call) (m : Moves) (c : ℕ) (y : Command) → ShowsMoves calls m → slice_get (issued calls) c ≡ Some y → slice_get m.issued c ≡ Some y
+issued-at calls m c y shows got = subst (λ xs. slice_get xs c ≡ Some y) shows.done.issued got

@@ -1,6 +1,6 @@
 //! The queued commands of a processor, and how far its lists have come.
 
-ghost use Rattle.std.specs.Prelude.{◌≡◌, ◌≢◌, ℕ, ◌+◌, ◌<◌, ◌≤◌, [], ◌∷◌, length, is_some, true, false, None, Some, List, IfSome, IfNone, IsSome, slice_get, slice_set, filter_map};
+ghost use Rattle.std.specs.Prelude.{◌≡◌, ◌≢◌, ℕ, ◌+◌, ◌<◌, ◌≤◌, [], ◌∷◌, length, is_some, true, false, None, Some, List, IfSome, IfNone, IsSome, slice_get, filter_map};
 ghost use Rattle.std.specs.Bool.{OnTrue};
 ghost use Rattle.mfc_command.specs.declared.command.Command.{Command};
 ghost use Rattle.mfc_command.specs.declared.command.Order.TheVariants.{Queued};
@@ -9,7 +9,7 @@ ghost use Rattle.mfc_command.specs.Order.{is_list};
 ghost use Rattle.mfc_lists.specs.declared.Element.{Element};
 ghost use Rattle.mfc_lists.specs.Readings.{Reading, StandsFor as StandsForReading, current, finished, with_element, current_of, has_next};
 ghost use Rattle.mfc_queue.specs.Calls.{Call, outstanding};
-ghost use Rattle.mfc_queue.specs.Stands.{StandsFor, IsOneOf, HasNumber, place_in};
+ghost use Rattle.mfc_queue.specs.Stands.{StandsFor, IsOneOf};
 ghost use Rattle.cell_machine.specs.Spe.{Moves};
 ghost use Rattle.mfc_lists.specs.Elements.{ElementFits};
 ghost use Rattle.cell_machine.specs.Moves.{is_moved, read_of, whole, present, is_stalled, stall_of_tag, stalls_of_tag};
@@ -91,7 +91,7 @@ fn parts_begun(command: &Command) -> u32
 impl Commands {
     ghost use Rattle.cell_machine.specs.Opening.{no_moves};
     ghost use Rattle.cell_machine.specs.MovesShown.{ShowsLists, ShowsOtherLists, ShowsQueueBut};
-    ghost use Rattle.cell_machine.specs.Shows.{ShowsCommands, IsListOf, CanMark, HasRead};
+    ghost use Rattle.cell_machine.specs.Shows.{ShowsCommands, CanIssue, IsListOf, CanMark, HasRead};
 
     /// No commands.
     pub(crate) fn new() -> Commands
@@ -105,7 +105,7 @@ impl Commands {
 
     /// Issues a command, where the queue has a free place.
     pub(crate) fn issue(&mut self, lines: u32, command: Command)
-        requires number { HasNumber self.old.queue }
+        requires number { CanIssue self.old }
         requires lines { lines ≤ 524288 }
         requires fits { OrderFits lines (Queued command) }
         requires free { (calls : List Call) → StandsFor self.old.queue calls → length (outstanding calls) < 16 }
@@ -317,7 +317,7 @@ impl Commands {
 
     /// Lets all commands of a tag that stall go on.
     pub(crate) fn acknowledge(&mut self, tag: u32)
-        requires { IsKept self.old.queue }
+        requires { CanIssue self.old }
         ensures { (m : Moves) → ShowsCommands self.old m → ShowsCommands self.new (with_resumed m (stalls_of_tag m tag)) }
     {
         let mut next = 0;

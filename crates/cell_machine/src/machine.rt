@@ -276,8 +276,9 @@ impl Machine {
     }
 
     /// The steps made so far, which are a run from its setup. Each step of a queued command comes after the commands that go
-    /// before it are complete (CBEA, "Command ordering"), and what is complete stays complete. The elements of a list are read
-    /// in their order, each after the one before it was copied and, where it stalls, acknowledged.
+    /// before it are complete (CBEA, "Command ordering"), what is complete stays complete, and a command keeps its number.
+    /// The elements of a list are read in their order, each after the one before it was copied and, where the list stalls behind
+    /// it, that was acknowledged.
     pub fn steps(&self) -> &[Step]
         ensures steps { result.now ≡ self.now.steps }
         ensures run { IsRun self.now.setup self.now.steps }

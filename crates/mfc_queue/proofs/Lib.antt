@@ -5,3 +5,4 @@ mod SetLemmas
 pub mod Holding
 mod PlaceLemmas
 mod Before
+mod Groups
