@@ -25,7 +25,7 @@ use Rattle.cell_machine.specs.Choices.{may, allowed_of_number, allowed_of_mfc, a
 use Rattle.cell_machine.specs.MovesShown.{AreElements}
 use Rattle.cell_machine.specs.Shows.{Shows, ShowsSpe}
 use Rattle.cell_machine.proofs.AllTwo.{two_at, two_none, two_found, two_length, is_some_map, none_of}
-use Rattle.cell_machine.proofs.Steps.{act-absent}
+use Rattle.cell_machine.proofs.Steps.{act-absent, act-atomic}
 use Rattle.cell_machine.proofs.SpeShown.{get-either, complete-no_part, complete-no_element, complete-not_left}
 use Rattle.cell_machine.proofs.MovesShown.{get-within, eq_is, eq_not}
 use Rattle.cell_machine.proofs.Elements.{part-is}
@@ -109,15 +109,6 @@ next-elem M p c P at = next-own M p (Elem p c) P at ∙ is_some_map (left M.memo
 pub next-retire : (M : State) (p c : ℕ) (P : Spe) → slice_get M.spes p ≡ Some P → is_some (next M (Retire p c)) ≡ may_retire P c
 next-retire M p c P at = next-own M p (Retire p c) P at ∙ is_some_map (left M.memory) (retire P c) ∙ retire_may P c
 
--- no atomic command can be issued
-atomic_none : (M : State) (p : ℕ) → act M (Atomic p) ≡ None
-unfolding atomic
-atomic_none M p = on (slice_get M.spes p)
-  where
-    on : (o : Option Spe) → option_and_then (λ P. option_map (with_left M p) (own M.memory (Atomic p) P)) o ≡ None
-    on None = refl
-    on (Some P) = refl
-
 same_pieces : (t u : Step → Bool) (g : ℕ → Step) (ks : List ℕ) → ((k : ℕ) → t (g k) ≡ u (g k)) → filter t (map g ks) ≡ filter u (map g ks)
 same_pieces t u g [] same = refl
 same_pieces t u g (k ∷ ks) same = rw (same k, same_pieces t u g ks same) refl
@@ -151,7 +142,7 @@ same_numbers M p P (c ∷ cs) at =
 allowed_mfc : {memory : List ℕ} {host : Progress} (processors : List Processor) (M : State) (p : ℕ) (P : Spe) → Shows processors memory host M → slice_get M.spes p ≡ Some P → allowed M (Mfc p) ≡ allowed_of_mfc p P
 allowed_mfc processors M p P shows at =
     ap (λ o. filter (λ s. is_some (next M s)) (option_map_or (steps_of_mfc p) o [])) at
-    ∙ ap (λ b. cond b (Atomic p ∷ filter (λ s. is_some (next M s)) (flat_map (steps_of_number p P) (outstanding P))) (filter (λ s. is_some (next M s)) (flat_map (steps_of_number p P) (outstanding P)))) (no_next M (Atomic p) (atomic_none M p))
+    ∙ ap (λ b. cond b (Atomic p ∷ filter (λ s. is_some (next M s)) (flat_map (steps_of_number p P) (outstanding P))) (filter (λ s. is_some (next M s)) (flat_map (steps_of_number p P) (outstanding P)))) (no_next M (Atomic p) (act-atomic M p))
     ∙ same_numbers M p P (outstanding P) at
 
 pub allowed-no_mfc : {memory : List ℕ} {host : Progress} (processors : List Processor) (M : State) (p : ℕ) → Shows processors memory host M → length processors ≤ p → allowed M (Mfc p) ≡ []
@@ -363,7 +354,7 @@ has_ended processors M shows h (Retire p c) =
     let all = append_none (all_of_spus M) (all_of_mfcs M ++ allowed M TheHost) (sym (all_parts M) ∙ first_none (flat_map (allowed M) (actors M)) h) in
     spe_none processors M p (Retire p c) shows (append_none (all_of_mfcs M) (allowed M TheHost) all.1).0 (λ none. rw none refl)
     (λ P at none. none_of (next M (Retire p c)) (next-retire M p c P at ∙ no_retire p P c none))
-has_ended processors M shows h (Atomic p) = no_act M (Atomic p) (atomic_none M p)
+has_ended processors M shows h (Atomic p) = no_act M (Atomic p) (act-atomic M p)
 has_ended processors M shows h Host =
     let all = append_none (all_of_spus M) (all_of_mfcs M ++ allowed M TheHost) (sym (all_parts M) ∙ first_none (flat_map (allowed M) (actors M)) h) in
     none_of (next M Host) (filter_none (λ s. is_some (next M s)) Host [] (append_none (all_of_mfcs M) (allowed M TheHost) all.1).1).0

@@ -56,7 +56,7 @@ pub machine-step : (setup : Opening) (steps : List Step) (capacity : ℕ) (proce
     → IsMachine setup (steps ++ s ∷ []) room new memory2 host2
 machine-step setup steps capacity processors new memory memory2 host host2 s room old did same long script within grown =
     let made = some_and (act old.state s) (λ N. Shows new memory2 host2 (settled_in N)) did in
-    let lines : lines_of old.state.memory ≡ setup.lines = lines-is processors old.state setup.lines old.shown (sym old.long) in
+    let lines : lines_of old.state.memory ≡ setup.lines = ap lines_of old.shown.memory_is ∙ lines-is memory setup.lines (sym old.long) in
     let longer : length steps + 1 ≡ length (steps ++ s ∷ []) = sym (length-append steps (s ∷ [])) in
     record {
       room = omega arith;
