@@ -15,7 +15,6 @@ use Rattle.cell_machine.specs.Spe.{Spe}
 use Rattle.cell_host.specs.Script.{Progress}
 use Rattle.cell_machine.specs.State.{State}
 use Rattle.cell_machine.specs.Exec.{exec}
-use Rattle.cell_machine.specs.Atomic.{atomic}
 use Rattle.cell_machine.specs.Moves.{outstanding, is_complete, present, parts_in}
 use Rattle.cell_machine.specs.Transfers.{piece, piece_of, elem, after_element, next_element, retire, may_of, may_piece, may_elem, may_retire, has_part, has_element, is_left}
 use Rattle.cell_machine.specs.Next.{act, act_in, own, left, next, ended_by, lines_of, with_left}

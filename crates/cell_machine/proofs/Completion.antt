@@ -23,6 +23,7 @@ use Rattle.cell_machine.specs.Order.{is_step_of, IsInOrder}
 use Rattle.cell_machine.proofs.SpeShown.{first_of_both, second_of_both, not_of}
 use Rattle.cell_machine.proofs.MovesShown.{eq_is, eq_not, get-within}
 use Rattle.cell_machine.proofs.Choices.{next-piece, next-elem, next-retire}
+use Rattle.cell_machine.proofs.Elements.{not_on}
 use Rattle.cell_machine.proofs.Staying.{Keeps, keeps-same, keeps-then}
 use Rattle.cell_machine.proofs.Bounds.{may-begun, act-keeps}
 
@@ -31,10 +32,6 @@ or_off true b h = absurd (true≢false h)
 or_off false b h = (refl, h)
 
 -- none of a range that passes t passes g
-not_on : (b : Bool) → (b ≡ true → ⊥) → b ≡ false
-not_on true h = absurd (h refl)
-not_on false h = refl
-
 none_on : (t g : ℕ → Bool) (a k : ℕ) (rest : List ℕ) (b : Bool) → t a ≡ b → list_any g (cond b (a ∷ rest) rest) ≡ false → g k ≡ true → (list_any g rest ≡ false → a ≢ k → t k ≡ false) → t k ≡ false
 none_on t g a k rest true e h go later =
     not_on (t k) (λ p. by (a == k) refl p)

@@ -16,7 +16,7 @@ use Rattle.cell_machine.specs.MovesShown.{AreElements}
 use Rattle.cell_machine.specs.Transfers.{with_read, has_part, has_element, may_elem, may_piece}
 use Rattle.cell_machine.proofs.MovesShown.{eq_same, get-within}
 use Rattle.cell_machine.proofs.Same.{get-last, range-fails, read-more, all-at, some_same}
-use Rattle.cell_machine.proofs.Elements.{is_stall_of, element-is, last-number, list-elements, part-is, present-last}
+use Rattle.cell_machine.proofs.Elements.{not_on, is_stall_of, element-is, last-number, list-elements, part-is, present-last}
 use Rattle.mfc_lists.proofs.ReadingLemmas.{last_or-snoc}
 use Rattle.cell_machine.specs.Next.{next, lines_of}
 use Rattle.cell_machine.specs.Opening.{Opening, opening, opening_spe, no_moves}
@@ -124,14 +124,10 @@ place S steps p P at =
     let M = some-of (λ (N : State). slice_get N.spes p) (replay (opening S) steps) P at in
     record { state = M.0; replayed = M.1; at = M.2; follows = run-follows S steps M.0 p P M.1 M.2 }
 
-off : (b : Bool) → (b ≡ true → ⊥) → b ≡ false
-off true h = absurd (h refl)
-off false h = refl
-
 -- where an element may be read, and where a part may be copied
 elem-whole : (P : Spe) (c : ℕ) → may_elem P c ≡ true → is_faulted P.status ≡ false
 unfolding may_elem
-elem-whole P c h = off (is_faulted P.status) (not-faulted P c (has_element P.moves c) h)
+elem-whole P c h = not_on (is_faulted P.status) (not-faulted P c (has_element P.moves c) h)
 
 elem-has : (P : Spe) (c : ℕ) (d : Command) → may_elem P c ≡ true → slice_get P.moves.issued c ≡ Some d → has_element P.moves c d ≡ true
 unfolding may_elem
@@ -139,7 +135,7 @@ elem-has P c d h at = passes P c (has_element P.moves c) d h at
 
 piece-whole : (P : Spe) (c e k : ℕ) → may_piece P c e k ≡ true → is_faulted P.status ≡ false
 unfolding may_piece
-piece-whole P c e k h = off (is_faulted P.status) (not-faulted P c (has_part P.moves c e k) h)
+piece-whole P c e k h = not_on (is_faulted P.status) (not-faulted P c (has_part P.moves c e k) h)
 
 piece-has : (P : Spe) (c e k : ℕ) (d : Command) → may_piece P c e k ≡ true → slice_get P.moves.issued c ≡ Some d → has_part P.moves c e k d ≡ true
 unfolding may_piece

@@ -15,9 +15,9 @@ use Rattle.cell_machine.specs.MovesShown.{AreElements, IsUntouched}
 use Rattle.cell_machine.specs.Channels.{with_issued, with_resumed}
 use Rattle.cell_machine.specs.Transfers.{with_done, with_read, with_retired, has_part, has_element}
 use Rattle.cell_machine.proofs.MovesShown.{eq_is, eq_not, eq_same, get-within, get-cases}
-use Rattle.cell_machine.proofs.Same.{SameOf, a_stall, get-last, get-left, same-elements, same-untouched, same-present, done-more, read-more, done-elsewhere, read-elsewhere, retired-elsewhere, issued-elsewhere, all-at, snoc-of-all, some_same}
-use Rattle.cell_machine.proofs.Staying.{any_more, both}
-use Rattle.cell_machine.proofs.Elements.{AreStallsOf, is_stall_of, any_neither, element-is, elements-issued, elements-read, elements-done, elements-acknowledged, last-number, list-elements, part-is, present-last, stall-is}
+use Rattle.cell_machine.proofs.Same.{SameOf, a_stall, get-last, same-elements, same-untouched, same-present, done-more, read-more, done-elsewhere, read-elsewhere, retired-elsewhere, issued-elsewhere, all-at, snoc-of-all, some_same}
+use Rattle.cell_machine.proofs.Staying.{any_more, both, get_more}
+use Rattle.cell_machine.proofs.Elements.{AreStallsOf, is_stall_of, not_on, any_neither, element-is, elements-issued, elements-read, elements-done, elements-acknowledged, last-number, list-elements, part-is, present-last, stall-is}
 use Rattle.mfc_lists.proofs.ReadingLemmas.{last_or-snoc}
 use Rattle.cell_machine.specs.Lists.{is_reading, is_part}
 use Rattle.cell_machine.proofs.Bounds.{stays, issues, resumes, Moved, executes, copies, reads, refuses, retires, acts, Seen, another, goes, is_at, read-is}
@@ -203,15 +203,11 @@ order-resumed m tag order = record {
   resumed = λ c d at n x y e p b f. any_more (is_stall_of c x.number) m.resumed (stalls_of_tag m tag) (order.resumed c d at n x y e p b f);
   fresh = λ c past.
       let was = order.fresh c past in
-      record { read = was.read; done = was.done; retired = was.retired; resumed = λ e. any_neither (is_stall_of c e) m.resumed (stalls_of_tag m tag) (was.resumed e) (off _ (λ h. within c past (of-tag m tag c e h))) };
+      record { read = was.read; done = was.done; retired = was.retired; resumed = λ e. any_neither (is_stall_of c e) m.resumed (stalls_of_tag m tag) (was.resumed e) (not_on _ (λ h. within c past (of-tag m tag c e h))) };
 }
   where
     own : (c : ℕ) (d : Command) → slice_get m.issued c ≡ Some d → AreStallsOf m c d (stalls_of_tag m tag)
     own c d at e h = let t = of-tag m tag c e h in (t.stall, subst (λ y. stall_of m c y ≡ Some t.stall) (same_got (slice_get m.issued c) t.command d t.at at) t.is, t.behind)
-
-    off : (b : Bool) → (b ≡ true → ⊥) → b ≡ false
-    off true h = absurd (h refl)
-    off false h = refl
 
     within : (c : ℕ) {e : ℕ} → length m.issued ≤ c → IsOfTag m tag c e → ⊥
     within c past t = let low = get-within m.issued c t.command t.at in omega (arith, low, past)
@@ -385,9 +381,6 @@ later-then P Q R first second = record {
   faulted = λ e. second.faulted (first.faulted e);
 }
 
-get-more : {X : Type 0} (xs ys : List X) (i : ℕ) (x : X) → slice_get xs i ≡ Some x → slice_get (xs ++ ys) i ≡ Some x
-get-more xs ys i x e = get-left xs ys i (get-within xs i x e) ∙ e
-
 abbrev HasMore : Moves → Moves → Type 0
 HasMore m n = ((c : ℕ) (d : Command) → slice_get m.issued c ≡ Some d → slice_get n.issued c ≡ Some d) × ((c i : ℕ) (x : Element) → slice_get (read_of m.read c) i ≡ Some x → slice_get (read_of n.read c) i ≡ Some x)
 
@@ -397,12 +390,12 @@ one-read m a y = (λ c d e. e, λ c i x e. on c i x e (a == c) refl)
     on : (c i : ℕ) (x : Element) → slice_get (read_of m.read c) i ≡ Some x → (b : Bool) → (a == c) ≡ b → slice_get (read_of (with_read m a y).read c) i ≡ Some x
     on c i x e true q =
         let own = eq_is a c q in
-        ap (λ k. slice_get (read_of (with_read m k y).read c) i) own ∙ ap (λ xs. slice_get xs i) (read-more m c y) ∙ get-more (read_of m.read c) (y ∷ []) i x e
+        ap (λ k. slice_get (read_of (with_read m k y).read c) i) own ∙ ap (λ xs. slice_get xs i) (read-more m c y) ∙ get_more (read_of m.read c) (y ∷ []) i x e
     on c i x e false q = ap (λ xs. slice_get xs i) (read-elsewhere m a y c (eq_not a c q)).read ∙ e
 
 moved-more : (lines : ℕ) (s : Step) (p : ℕ) (P Q : Spe) → Moved lines s p P Q → HasMore P.moves Q.moves
 moved-more lines s p P Q (executes of (stays same)) = subst (HasMore P.moves) (sym same) (λ c d e. e, λ c i x e. e)
-moved-more lines s p P Q (executes of (issues d fit same)) = subst (HasMore P.moves) (sym same) (λ c y e. get-more P.moves.issued (d ∷ []) c y e, λ c i x e. e)
+moved-more lines s p P Q (executes of (issues d fit same)) = subst (HasMore P.moves) (sym same) (λ c y e. get_more P.moves.issued (d ∷ []) c y e, λ c i x e. e)
 moved-more lines s p P Q (executes of (resumes tag asked same)) = subst (HasMore P.moves) (sym same) (λ c d e. e, λ c i x e. e)
 moved-more lines s p P Q (copies c f k d of at has same) = subst (HasMore P.moves) (sym same) (λ a y e. e, λ a i x e. e)
 moved-more lines s p P Q (reads c d x of at has got same) = subst (HasMore P.moves) (sym same) (one-read P.moves c x)

@@ -215,7 +215,7 @@ read_complete m d x left c h = by (d == c) refl
 pub read-keeps : (m : Moves) (d : ℕ) (x : Element) → ((y : Command) → slice_get m.issued d ≡ Some y → are_all_there m.read d y ≡ false) → Keeps m (with_read m d x)
 read-keeps m d x left = record { complete = read_complete m d x left; later = []; issued = sym (append-nil m.issued) }
 
-get_more : {X : Type 0} (xs ys : List X) (c : ℕ) (x : X) → slice_get xs c ≡ Some x → slice_get (xs ++ ys) c ≡ Some x
+pub get_more : {X : Type 0} (xs ys : List X) (c : ℕ) (x : X) → slice_get xs c ≡ Some x → slice_get (xs ++ ys) c ≡ Some x
 get_more [] ys c x h = absurd (cc)
 get_more (y ∷ xs) ys zero x h = h
 get_more (y ∷ xs) ys (suc c) x h = get_more xs ys c x h
