@@ -20,3 +20,4 @@ pub mod Elements
 pub mod ListSteps
 pub mod ListOrder
 pub mod Acknowledged
+pub mod Controllers

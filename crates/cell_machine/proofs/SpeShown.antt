@@ -5,6 +5,10 @@ use Rattle.std.specs.Bool.{OnTrue}
 use Rattle.std.specs.List.{list_any, list_all, range_with_len, last_or}
 use Rattle.std.specs.Option.{option_map_or}
 use Rattle.std.proofs.lemmas.Bool.Decides.{nat_tests}
+use Rattle.std.proofs.Math.ListN.{length-map}
+use Rattle.mfc_command.specs.declared.range.Part.{Part}
+use Rattle.cell_base.specs.Bytes.{put}
+use Rattle.tag_groups.specs.declared.TagStatus.{TagStatus}
 use Rattle.mfc_command.specs.declared.command.Command.{Command}
 use Rattle.mfc_command.specs.declared.command.Kind.{Kind}
 use Rattle.mfc_command.specs.declared.command.Kind.TheVariants.{Put, Get, PutList, GetList, Barrier}
@@ -17,7 +21,8 @@ use Rattle.mfc_queue.specs.Calls.{Call, Issue, SetParts, Mark, Retire, issued, i
 use Rattle.mfc_queue.specs.Stands.{StandsFor, IsOneOf, place_in}
 use Rattle.cell_machine.specs.Spe.{Spe, Moves, is_faulted}
 use Rattle.cell_machine.specs.Moves.{read_of, elements_in, elements_of, are_all_there, present, parts_in, whole, is_done, is_finished, is_moved, is_stalled, is_at_rest, was_retired, is_complete, is_complete_as, may_begin, outstanding, busy}
-use Rattle.cell_machine.specs.Transfers.{begins, may_of, is_part_left, has_part, has_element, is_left}
+use Rattle.cell_machine.specs.Transfers.{begins, copied, is_part_left, has_part, has_element, is_left}
+use Rattle.cell_machine.specs.Channels.{read_status}
 use Rattle.cell_machine.specs.MovesShown.{ShowsMoves, ShowsDone, ShowsLists, ShowsList, AreElements, parts_now, reading}
 use Rattle.cell_machine.specs.Shows.{IsListOf}
 use Rattle.cell_machine.proofs.MovesShown.{get-within, eq_is, eq_off}
@@ -302,3 +307,20 @@ elements-list m c d h = rw h refl
 -- the command of the calls, as it was issued
 pub issued-at : (calls : List Call) (m : Moves) (c : ℕ) (y : Command) → ShowsMoves calls m → slice_get (issued calls) c ≡ Some y → slice_get m.issued c ≡ Some y
 issued-at calls m c y shows got = subst (λ xs. slice_get xs c ≡ Some y) shows.done.issued got
+
+-- at most sixteen commands are outstanding
+pub few-outstanding : (q : Queue) (calls : List Call) → StandsFor q calls → length (outstanding_calls calls) ≤ 16
+few-outstanding q calls stands = let e = ap length stands.numbers ∙ length-map q.held.items _ in let l = stands.many in omega arith
+
+-- the copies of a part
+pub copied-put : (memory new store : List ℕ) (P : Spe) (x : Part) → P.store ≡ store → new ≡ put memory x.ea (slice_range store x.ls (x.ls + x.len)) → copied memory P true x ≡ record { spe = record P { store = store }; memory = new }
+unfolding copied
+copied-put memory new store P x same is = rw is (ap (λ (s : List ℕ). record { spe = record P { store = s }; memory = put memory x.ea (slice_range s x.ls (x.ls + x.len)) }) same)
+
+pub copied-get : (memory new store : List ℕ) (P : Spe) (x : Part) → P.store ≡ store → new ≡ put store x.ls (slice_range memory x.ea (x.ea + x.len)) → copied memory P false x ≡ record { spe = record P { store = new }; memory = memory }
+unfolding copied
+copied-get memory new store P x same is = rw is (ap (λ (s : List ℕ). record { spe = record P { store = put s x.ls (slice_range memory x.ea (x.ea + x.len)) }; memory = memory }) same)
+
+pub status-off : (P : Spe) (rt : ℕ) (o : Option TagStatus) → is_some o ≡ false → read_status P rt o ≡ None
+status-off P rt None h = refl
+status-off P rt (Some status) h = absurd (true≢false h)

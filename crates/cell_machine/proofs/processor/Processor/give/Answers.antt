@@ -12,7 +12,7 @@ returns c = λ P shows.
       inbound = shows.inbound;
       outbound = shows.outbound;
       interrupt = shows.interrupt;
-      params = shows.params;
+      channels = shows.channels;
       tags = shows.tags;
       queue = shows.queue;
     })

@@ -14,7 +14,7 @@ returns-clause-made c = λ P shows.
         inbound = shows.inbound;
         outbound = sym first.1;
         interrupt = shows.interrupt;
-        params = shows.params;
+        channels = shows.channels;
         tags = shows.tags;
         queue = shows.queue;
       }),
