@@ -3,7 +3,7 @@ use Rattle.std.proofs.Common.{◌≡◌, ℕ, zero, suc, ◌+◌, ◌<◌, ◌�
 use Rattle.std.specs.Prelude.{Option, Some, None, IsSomeAnd, IfSome, MatchBool, All, ⊤, slice_get, option_map, option_and_then, nat_lt, is_some, cond, Result, Ok, Err}
 use Rattle.std.specs.Option.{option_map_or}
 use Rattle.std.proofs.lemmas.Bool.Decides.{nat_tests}
-use Rattle.std.proofs.lemmas.List.{map-set}
+use Rattle.std.proofs.lemmas.List.{map-set, length-set, length-map}
 use Rattle.std.proofs.lemmas.List.Elements.{All-append}
 use Rattle.mfc_command.specs.declared.command.Command.{Command}
 use Rattle.mfc_command.specs.declared.command.Kind.{Kind}
@@ -37,7 +37,7 @@ use Rattle.cell_machine.specs.declared.status.Status.{Status}
 use Rattle.cell_machine.specs.declared.status.Status.TheVariants.{Running, Stopped, Halted, BadWord, BadChannel, DmaFault}
 use Rattle.cell_machine.specs.Spe.{Spe, Moves, ElementRead, is_running, is_faulted}
 use Rattle.cell_machine.specs.State.{State, with_spe}
-use Rattle.cell_machine.specs.Moves.{busy, read_of, is_complete, present, is_stalled, are_all_there, stalls_of_tag, may_begin}
+use Rattle.cell_machine.specs.Moves.{busy, read_of, present, is_stalled, are_all_there, stalls_of_tag, may_begin}
 use Rattle.cell_machine.specs.Tags.{settled}
 use Rattle.cell_machine.specs.Channels.{given as with_value, bad_channel, listed, is_read, is_write, is_atomic, count, channel, read_by, read_inbound, read_status, issued_by, commanded, acknowledged, written, with_issued, with_resumed}
 use Rattle.cell_machine.specs.Exec.{exec, exec_instr, followed, asks, asked_by, op_of}
@@ -48,7 +48,7 @@ use Rattle.cell_machine.specs.Next.{act, act_in, own, lines_of, left, with_left,
 use Rattle.cell_machine.specs.Kept.{MovesFit}
 use Rattle.cell_machine.specs.Shows.{Shows, ShowsSpe, AllTwo, AreSettled, IsBounded, AreBounded}
 use Rattle.cell_machine.proofs.MovesShown.{get-cases}
-use Rattle.cell_machine.proofs.Staying.{Keeps, both, issued-keeps, done-keeps, read-keeps, resumed-keeps, retired-keeps}
+use Rattle.cell_machine.proofs.Staying.{Keeps, both, keeps-same, issued-keeps, done-keeps, read-keeps, resumed-keeps, retired-keeps}
 use Rattle.cell_machine.proofs.Elements.{part-is, element-is}
 use Rattle.cell_machine.proofs.Steps.{settled-set}
 
@@ -192,17 +192,30 @@ exec_goes : (lines p : ℕ) (P : Spe) → IfSome (exec lines P) (Goes lines (Exe
 unfolding exec asks
 exec_goes lines p P = if_so (is_running P.status) _ (Goes lines (Exec p) p P)
     (λ runs. if_on (exec_instr lines P (instr_of (word_at P.store P.pc))) (λ Q. Does lines (asks P) P.moves Q.moves) (Goes lines (Exec p) p P)
-        (λ Q does. record { moved = executes refl does; faulted = λ k. absurd (running-not P.status runs k) }) (instr_does lines P (instr_of (word_at P.store P.pc))))
+    (λ Q does. record { moved = executes refl does; faulted = λ k. absurd (running-not P.status runs k) }) (instr_does lines P (instr_of (word_at P.store P.pc))))
 
 -- ---- steps of the flow controller
 
-not_faulted : (P : Spe) (c : ℕ) (f : Command → Bool) → may_of P c f ≡ true → is_faulted P.status ≡ true → ⊥
-not_faulted P c f h k = true≢false (sym (both (not (is_faulted P.status)) (begins P.moves c f) h).0 ∙ ap not k)
+-- a step of the flow controller is allowed where no fault stands
+pub not-faulted : (P : Spe) (c : ℕ) (f : Command → Bool) → may_of P c f ≡ true → is_faulted P.status ≡ true → ⊥
+not-faulted P c f h k = true≢false (sym (both (not (is_faulted P.status)) (begins P.moves c f) h).0 ∙ ap not k)
 
-passes : (P : Spe) (c : ℕ) (f : Command → Bool) (d : Command) → may_of P c f ≡ true → slice_get P.moves.issued c ≡ Some d → f d ≡ true
-passes P c f d h at =
-    let begun = (both (not (is_faulted P.status)) (begins P.moves c f) h).1 in
-    ap (λ o. option_map_or f o false) (sym at) ∙ (both (option_map_or f (slice_get P.moves.issued c) false) (may_begin P.moves c) begun).0
+-- which command it is, and that it may begin
+pub may-is : (P : Spe) (c : ℕ) (f : Command → Bool) → may_of P c f ≡ true → (d : Command) × (slice_get P.moves.issued c ≡ Some d) × (f d ≡ true)
+may-is P c f h = on (slice_get P.moves.issued c) refl (both (option_map_or f (slice_get P.moves.issued c) false) (may_begin P.moves c) (both (not (is_faulted P.status)) (begins P.moves c f) h).1).0
+  where
+    on : (o : Option Command) → slice_get P.moves.issued c ≡ o → option_map_or f o false ≡ true → (d : Command) × (slice_get P.moves.issued c ≡ Some d) × (f d ≡ true)
+    on None at g = absurd (true≢false (sym g))
+    on (Some d) at g = (d, at, g)
+
+pub may-begun : (P : Spe) (c : ℕ) (f : Command → Bool) → may_of P c f ≡ true → may_begin P.moves c ≡ true
+may-begun P c f h = (both (option_map_or f (slice_get P.moves.issued c) false) (may_begin P.moves c) (both (not (is_faulted P.status)) (begins P.moves c f) h).1).1
+
+pub passes : (P : Spe) (c : ℕ) (f : Command → Bool) (d : Command) → may_of P c f ≡ true → slice_get P.moves.issued c ≡ Some d → f d ≡ true
+passes P c f d h at = let is = may-is P c f h in let same : is.0 ≡ d = some_same is.0 d (sym is.1 ∙ at) in ap f (sym same) ∙ is.2
+  where
+    some_same : (x y : Command) → Some x ≡ Some y → x ≡ y
+    some_same x y e = cc
 
 told_moves : (b : Bool) (P : Spe) (tag : ℕ) → (cond b (told P tag) P).moves ≡ P.moves
 told_moves true P tag = refl
@@ -236,17 +249,17 @@ unfolding piece may_piece
 piece_goes lines p memory P c e k = if_so (may_of P c (has_part P.moves c e k)) _ (λ x. Goes lines (Piece p c e k) p P x.spe) (λ may.
     each_of (slice_get P.moves.issued c) _ (λ x. Goes lines (Piece p c e k) p P x.spe) (λ d at.
     each_map (present P.moves.read c d) (piece_of memory P c k d) (λ x. Goes lines (Piece p c e k) p P x.spe) (λ x there.
-        let has = passes P c (has_part P.moves c e k) d may at in
-        let of = part-is P.moves c e k d has in
-        let same : of.element ≡ x = some_same of.element x (sym of.there ∙ there) in
-        let number : x.number ≡ e = sym (ap (λ (y : Element). y.number) same) ∙ of.number in
-        record {
-          moved = copies c e k d refl at has
-              (copied_moves memory (after_part P c x.number k d) (is_put d.kind) (part_in x k)
-              ∙ told_moves (is_stalled (with_done P.moves c x.number k) c d) (record P { moves = with_done P.moves c x.number k }) d.tag
-              ∙ ap (λ n. with_done P.moves c n k) number);
-          faulted = λ f. absurd (not_faulted P c (has_part P.moves c e k) may f);
-        })))
+    let has = passes P c (has_part P.moves c e k) d may at in
+    let of = part-is P.moves c e k d has in
+    let same : of.element ≡ x = some_same of.element x (sym of.there ∙ there) in
+    let number : x.number ≡ e = sym (ap (λ (y : Element). y.number) same) ∙ of.number in
+    record {
+      moved = copies c e k d refl at has
+          (copied_moves memory (after_part P c x.number k d) (is_put d.kind) (part_in x k)
+          ∙ told_moves (is_stalled (with_done P.moves c x.number k) c d) (record P { moves = with_done P.moves c x.number k }) d.tag
+          ∙ ap (λ n. with_done P.moves c n k) number);
+      faulted = λ f. absurd (not-faulted P c (has_part P.moves c e k) may f);
+    })))
   where
     some_same : (a b : Element) → Some a ≡ Some b → a ≡ b
     some_same a b q = cc
@@ -261,18 +274,15 @@ elem_goes lines p P c = if_so (may_of P c (has_element P.moves c)) _ (Goes lines
         → Goes lines (Elem p c) p P (after_element P c d r)
     after may d at (Ok x) is = record {
       moved = reads c d x refl at (passes P c (has_element P.moves c) d may at) is (told_moves (is_stalled (with_read P.moves c x) c d) (record P { moves = with_read P.moves c x }) d.tag);
-      faulted = λ f. absurd (not_faulted P c (has_element P.moves c) may f);
+      faulted = λ f. absurd (not-faulted P c (has_element P.moves c) may f);
     }
     after may d at (Err kind) is = record { moved = refuses c refl refl refl; faulted = λ f. refl }
 
 retire_goes : (lines p : ℕ) (P : Spe) (c : ℕ) → IfSome (retire P c) (Goes lines (Retire p c) p P)
 unfolding retire may_retire
-retire_goes lines p P c = if_so (may_of P c (is_left P.moves c)) _ (Goes lines (Retire p c) p P) (λ may. begun may (slice_get P.moves.issued c) refl)
-  where
-    begun : may_of P c (is_left P.moves c) ≡ true → (o : Option Command) → slice_get P.moves.issued c ≡ o → Goes lines (Retire p c) p P (record P { moves = with_retired P.moves c })
-    begun may None at = absurd (true≢false (sym (both (option_map_or (is_left P.moves c) (slice_get P.moves.issued c) false) (may_begin P.moves c) (both (not (is_faulted P.status)) (begins P.moves c (is_left P.moves c)) may).1).0
-        ∙ ap (λ o. option_map_or (is_left P.moves c) o false) at))
-    begun may (Some d) at = record { moved = retires c d refl at (passes P c (is_left P.moves c) d may at) refl; faulted = λ f. absurd (not_faulted P c (is_left P.moves c) may f) }
+retire_goes lines p P c = if_so (may_of P c (is_left P.moves c)) _ (Goes lines (Retire p c) p P) (λ may.
+    let is = may-is P c (is_left P.moves c) may in
+    record { moved = retires c is.0 refl is.1 is.2 refl; faulted = λ f. absurd (not-faulted P c (is_left P.moves c) may f) })
 
 atomic_goes : (lines p : ℕ) (P : Spe) → IfSome (atomic P) (Goes lines (Atomic p) p P)
 unfolding atomic
@@ -446,18 +456,19 @@ fits_more lines issued x fit fits c d at =
     (λ k same. subst (λ y. KindFits lines y y.kind) (sym same) fit)
     (λ old. fits c d old)
 
-tested_fits : (lines : ℕ) (y x : Element) → tested lines y ≡ Ok x → ElementFits lines x
-tested_fits lines y x h = on (transfer_fault y.ls y.ea y.size lines) refl h
+tested_is : (lines : ℕ) (y x : Element) → tested lines y ≡ Ok x → ElementFits lines x × (x.number ≡ y.number)
+tested_is lines y x h = on (transfer_fault y.ls y.ea y.size lines) refl h
   where
-    on : (o : Option Fault) → o ≡ transfer_fault y.ls y.ea y.size lines → unless o y ≡ Ok x → ElementFits lines x
+    on : (o : Option Fault) → o ≡ transfer_fault y.ls y.ea y.size lines → unless o y ≡ Ok x → ElementFits lines x × (x.number ≡ y.number)
     on (Some kind) e g = absurd (cc)
-    on None e g = let same : y ≡ x = cc in subst (ElementFits lines) same (fits lines y e)
+    on None e g = let same : y ≡ x = cc in (subst (ElementFits lines) same (fits lines y e), ap (λ (z : Element). z.number) (sym same))
 
-element_fits : (lines : ℕ) (P : Spe) (c : ℕ) (d : Command) (x : Element) → next_element lines P c d ≡ Ok x → ElementFits lines x
+-- an element that was read fits, and its number is that of those before it
+pub read-is : (lines : ℕ) (P : Spe) (c : ℕ) (d : Command) (x : Element) → next_element lines P c d ≡ Ok x → ElementFits lines x × (x.number ≡ length (read_of P.moves.read c))
 unfolding element_of
-element_fits lines P c d x is =
+read-is lines P c d x is =
     let at = next_at P.moves c d in
-    tested_fits lines (element_by d.ls (read_of P.moves.read c) (word_at P.store at) (word_at P.store (at + 4))) x is
+    tested_is lines (element_by d.ls (read_of P.moves.read c) (word_at P.store at) (word_at P.store (at + 4))) x is
 
 -- what IsBounded says, of moves alone
 record MovesBounded (lines n : ℕ) (m : Moves) : Type 0 where
@@ -487,7 +498,7 @@ one_more lines n s p P Q is (copies c e k d of at has same) = bounded_moves line
 one_more lines n s p P Q is (reads c d x of at has got same) = bounded_moves lines (n + 1) Q (with_read P.moves c x) same (record {
   few = let l = is.few in omega arith;
   fits = is.fits;
-  elements = All-append (λ r. ElementFits lines r.element) P.moves.read (record { cmd = c; element = x } ∷ []) is.elements (one (record { cmd = c; element = x }) (element_fits lines P c d x got));
+  elements = All-append (λ r. ElementFits lines r.element) P.moves.read (record { cmd = c; element = x } ∷ []) is.elements (one (record { cmd = c; element = x }) (read-is lines P c d x got).0);
 })
   where
     one : (r : ElementRead) → ElementFits lines r.element → All (λ (y : ElementRead). ElementFits lines y.element) (r ∷ [])
@@ -577,12 +588,12 @@ act-seen M s N p P e at =
     let k = seen_after (lines_of M.memory) s M.spes N.spes p P at (if_is (act M s) N (λ K. Changes (s ≡ Host) (Goes (lines_of M.memory) s) M.spes K.spes) e (act_changes M s)) in
     (settled k.0, got_map settled N.spes p k.0 k.1, seen_settled (lines_of M.memory) s p P k.0 k.2)
 
--- what was complete is complete still
+-- a command keeps its number, and is complete still where it was
 same-keeps : (m n : Moves) → n ≡ m → Keeps m n
-same-keeps m n same c h = subst (λ k. is_complete k c ≡ true) (sym same) h
+same-keeps m n same = subst (Keeps m) (sym same) (keeps-same m)
 
 as-keeps : (m n k : Moves) → k ≡ n → Keeps m n → Keeps m k
-as-keeps m n k same keeps c h = subst (λ l. is_complete l c ≡ true) (sym same) (keeps c h)
+as-keeps m n k same keeps = subst (Keeps m) (sym same) keeps
 
 moved-keeps : (lines : ℕ) (s : Step) (p : ℕ) (P Q : Spe) → Moved lines s p P Q → Keeps P.moves Q.moves
 moved-keeps lines s p P Q (executes of (stays same)) = same-keeps P.moves Q.moves same
@@ -605,3 +616,11 @@ seen-keeps lines s p P Q (goes g) = moved-keeps lines s p P Q g.moved
 pub act-keeps : (M : State) (s : Step) (N : State) (p : ℕ) (P : Spe) → act M s ≡ Some N → slice_get M.spes p ≡ Some P
     → (Q : Spe) × (slice_get (map settled N.spes) p ≡ Some Q) × Keeps P.moves Q.moves
 act-keeps M s N p P e at = let k = act-seen M s N p P e at in (k.0, k.1, seen-keeps (lines_of M.memory) s p P k.0 k.2)
+
+-- no processor comes or goes
+length_after : {A : Type 0} {R : ℕ → Spe → Spe → Type 0} (old new : List Spe) → Changes A R old new → length new ≡ length old
+length_after old new (inl same) = ap length same.1
+length_after old new (inr x) = ap length x.set ∙ length-set old x.p x.is
+
+pub act-length : (M : State) (s : Step) (N : State) → act M s ≡ Some N → length (map settled N.spes) ≡ length M.spes
+act-length M s N e = length-map N.spes settled ∙ length_after M.spes N.spes (if_is (act M s) N (λ K. Changes (s ≡ Host) (Goes (lines_of M.memory) s) M.spes K.spes) e (act_changes M s))

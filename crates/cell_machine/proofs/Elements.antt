@@ -37,7 +37,7 @@ came (z ∷ ys) x (suc n) y e = deeper z ys x n y (came ys x n y e)
 pub any_neither : {X : Type 0} (f : X → Bool) (xs ys : List X) → list_any f xs ≡ false → list_any f ys ≡ false → list_any f (xs ++ ys) ≡ false
 any_neither f xs ys h k = list_any-append f xs ys ∙ ap (λ b. b || list_any f ys) h ∙ k
 
-not_on : (b : Bool) → (b ≡ true → ⊥) → b ≡ false
+pub not_on : (b : Bool) → (b ≡ true → ⊥) → b ≡ false
 not_on true h = absurd (h refl)
 not_on false h = refl
 

@@ -17,5 +17,7 @@ pub mod Places
 pub mod Completion
 pub mod CommandsShown
 pub mod Elements
+pub mod ListSteps
+pub mod ListOrder
 pub mod Acknowledged
 pub mod Controllers

@@ -1,5 +1,5 @@
--- A command that is complete stays complete, whatever is added to the moves.
-use Rattle.std.proofs.Common.{◌≡◌, ℕ, zero, suc, ◌==◌, ◌&&◌, ◌||◌, not, Bool, true, false, List, [], ◌∷◌, ◌++◌, length, refl, sym, ◌∙◌, ap, subst, true≢false, arith}
+-- A command keeps its number, and one that is complete stays complete, whatever is added to the moves.
+use Rattle.std.proofs.Common.{◌≡◌, ℕ, zero, suc, ◌==◌, ◌&&◌, ◌||◌, not, Bool, true, false, List, [], ◌∷◌, ◌++◌, length, refl, sym, ◌∙◌, ap, subst, true≢false, arith, append-nil, append_assoc}
 use Rattle.std.proofs.lemmas.Bool.Decides.{nat_tests}
 use Rattle.std.specs.Prelude.{Option, Some, None, slice_get, cond, is_some, option_and_then, map, filter}
 use Rattle.std.specs.List.{list_any, list_all, range_with_len, last_or}
@@ -98,15 +98,15 @@ unfolding stall_of present
 stalled-more m n c d more all h =
     ap (λ els. is_some (option_and_then (λ x. cond (stalls_behind n c x) (Some (a_stall c x)) None) (last_or None els))) (elements-same m n c d more)
     ∙ no_stall c (stalls_behind m c) (stalls_behind n c) (last_or None (elements_of m.read c d))
-        (λ x e. not_behind x.flagged (is_finished m.done c x) (is_finished n.done c x) (is_resumed m.resumed c x.number) (is_resumed n.resumed c x.number)
-            (all_last (is_finished m.done c) None (elements_of m.read c d) x refl all e) (more.resumed x.number)) h
+    (λ x e. not_behind x.flagged (is_finished m.done c x) (is_finished n.done c x) (is_resumed m.resumed c x.number) (is_resumed n.resumed c x.number)
+    (all_last (is_finished m.done c) None (elements_of m.read c d) x refl all e) (more.resumed x.number)) h
 
 rest-more : (m n : Moves) (c : ℕ) (d : Command) → IsMore m n c → is_at_rest m c d ≡ true → is_at_rest n c d ≡ true
 rest-more m n c d more h =
     let p = both (list_all (is_finished m.done c) (elements_of m.read c d)) (not (is_stalled m c d)) h in
     join (list_all (is_finished n.done c) (elements_of n.read c d)) (not (is_stalled n c d))
-        (ap (λ els. list_all (is_finished n.done c) els) (elements-same m n c d more) ∙ all_more (is_finished m.done c) (is_finished n.done c) (elements_of m.read c d) (λ x. finished-more m n c x more) p.0)
-        (is_not _ (stalled-more m n c d more p.0 (not_true _ p.1)))
+    (ap (λ els. list_all (is_finished n.done c) els) (elements-same m n c d more) ∙ all_more (is_finished m.done c) (is_finished n.done c) (elements_of m.read c d) (λ x. finished-more m n c x more) p.0)
+    (is_not _ (stalled-more m n c d more p.0 (not_true _ p.1)))
 
 pub complete-more : (m n : Moves) (c : ℕ) (d : Command) → IsMore m n c → is_complete_as m c d ≡ true → is_complete_as n c d ≡ true
 unfolding is_complete_as
@@ -123,17 +123,29 @@ eq_is a b h = grind (arith, nat_tests)
 
 -- ---- what the steps add
 
--- each command that is complete in the first is complete in the second
-abbrev pub Keeps : Moves → Moves → Type 0
-Keeps m n = (c : ℕ) → is_complete m c ≡ true → is_complete n c ≡ true
+-- each command that is complete in the first is complete in the second, whose commands are those of the first and later ones
+pub record Keeps (m n : Moves) : Type 0 where
+  pub complete : (c : ℕ) → is_complete m c ≡ true → is_complete n c ≡ true
+  pub later : List Command
+  pub issued : n.issued ≡ m.issued ++ later
+
+pub keeps-same : (m : Moves) → Keeps m m
+keeps-same m = record { complete = λ c h. h; later = []; issued = sym (append-nil m.issued) }
+
+pub keeps-then : (m n o : Moves) → Keeps m n → Keeps n o → Keeps m o
+keeps-then m n o first second = record {
+  complete = λ c h. second.complete c (first.complete c h);
+  later = first.later ++ second.later;
+  issued = second.issued ∙ ap (λ xs. xs ++ second.later) first.issued ∙ append_assoc m.issued first.later second.later;
+}
 
 on_issued : (f g : Command → Bool) (o : Option Command) → ((d : Command) → o ≡ Some d → f d ≡ true → g d ≡ true) → option_map_or f o false ≡ true → option_map_or g o false ≡ true
 on_issued f g None k h = h
 on_issued f g (Some d) k h = k d refl h
 
-pub done-keeps : (m : Moves) (d e k : ℕ) → Keeps m (with_done m d e k)
+done_complete : (m : Moves) (d e k : ℕ) (c : ℕ) → is_complete m c ≡ true → is_complete (with_done m d e k) c ≡ true
 unfolding is_complete is_done read_of
-done-keeps m d e k c h = on_issued (is_complete_as m c) (is_complete_as (with_done m d e k) c) (slice_get m.issued c)
+done_complete m d e k c h = on_issued (is_complete_as m c) (is_complete_as (with_done m d e k) c) (slice_get m.issued c)
     (λ y p. complete-more m (with_done m d e k) c y (record {
       read = refl;
       done = λ f j. any_more (λ (z : PartDone). z.cmd == c && z.elem == f && z.part == j) m.done (record { cmd = d; elem = e; part = k } ∷ []);
@@ -141,9 +153,12 @@ done-keeps m d e k c h = on_issued (is_complete_as m c) (is_complete_as (with_do
       retired = λ q. q;
     })) h
 
-pub resumed-keeps : (m : Moves) (stalls : List Stall) → Keeps m (with_resumed m stalls)
+pub done-keeps : (m : Moves) (d e k : ℕ) → Keeps m (with_done m d e k)
+done-keeps m d e k = record { complete = done_complete m d e k; later = []; issued = sym (append-nil m.issued) }
+
+resumed_complete : (m : Moves) (stalls : List Stall) (c : ℕ) → is_complete m c ≡ true → is_complete (with_resumed m stalls) c ≡ true
 unfolding is_complete is_done read_of
-resumed-keeps m stalls c h = on_issued (is_complete_as m c) (is_complete_as (with_resumed m stalls) c) (slice_get m.issued c)
+resumed_complete m stalls c h = on_issued (is_complete_as m c) (is_complete_as (with_resumed m stalls) c) (slice_get m.issued c)
     (λ y p. complete-more m (with_resumed m stalls) c y (record {
       read = refl;
       done = λ f j q. q;
@@ -151,15 +166,21 @@ resumed-keeps m stalls c h = on_issued (is_complete_as m c) (is_complete_as (wit
       retired = λ q. q;
     })) h
 
-pub retired-keeps : (m : Moves) (d : ℕ) → Keeps m (with_retired m d)
+pub resumed-keeps : (m : Moves) (stalls : List Stall) → Keeps m (with_resumed m stalls)
+resumed-keeps m stalls = record { complete = resumed_complete m stalls; later = []; issued = sym (append-nil m.issued) }
+
+retired_complete : (m : Moves) (d : ℕ) (c : ℕ) → is_complete m c ≡ true → is_complete (with_retired m d) c ≡ true
 unfolding is_complete is_done read_of
-retired-keeps m d c h = on_issued (is_complete_as m c) (is_complete_as (with_retired m d) c) (slice_get m.issued c)
+retired_complete m d c h = on_issued (is_complete_as m c) (is_complete_as (with_retired m d) c) (slice_get m.issued c)
     (λ y p. complete-more m (with_retired m d) c y (record {
       read = refl;
       done = λ f j q. q;
       resumed = λ f q. q;
       retired = any_more (λ r. r == c) m.retired (d ∷ []);
     })) h
+
+pub retired-keeps : (m : Moves) (d : ℕ) → Keeps m (with_retired m d)
+retired-keeps m d = record { complete = retired_complete m d; later = []; issued = sym (append-nil m.issued) }
 
 pub other-read : (reads : List ElementRead) (c d : ℕ) (x : Element) → (d == c) ≡ false
     → map (λ (r : ElementRead). r.element) (filter (λ r. r.cmd == c) (reads ++ record { cmd = d; element = x } ∷ [])) ≡ map (λ (r : ElementRead). r.element) (filter (λ r. r.cmd == c) reads)
@@ -171,13 +192,14 @@ other-read (r ∷ reads) c d x p = on (filter (λ r. r.cmd == c) (reads ++ recor
     on xs ys false q = q
 
 -- an element that is left is read: its own command wasn't complete
-pub read-keeps : (m : Moves) (d : ℕ) (x : Element) → ((y : Command) → slice_get m.issued d ≡ Some y → are_all_there m.read d y ≡ false) → Keeps m (with_read m d x)
+read_complete : (m : Moves) (d : ℕ) (x : Element) → ((y : Command) → slice_get m.issued d ≡ Some y → are_all_there m.read d y ≡ false) → (c : ℕ) → is_complete m c ≡ true → is_complete (with_read m d x) c ≡ true
 unfolding is_complete is_complete_as is_done read_of
-read-keeps m d x left c h = by (d == c) refl
+read_complete m d x left c h = by (d == c) refl
   where
     other : (d == c) ≡ false → is_complete (with_read m d x) c ≡ true
     other p = on_issued (is_complete_as m c) (is_complete_as (with_read m d x) c) (slice_get m.issued c)
         (λ y q. complete-more m (with_read m d x) c y (record { read = other-read m.read c d x p; done = λ f j r. r; resumed = λ f r. r; retired = λ r. r })) h
+
     own : (d ≡ c) → is_complete (with_read m d x) c ≡ true
     own p = on_issued (is_complete_as m c) (is_complete_as (with_read m d x) c) (slice_get m.issued c)
         (λ y q e. on (are_all_there m.read c y) (is_at_rest m c y) (was_retired m.retired c) (are_all_there (with_read m d x).read c y && is_at_rest (with_read m d x) c y) (is_moved y) (subst (λ k. are_all_there m.read k y ≡ false) p (left y (ap (λ k. slice_get m.issued k) p ∙ q))) e) h
@@ -185,18 +207,22 @@ read-keeps m d x left c h = by (d == c) refl
         on : (a b r z moved : Bool) → a ≡ false → cond moved (a && b) r ≡ true → cond moved z r ≡ true
         on a b r z true q e = absurd (true≢false (sym e ∙ ap (λ k. k && b) q))
         on a b r z false q e = e
+
     by : (b : Bool) → (d == c) ≡ b → is_complete (with_read m d x) c ≡ true
     by true p = own (eq_is d c p)
     by false p = other p
 
-get_more : {X : Type 0} (xs ys : List X) (c : ℕ) (x : X) → slice_get xs c ≡ Some x → slice_get (xs ++ ys) c ≡ Some x
+pub read-keeps : (m : Moves) (d : ℕ) (x : Element) → ((y : Command) → slice_get m.issued d ≡ Some y → are_all_there m.read d y ≡ false) → Keeps m (with_read m d x)
+read-keeps m d x left = record { complete = read_complete m d x left; later = []; issued = sym (append-nil m.issued) }
+
+pub get_more : {X : Type 0} (xs ys : List X) (c : ℕ) (x : X) → slice_get xs c ≡ Some x → slice_get (xs ++ ys) c ≡ Some x
 get_more [] ys c x h = absurd (cc)
 get_more (y ∷ xs) ys zero x h = h
 get_more (y ∷ xs) ys (suc c) x h = get_more xs ys c x h
 
-pub issued-keeps : (m : Moves) (d : Command) → Keeps m (with_issued m d)
+issued_complete : (m : Moves) (d : Command) (c : ℕ) → is_complete m c ≡ true → is_complete (with_issued m d) c ≡ true
 unfolding is_complete is_done read_of
-issued-keeps m d c h = on (slice_get m.issued c) refl h
+issued_complete m d c h = on (slice_get m.issued c) refl h
   where
     on : (o : Option Command) → slice_get m.issued c ≡ o → option_map_or (is_complete_as m c) o false ≡ true
         → option_map_or (is_complete_as (with_issued m d) c) (slice_get (m.issued ++ d ∷ []) c) false ≡ true
@@ -204,3 +230,6 @@ issued-keeps m d c h = on (slice_get m.issued c) refl h
     on (Some y) e g =
         ap (λ o. option_map_or (is_complete_as (with_issued m d) c) o false) (get_more m.issued (d ∷ []) c y e)
         ∙ complete-more m (with_issued m d) c y (record { read = refl; done = λ f j q. q; resumed = λ f q. q; retired = λ q. q }) g
+
+pub issued-keeps : (m : Moves) (d : Command) → Keeps m (with_issued m d)
+issued-keeps m d = record { complete = issued_complete m d; later = d ∷ []; issued = refl }
