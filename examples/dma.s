@@ -35,7 +35,7 @@ again:	lqd	$13,0($11)
 	wrch	$ch21,$15	# MFC_Cmd: 0x20 is PUT, local store to main memory
 	wrch	$ch23,$9	# MFC_WrTagUpdate: the mask still stands
 	rdch	$16,$ch24	# MFC_RdTagStat: the block has gone out
-	stop	0
+	stop	1
 
 	.data
 	.align	7		# a line of 128 bytes: pieces end where lines of main memory do

@@ -45,7 +45,7 @@ add:	lqd	$18,0($16)	# the first quadword of a record
 	xori	$5,$5,1		# the buffers change places
 	brnz	$4,block
 	stqd	$7,0($11)	# the sum, where the states show it
-	stop	0
+	stop	1
 
 	.data
 	.align	7		# a line of 128 bytes, so that a block is moved in four pieces

@@ -6,4 +6,4 @@ _start:	rdch	$3,$ch29	# at 0x0
 	a	$3,$3,$4
 	a	$3,$3,$5
 	wrch	$ch28,$3
-	stop	0
+	stop	1

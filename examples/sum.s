@@ -2,7 +2,7 @@
 	.text
 	.global _start
 _start:	brsl	$lr,main
-	stop	0
+	stop	1
 	.align	3
 	.global	main
 	.type	main, @function

@@ -39,13 +39,13 @@ pub struct Counts {
 /// The parameters of the next command, the atomic slot, and the statuses of atomic commands and of stalled lists.
 #[derive(Clone, Copy, Debug, PartialEq, Eq)]
 pub struct Channels {
-    pub params: Params,
+    params: Params,
     /// The atomic command that was issued and not yet done.
-    pub slot: Option<AtomicOp>,
+    slot: Option<AtomicOp>,
     /// The unread status of the latest atomic command that was done.
-    pub atomic: Option<u32>,
+    atomic: Option<u32>,
     /// The tag groups with an unread stall, where group t is bit value 2^t.
-    pub stalls: u32,
+    stalls: u32,
 }
 
 impl Channels {

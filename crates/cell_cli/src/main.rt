@@ -2,8 +2,6 @@
 #![tactic(auto)]
 
 mod causes;
-#[cfg(test)]
-mod examples;
 mod fault;
 mod job;
 mod program;

@@ -1,8 +1,9 @@
 //! All that the program does.
 
-ghost use Rattle.std.specs.Prelude.{◌≡◌, ◌↔◌, ◌++◌, ◌<◌, length, map, string_bytes, IfErr, IfOk};
+ghost use Rattle.std.specs.Prelude.{◌≡◌, ◌≤◌, ◌↔◌, ◌++◌, ◌<◌, length, map, string_bytes, IfErr, IfOk};
 ghost use Rattle.std.specs.Option.{ForSome};
 ghost use Rattle.cell_io.specs.Sink.{FailsWithCause, Takes};
+ghost use Rattle.cell_io.specs.Store.{NoneFell};
 ghost use Rattle.cell_cli.specs.Causes.{IsOfInput};
 ghost use Rattle.cell_cli.specs.Task.{ready, run_of};
 ghost use Rattle.cell_cli.specs.Forms.{run_task, asm_task};
@@ -21,6 +22,8 @@ use cell_report::{image_text, record_text, states_text};
 use std::alloc::Global;
 
 fn prepare_run<T: Store>(alloc: Global, files: &mut T, machine: &str) -> Result<Job, Fault>
+    ensures same { T.files files.new ≡ T.files files.old }
+    ensures store_count { NoneFell (T.ledger files.old) (T.ledger files.new) }
     ensures input { IfErr result IsOfInput }
     ensures can { IfOk result CanBeDone }
     ensures cause { FailsBy (AtMachine machine.now) (T.ledger files.old) (T.ledger files.new) result }
@@ -32,6 +35,8 @@ fn prepare_run<T: Store>(alloc: Global, files: &mut T, machine: &str) -> Result<
 }
 
 fn prepare_asm<T: Store>(alloc: Global, files: &mut T, source: &str) -> Result<Job, Fault>
+    ensures same { T.files files.new ≡ T.files files.old }
+    ensures store_count { NoneFell (T.ledger files.old) (T.ledger files.new) }
     ensures input { IfErr result IsOfInput }
     ensures can { IfOk result CanBeDone }
     ensures cause { FailsBy (AtFile (FileId.Source 0) source.now) (T.ledger files.old) (T.ledger files.new) result }
@@ -47,6 +52,8 @@ fn prepare_asm<T: Store>(alloc: Global, files: &mut T, source: &str) -> Result<J
 
 /// Reads the files that the words ask for, and answers the work that is left.
 fn prepare<T: Store>(alloc: Global, words: &[String], files: &mut T) -> Result<Job, Fault>
+    ensures same { T.files files.new ≡ T.files files.old }
+    ensures store_count { NoneFell (T.ledger files.old) (T.ledger files.new) }
     ensures words { IsPrepared (spoken (map string_bytes words.now)) result }
     ensures can { IfOk result CanBeDone }
     ensures cause { FailsBy (FailsIn (spoken (map string_bytes words.now))) (T.ledger files.old) (T.ledger files.new) result }
@@ -72,7 +79,8 @@ fn put_both<K: Sink>(out: &mut K, first: &[u8], second: &[u8]) -> Result<(), Sin
 /// Runs the setup, and writes the record's text and the states'. Both are made before the first is put.
 fn finish_run<K: Sink>(alloc: Global, setup: Setup, out: &mut K) -> Status
     requires { 0 < length setup.entries }
-    ensures { Ends (run_of setup) (record { taken = K.taken out.old; faults = K.faults out.old }) (record { taken = K.taken out.new; faults = K.faults out.new }) result }
+    ensures sink_count { K.faults out.old ≤ K.faults out.new }
+    ensures ends { Ends (run_of setup) (record { taken = K.taken out.old; faults = K.faults out.old }) (record { taken = K.taken out.new; faults = K.faults out.new }) result }
 {
     let Ok(machine) = run(alloc, setup) else {
         return Status::Refused(Fault::Memory);
@@ -92,7 +100,8 @@ fn finish_run<K: Sink>(alloc: Global, setup: Setup, out: &mut K) -> Status
 /// Does the work.
 fn finish<K: Sink>(alloc: Global, job: Job, out: &mut K) -> Status
     requires { CanBeDone job }
-    ensures { Ends (work_of job) (record { taken = K.taken out.old; faults = K.faults out.old }) (record { taken = K.taken out.new; faults = K.faults out.new }) result }
+    ensures sink_count { K.faults out.old ≤ K.faults out.new }
+    ensures ends { Ends (work_of job) (record { taken = K.taken out.old; faults = K.faults out.old }) (record { taken = K.taken out.new; faults = K.faults out.new }) result }
 {
     match job {
         Job::Run { setup } => finish_run(alloc, setup, out),
@@ -105,6 +114,10 @@ fn finish<K: Sink>(alloc: Global, job: Job, out: &mut K) -> Status
 
 /// The answer to the words, with its cause.
 fn answer<T: Store, K: Sink>(alloc: Global, words: &[String], files: &mut T, out: &mut K) -> Status
+    ensures same { T.files files.new ≡ T.files files.old }
+    ensures store_count { NoneFell (T.ledger files.old) (T.ledger files.new) }
+    ensures sink_count { K.faults out.old ≤ K.faults out.new }
+
     // Where the store tells its files, each answer has its cause in them.
     ensures answer { ForSome (T.files files.old) (λ told.
         Answers told (task_of (spoken (map string_bytes words.now))) (T.ledger files.old) (T.ledger files.new)
@@ -133,6 +146,11 @@ pub fn cell<T: Store, K: Sink>(
     files: &mut T,
     out: &mut K,
 ) -> Status
+    // The files stay as they were, and no count of faults falls.
+    ensures same { T.files files.new ≡ T.files files.old }
+    ensures store_count { NoneFell (T.ledger files.old) (T.ledger files.new) }
+    ensures sink_count { K.faults out.old ≤ K.faults out.new }
+
     // Where the store tells its files, each answer has its cause in them.
     ensures answer { ForSome (T.files files.old) (λ told.
         Answers told (task_of (spoken (map string_bytes words.now))) (T.ledger files.old) (T.ledger files.new)

@@ -1,7 +1,8 @@
 //! The files that the words name.
 
-ghost use Rattle.std.specs.Prelude.{◌≡◌, ◌≤◌, ◌<◌, ◌^◌, [], ℕ, List, length, map, IfOk, IfErr, OnOk};
+ghost use Rattle.std.specs.Prelude.{◌≡◌, ◌≤◌, ◌<◌, ◌^◌, [], ℕ, List, length, map, Err, IfOk, IfErr, OnOk};
 ghost use Rattle.std.specs.Option.{ForSome};
+ghost use Rattle.cell_io.specs.Store.{NoneFell, Rose};
 ghost use Rattle.spu_asm.specs.Images.{Image};
 ghost use Rattle.cell_load.specs.Sources.{named};
 ghost use Rattle.cell_machine.specs.Opening.{Opening};
@@ -19,9 +20,9 @@ use spu_asm::{Image, assemble};
 use std::alloc::Global;
 
 /// How long a machine file or a source may be, in bytes.
-pub const TEXT_LIMIT: usize = 4_194_304;
+const TEXT_LIMIT: usize = 4_194_304;
 
-/// The bytes of a file, unless there are more than `limit`.
+/// The bytes of a file, unless there are more than `limit`. It is short of memory only where the store was.
 pub fn read_file<T: Store>(
     alloc: Global,
     files: &mut T,
@@ -30,7 +31,9 @@ pub fn read_file<T: Store>(
     limit: usize,
 ) -> Result<Vec<u8>, Fault>
     ensures same { T.files files.new ≡ T.files files.old }
+    ensures store_count { NoneFell (T.ledger files.old) (T.ledger files.new) }
     ensures bound { IfOk result (λ bytes. length bytes.items ≤ limit) }
+    ensures memory { result ≡ Err Fault.Memory → Rose (T.ledger files.old).short (T.ledger files.new).short }
     ensures kept { OnOk result (T.ledger files.new ≡ T.ledger files.old) }
     ensures input { IfErr result IsOfInput }
     ensures cause { FailsBy (AtFile file name.now) (T.ledger files.old) (T.ledger files.new) result }
@@ -54,6 +57,7 @@ pub fn read_source<T: Store>(
     name: &str,
 ) -> Result<Image, Fault>
     ensures same { T.files files.new ≡ T.files files.old }
+    ensures store_count { NoneFell (T.ledger files.old) (T.ledger files.new) }
     ensures kept { OnOk result (T.ledger files.new ≡ T.ledger files.old) }
     ensures input { IfErr result IsOfInput }
     ensures cause { FailsBy (AtFile (FileId.Source number) name.now) (T.ledger files.old) (T.ledger files.new) result }
@@ -76,6 +80,7 @@ pub fn read_sources<T: Store>(
 ) -> Result<Vec<Image>, Fault>
     requires { length sources.now < 2 ^ 32 }
     ensures same { T.files files.new ≡ T.files files.old }
+    ensures store_count { NoneFell (T.ledger files.old) (T.ledger files.new) }
     ensures kept { OnOk result (T.ledger files.new ≡ T.ledger files.old) }
     ensures count { IfOk result (λ images. length images.items ≡ length sources.now) }
     ensures input { IfErr result IsOfInput }
@@ -99,6 +104,7 @@ pub fn read_sources<T: Store>(
 /// The setup that a machine file and its sources stand for.
 pub fn read_setup<T: Store>(alloc: Global, files: &mut T, name: &str) -> Result<Setup, Fault>
     ensures same { T.files files.new ≡ T.files files.old }
+    ensures store_count { NoneFell (T.ledger files.old) (T.ledger files.new) }
     ensures kept { OnOk result (T.ledger files.new ≡ T.ledger files.old) }
     ensures input { IfErr result IsOfInput }
     ensures some { IfOk result (λ setup. 0 < length setup.entries) }

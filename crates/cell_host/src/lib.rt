@@ -68,7 +68,7 @@ impl Host {
     ///
     /// It has room for all values that the actions may take, so that `advance` needs none.
     pub fn new(alloc: Global, script: &[HostAction]) -> Result<Host, HostError>
-        requires { length script.now ≤ 4096 }
+        requires { length script.now ≤ MAX_ACTIONS }
         ensures { IfOk result (λ h. h ≡ opening script.now) }
     {
         let took = Vec::with_capacity(alloc, takes_in(script))?;
@@ -103,7 +103,7 @@ impl Host {
     pub fn place(&self) -> u32
         ensures count { result ≡ self.now.done }
         ensures within { result ≤ length self.now.script }
-        ensures few { length self.now.script ≤ 4096 }
+        ensures few { length self.now.script ≤ MAX_ACTIONS }
     {
         self.done
     }

@@ -1,10 +1,10 @@
 // Files in memory.
-ghost use Rattle.std.specs.Prelude.{◌≡◌, ◌≢◌, ◌==◌, ◌≤◌, Some, None, Err};
+ghost use Rattle.std.specs.Prelude.{◌≡◌, ◌≢◌, ◌==◌, Some, None, Err};
 ghost use Rattle.std.specs.List.{list_any};
 ghost use Rattle.std.specs.Io.{StartsWith};
 ghost use Rattle.std.specs.Option.{ForSome};
 ghost use Rattle.cell_io.specs.Files.{HasDifferentNames};
-ghost use Rattle.cell_io.specs.Store.{AddsOf, Bounded, HasCause};
+ghost use Rattle.cell_io.specs.Store.{AddsOf, Bounded, HasCause, NoneFell};
 ghost use Rattle.cell_io.specs.Memory.{answer_of, ledger_of, IsOneCall};
 
 use crate::mem_file::find_file;
@@ -20,6 +20,7 @@ pub struct MemStore {
     calls: u64,
     faults: u64,
     failed: Option<String>,
+    short: u64,
 }
 
 impl Model for MemStore {
@@ -30,7 +31,7 @@ impl Model for MemStore {
 
     ghost Value = { Shelf };
 
-    ghost view = { λ s. record { files = s.files.items; failing = s.failing.items; calls = s.calls; faults = s.faults; failed = option_map string_bytes s.failed } };
+    ghost view = { λ s. record { files = s.files.items; failing = s.failing.items; calls = s.calls; faults = s.faults; failed = option_map string_bytes s.failed; short = s.short } };
 
     ghost invariant = { λ s. HasDifferentNames s.files.items };
 }
@@ -42,7 +43,7 @@ impl MemStore {
     /// A store of these files, of which the calls of these numbers fail. It takes no memory.
     pub fn new(files: Vec<MemFile>, failing: Vec<u32>) -> MemStore
         requires { HasDifferentNames files.items }
-        ensures { result ≡ record { files = files.items; failing = failing.items; calls = 0; faults = 0; failed = None } }
+        ensures { result ≡ record { files = files.items; failing = failing.items; calls = 0; faults = 0; failed = None; short = 0 } }
     {
         MemStore {
             files,
@@ -50,6 +51,7 @@ impl MemStore {
             calls: 0,
             faults: 0,
             failed: None,
+            short: 0,
         }
     }
 }
@@ -80,7 +82,7 @@ impl Store for MemStore {
         ensures front { StartsWith into.new.items into.old.items }
         ensures bound { Bounded limit into.old.items into.new.items result }
         ensures cause { HasCause name.now (ledger_of self.old) (ledger_of self.new) result }
-        ensures count { (ledger_of self.old).faults ≤ (ledger_of self.new).faults }
+        ensures count { NoneFell (ledger_of self.old) (ledger_of self.new) }
 
         // Want of memory is the one free answer.
         ensures answer { result ≢ Err FetchFault.Memory → result ≡ answer_of self.old name.now limit }
@@ -88,14 +90,20 @@ impl Store for MemStore {
     {
         let call = self.calls;
         self.calls = call.saturating_add(1);
-        let kept = String::from_str(alloc, name)?;
+        let Ok(kept) = String::from_str(alloc, name) else {
+            self.short = self.short.saturating_add(1);
+            return Err(FetchFault::Memory);
+        };
         let fails = is_failing(self.failing.as_slice(), call);
         match find_file(self.files.as_slice(), name) {
             Some(bytes) if !fails => {
                 if bytes.len() > limit {
                     return Ok(Fetched::TooLong);
                 }
-                into.extend_from_slice(bytes)?;
+                if into.extend_from_slice(bytes).is_err() {
+                    self.short = self.short.saturating_add(1);
+                    return Err(FetchFault::Memory);
+                }
                 Ok(Fetched::Whole)
             }
             _ => {

@@ -1,16 +1,17 @@
 -- Reading the lines of a machine file, as a loop does.
-use Rattle.std.proofs.Common.{◌≡◌, ℕ, List, ◌∷◌, Option, Result, Err, ap, ◌∙◌}
+use Rattle.std.proofs.Common.{◌≡◌, ℕ, List, ◌∷◌, Option, Some, None, Result, Ok, Err, ap, ◌∙◌}
 use Rattle.std.specs.Prelude.{IsErrOf}
 use Rattle.cell_base.specs.Words.{lines_of}
-use Rattle.cell_base.specs.Walk.{walk, IsFirstFault}
+use Rattle.cell_base.specs.Walk.{walk, state_after, IsFirstFault}
 use Rattle.cell_base.proofs.WalkLaws.{with_front, walk_fault, walk_is_first}
+use Rattle.cell_load.specs.declared.line.Line.{Line}
 use Rattle.cell_load.specs.declared.line.Refusal.{Refusal}
 use Rattle.cell_load.specs.declared.line.Refusal.TheVariants as refusal
 use Rattle.cell_load.specs.declared.line.Stage.{Stage}
 use Rattle.cell_load.specs.declared.line.Stage.TheVariants.{Start}
 use Rattle.cell_load.specs.declared.plan.PlanError.{PlanError}
 use Rattle.cell_load.specs.declared.plan.PlanError.TheVariants.{BadLine, Limit, Memory}
-use Rattle.cell_load.specs.Entries.{Entry}
+use Rattle.cell_load.specs.Entries.{Entry, seen}
 use Rattle.cell_load.specs.Form.{Gives}
 use Rattle.cell_load.specs.Order.{line_step, lacks, machine_at}
 use Rattle.cell_load.specs.Plans.{PlanGives, fault_of}
@@ -34,3 +35,8 @@ first_limit whole text (Limit l) line gives is =
     walk_is_first line_step lacks Start (lines_of text) line refusal.Limit (gives ∙ ap (λ (k : ℕ). Err (k, refusal.Limit)) same)
 first_limit whole text (BadLine l) line gives is = absurd cc
 first_limit whole text Memory line gives is = absurd cc
+
+-- a line that was skipped leaves the stage
+pub skipped : (stage next : Stage) (done : Option (Line × Stage)) → next ≡ state_after stage (seen done) → ◌≡◌ {A = Result (Option (Line × Stage)) Refusal} (Ok done) (Ok None) → next ≡ stage
+skipped stage next None after is = after
+skipped stage next (Some x) after is = absurd cc

@@ -6,38 +6,35 @@ ghost use Rattle.cell_load.specs.declared.line.Stage.TheVariants.{Start, Headed,
 
 use crate::line::{Counts, Line, Refusal, Stage};
 use cell_host::{HostAction, MAX_ACTIONS};
-
-const LOCAL_BYTES: usize = 262_144;
-
-/// How many bytes a line of main memory has.
-const LINE_BYTES: usize = 128;
+use local_store::STORE_BYTES;
+use main_memory::LINE_BYTES;
 
 /// How many bytes a host action may store.
-const MAX_STORED: usize = 16;
+const MAX_STORED: u32 = 16;
 
 fn in_local(at: u32, len: usize) -> bool
     requires { len < 2 ^ 63 }
     ensures { result ≡ in_local at len }
 {
-    at as usize + len <= LOCAL_BYTES
+    at as usize + len <= STORE_BYTES
 }
 
 fn in_memory(lines: u32, at: u32, len: usize) -> bool
     requires { len < 2 ^ 63 }
     ensures { result ≡ in_memory lines at len }
 {
-    at as usize + len <= LINE_BYTES * lines as usize
+    at as usize + len <= LINE_BYTES as usize * lines as usize
 }
 
 /// Whether so many bytes are 1 to 16 within one line of main memory.
 fn in_line(lines: u32, at: u32, len: u8) -> bool
     ensures { result ≡ in_line lines at len }
 {
-    let len = len as usize;
-    1 <= len
-        && len <= MAX_STORED
-        && at as usize % LINE_BYTES + len <= LINE_BYTES
-        && in_memory(lines, at, len)
+    let stored = u32::from(len);
+    1 <= stored
+        && stored <= MAX_STORED
+        && at % LINE_BYTES + stored <= LINE_BYTES
+        && in_memory(lines, at, len as usize)
 }
 
 fn is_shown(len: u32) -> bool
@@ -143,7 +140,7 @@ fn count_action(counts: Counts, action: HostAction) -> Result<Counts, Refusal>
     if !fits_action(counts, action) {
         return Err(Refusal::Form);
     }
-    if counts.actions as usize >= MAX_ACTIONS {
+    if counts.actions >= MAX_ACTIONS {
         return Err(Refusal::Limit);
     }
     let mut next = counts;

@@ -6,15 +6,11 @@ mod admit;
 mod form;
 mod host_form;
 mod line;
-#[cfg(test)]
-mod load_tests;
 mod loading;
 mod loads;
 mod plan;
 mod rows;
 mod source;
-#[cfg(test)]
-mod tests;
 
 pub use loading::{LoadError, load};
 pub use plan::{Plan, PlanError, read_machine};

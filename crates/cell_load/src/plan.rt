@@ -1,11 +1,11 @@
 // A plan: what the lines of a machine file say.
-ghost use Rattle.std.specs.Prelude.{◌≡◌, ◌≤◌, ◌<◌, ◌++◌, ◌∷◌, [], ℕ, List, length, map, None, Some, if◌then◌else◌, IfOk, IsErrOf, OnOk};
-ghost use Rattle.cell_base.specs.Words.{lines_of};
+ghost use Rattle.std.specs.Prelude.{◌≡◌, ◌≤◌, ◌<◌, ◌++◌, ◌∷◌, [], ℕ, List, length, map, None, Some, Ok, if◌then◌else◌, IfOk, IsErrOf, IsOk, OnOk};
+ghost use Rattle.cell_base.specs.Words.{lines_of, words_of};
 ghost use Rattle.cell_base.specs.Walk.{IsFirstFault, items_of, state_after};
 ghost use Rattle.cell_load.specs.Entries.{entry_of, seen};
 ghost use Rattle.cell_load.specs.Form.{Gives};
 ghost use Rattle.cell_load.specs.Order.{line_step, lacks, machine_at};
-ghost use Rattle.cell_load.specs.Plans.{PlanGives, fault_of};
+ghost use Rattle.cell_load.specs.Plans.{IsBare, NamesBadLine, PlanGives, fault_of};
 ghost use Rattle.cell_load.specs.Sources.{named, sources_of};
 ghost use Rattle.cell_load.specs.declared.line.Stage.TheVariants.{Start};
 ghost use Rattle.cell_load.specs.declared.line.Refusal.TheVariants as refusal;
@@ -92,7 +92,8 @@ fn fault(line: u32, refusal: Refusal) -> PlanError
 /// What a line says and the stage after it; None of a line without words.
 #[tactic(auto, unfolding(crate::specs::Order::line_step))]
 fn line_step(alloc: Global, stage: Stage, line: &[u8]) -> Result<Option<(Line, Stage)>, Refusal>
-    ensures { Gives seen result (line_step stage line.now) }
+    ensures says { Gives seen result (line_step stage line.now) }
+    ensures bare { words_of line.now ≡ [] → result ≡ Ok None }
 {
     let Some((word, rest)) = next_word(before_comment(line)) else {
         return Ok(None);
@@ -110,6 +111,7 @@ fn keep(
 ) -> Result<Stage, AllocError>
     ensures lines { OnOk result (map entry_of lines.new.items ≡ map entry_of lines.old.items ++ items_of (seen done)) }
     ensures stage { IfOk result (λ t. t ≡ state_after stage (seen done)) }
+    ensures bare { done ≡ None → IsOk result }
 {
     match done {
         Some((line, next)) => {
@@ -132,7 +134,8 @@ fn may_end(stage: Stage) -> bool
 
 fn lines_in(alloc: Global, text: &[u8]) -> Result<Vec<Line>, PlanError>
     requires { length text.now ≤ 4194304 }
-    ensures { PlanGives (λ v. map entry_of v.items) result (machine_at text.now) }
+    ensures gives { PlanGives (λ v. map entry_of v.items) result (machine_at text.now) }
+    ensures bare { IsBare (lines_of text.now) → NamesBadLine result }
 {
     let mut lines = Vec::new(alloc);
     let mut stage = Stage::Start;
@@ -156,12 +159,15 @@ fn lines_in(alloc: Global, text: &[u8]) -> Result<Vec<Line>, PlanError>
 
 /// The plan that stands for the lines of a machine file of at most 4,194,304 bytes. `BadLine` and
 /// `Limit` name the first faulty line; a file that ends too early is faulty at the line after its
-/// last.
+/// last. Where no line has words, no memory is taken.
 pub fn read_machine(alloc: Global, text: &[u8]) -> Result<Plan, PlanError>
     requires { length text.now ≤ 4194304 }
     ensures exact { PlanGives (λ p. p) result (machine_at text.now) }
     ensures bad_line { (line : ℕ) → IsErrOf result (BadLine line) → IsFirstFault line_step lacks Start (lines_of text.now) line refusal.Form }
     ensures limit { (line : ℕ) → IsErrOf result (Limit line) → IsFirstFault line_step lacks Start (lines_of text.now) line refusal.Limit }
+
+    // Want of memory is not told of a text without words.
+    ensures bare { IsBare (lines_of text.now) → NamesBadLine result }
 {
     let lines = lines_in(alloc, text)?;
     let sources = sources_in(alloc, lines.as_slice())?;

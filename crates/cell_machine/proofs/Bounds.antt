@@ -1,17 +1,23 @@
 -- What a step does to the commands and the tags of the processors.
-use Rattle.std.proofs.Common.{◌≡◌, ℕ, zero, suc, ◌+◌, ◌<◌, ◌≤◌, ◌==◌, List, [], ◌∷◌, ◌++◌, map, length, arith, refl, sym, ◌∙◌, ap, subst, slice_set, true, false, Bool, ◌⊎◌, inl, inr, length-append, true≢false}
-use Rattle.std.specs.Prelude.{Option, Some, None, IsSomeAnd, IfSome, MatchBool, slice_get, option_map, option_and_then, nat_lt, is_some, cond, Result, Ok, Err}
+use Rattle.std.proofs.Common.{◌≡◌, ℕ, zero, suc, ◌+◌, ◌<◌, ◌≤◌, ◌==◌, not, List, [], ◌∷◌, ◌++◌, map, length, arith, refl, sym, ◌∙◌, ap, subst, slice_set, true, false, Bool, ◌⊎◌, inl, inr, length-append, true≢false}
+use Rattle.std.specs.Prelude.{Option, Some, None, IsSomeAnd, IfSome, MatchBool, All, ⊤, slice_get, option_map, option_and_then, nat_lt, is_some, cond, Result, Ok, Err}
+use Rattle.std.specs.Option.{option_map_or}
+use Rattle.std.proofs.lemmas.Bool.Decides.{nat_tests}
+use Rattle.std.proofs.lemmas.List.{map-set, length-set, length-map}
+use Rattle.std.proofs.lemmas.List.Elements.{All-append}
 use Rattle.mfc_command.specs.declared.command.Command.{Command}
 use Rattle.mfc_command.specs.declared.command.Kind.{Kind}
 use Rattle.mfc_command.specs.declared.command.Kind.TheVariants.{Put, Get, PutList, GetList, Barrier}
 use Rattle.mfc_command.specs.declared.command.Order.{Order}
 use Rattle.mfc_command.specs.declared.command.Order.TheVariants.{Queued, Atomic as AtomicOrder}
 use Rattle.mfc_command.specs.declared.command.DmaFault.{DmaFault as Fault}
-use Rattle.mfc_command.specs.Check.{TransferFits, OrderFits, KindFits, checked}
-use Rattle.mfc_command.specs.Parts.{part_of}
+use Rattle.mfc_command.specs.Check.{OrderFits, KindFits, checked, transfer_fault}
 use Rattle.mfc_command.specs.declared.range.Part.{Part}
+use Rattle.mfc_command.proofs.CheckLemmas.{checked-fits}
+use Rattle.mfc_lists.specs.declared.Element.{Element}
+use Rattle.mfc_lists.specs.Elements.{element_of, element_by, tested, unless, ElementFits}
+use Rattle.mfc_lists.proofs.ElementLemmas.{fits}
 use Rattle.tag_groups.specs.Settle.{settled_tags}
-use Rattle.std.proofs.lemmas.List.{map-set}
 use Rattle.tag_groups.specs.declared.TagStatus.{TagStatus}
 use Rattle.spu_decode.specs.declared.Instr.{Instr}
 use Rattle.spu_decode.specs.Spelling.{instr_of}
@@ -25,23 +31,25 @@ use Rattle.cell_base.specs.declared.steps.Step.{Step}
 use Rattle.cell_base.specs.declared.steps.Step.TheVariants.{Exec, Piece, Elem, Retire, Atomic, Host}
 use Rattle.cell_host.specs.declared.HostAction.{HostAction}
 use Rattle.cell_host.specs.declared.HostAction.TheVariants.{Send, Take, TakeIntr, Store, Await}
-use Rattle.cell_machine.specs.Spe.{Spe, is_running}
-use Rattle.cell_machine.specs.State.{State, with_spe}
-use Rattle.cell_machine.specs.Moves.{has_pieces, busy, is_complete}
-use Rattle.cell_machine.specs.Tags.{settled}
-use Rattle.cell_machine.specs.Channels.{given as with_value, bad_channel, listed, is_read, is_write, count, channel, read_inbound, read_status, issued_by, commanded, written}
-use Rattle.cell_machine.specs.Exec.{exec, exec_instr, followed}
-use Rattle.cell_machine.specs.Transfers.{piece, elem, retire, copied, is_put, may_piece, may_retire, with_done}
-use Rattle.cell_machine.specs.Atomic.{atomic}
-use Rattle.cell_machine.specs.Hosts.{Given, Acted, taken_of, taken_interrupt_of, given, at_spe, acted, after_action, host as host_step}
-use Rattle.cell_machine.specs.Next.{act, lines_of, with_left, settled_in}
-use Rattle.cell_machine.specs.Kept.{MovesFit}
 use Rattle.cell_host.specs.Script.{Progress}
 use Rattle.cell_machine.specs.declared.processor.Processor.{Processor}
+use Rattle.cell_machine.specs.declared.status.Status.{Status}
+use Rattle.cell_machine.specs.declared.status.Status.TheVariants.{Running, Stopped, Halted, BadWord, BadChannel, DmaFault}
+use Rattle.cell_machine.specs.Spe.{Spe, Moves, ElementRead, is_running, is_faulted}
+use Rattle.cell_machine.specs.State.{State, with_spe}
+use Rattle.cell_machine.specs.Moves.{busy, read_of, present, is_stalled, are_all_there, stalls_of_tag, may_begin}
+use Rattle.cell_machine.specs.Tags.{settled}
+use Rattle.cell_machine.specs.Channels.{given as with_value, bad_channel, listed, is_read, is_write, is_atomic, count, channel, read_by, read_inbound, read_status, issued_by, commanded, acknowledged, written, with_issued, with_resumed}
+use Rattle.cell_machine.specs.Exec.{exec, exec_instr, followed, asks, asked_by, op_of}
+use Rattle.cell_machine.specs.Transfers.{piece, piece_of, after_part, part_in, elem, after_element, next_element, retire, copied, told, is_put, may_of, begins, may_piece, may_elem, may_retire, has_part, has_element, is_left, next_at, with_done, with_read, with_retired}
+use Rattle.cell_machine.specs.Atomic.{atomic}
+use Rattle.cell_machine.specs.Hosts.{Given, Acted, taken_of, taken_interrupt_of, given, at_spe, acted, after_action, host as host_step}
+use Rattle.cell_machine.specs.Next.{act, act_in, own, lines_of, left, with_left, settled_in}
+use Rattle.cell_machine.specs.Kept.{MovesFit}
 use Rattle.cell_machine.specs.Shows.{Shows, ShowsSpe, AllTwo, AreSettled, IsBounded, AreBounded}
 use Rattle.cell_machine.proofs.MovesShown.{get-cases}
-use Rattle.mfc_command.proofs.CheckLemmas.{checked-fits}
-use Rattle.cell_machine.proofs.Staying.{Keeps, issued-keeps, done-keeps, retired-keeps}
+use Rattle.cell_machine.proofs.Staying.{Keeps, both, keeps-same, issued-keeps, done-keeps, read-keeps, resumed-keeps, retired-keeps}
+use Rattle.cell_machine.proofs.Elements.{part-is, element-is}
 use Rattle.cell_machine.proofs.Steps.{settled-set}
 
 -- what holds of each outcome holds of the one that comes
@@ -61,27 +69,36 @@ if_is : {X : Type 0} (o : Option X) (x : X) (R : X → Type 0) → o ≡ Some x 
 if_is None x R e h = absurd (cc)
 if_is (Some y) x R e h = let same : y ≡ x = cc in subst R same h
 
--- no command was issued, or one that fits
-abbrev HasIssued : ℕ → Spe → Spe → Type 0
-HasIssued lines P Q = (Q.moves.issued ≡ P.moves.issued) ⊎ ((d : Command) × (has_pieces d ≡ true → TransferFits lines d) × (Q.moves.issued ≡ P.moves.issued ++ d ∷ []))
+if_on : {X : Type 0} (o : Option X) (A B : X → Type 0) → ((x : X) → A x → B x) → IfSome o A → IfSome o B
+if_on None A B k h = tt
+if_on (Some x) A B k h = k x h
 
--- and each command that was complete is complete still
-abbrev pub Grown : ℕ → Spe → Spe → Type 0
-Grown lines P Q = HasIssued lines P Q × Keeps P.moves Q.moves
+if_so : {X : Type 0} (b : Bool) (o : Option X) (R : X → Type 0) → (b ≡ true → IfSome o R) → IfSome (cond b o None) R
+if_so true o R h = h refl
+if_so false o R h = tt
 
--- the commands are as they were
-as_before : (lines : ℕ) (P : Spe) → HasIssued lines P P × Keeps P.moves P.moves
-as_before lines P = (inl refl, λ c h. h)
+-- ---- what a step does to the commands of its processor
 
-kind_fits : (lines : ℕ) (d : Command) (k : Kind) → d.kind ≡ k → KindFits lines d k → has_pieces d ≡ true → TransferFits lines d
-kind_fits lines d Put e fits h = fits
-kind_fits lines d Get e fits h = fits
-kind_fits lines d PutList e fits h = absurd (true≢false (sym h ∙ rw e refl))
-kind_fits lines d GetList e fits h = absurd (true≢false (sym h ∙ rw e refl))
-kind_fits lines d Barrier e fits h = absurd (true≢false (sym h ∙ rw e refl))
+-- an instruction, where it asks for this operation of a channel
+pub data Does (lines : ℕ) (asked : Option ChannelOp) (m n : Moves) : Type 0 where
+  stays : n ≡ m → Does lines asked m n
+  issues : (d : Command) → KindFits lines d d.kind → n ≡ with_issued m d → Does lines asked m n
+  resumes : (tag : ℕ) → asked ≡ Some (Write 26 tag) → n ≡ with_resumed m (stalls_of_tag m tag) → Does lines asked m n
 
-order-fits : (lines : ℕ) (d : Command) → OrderFits lines (Queued d) → has_pieces d ≡ true → TransferFits lines d
-order-fits lines d fits h = kind_fits lines d d.kind refl fits.1 h
+-- and any step, where the processor has this number
+pub data Moved (lines : ℕ) (s : Step) (p : ℕ) (P Q : Spe) : Type 0 where
+  executes : s ≡ Exec p → Does lines (asks P) P.moves Q.moves → Moved lines s p P Q
+  copies : (c e k : ℕ) (d : Command) → s ≡ Piece p c e k → slice_get P.moves.issued c ≡ Some d → has_part P.moves c e k d ≡ true → Q.moves ≡ with_done P.moves c e k → Moved lines s p P Q
+  reads : (c : ℕ) (d : Command) (x : Element) → s ≡ Elem p c → slice_get P.moves.issued c ≡ Some d → has_element P.moves c d ≡ true
+      → next_element lines P c d ≡ Ok x → Q.moves ≡ with_read P.moves c x → Moved lines s p P Q
+  refuses : (c : ℕ) → s ≡ Elem p c → is_faulted Q.status ≡ true → Q.moves ≡ P.moves → Moved lines s p P Q
+  retires : (c : ℕ) (d : Command) → s ≡ Retire p c → slice_get P.moves.issued c ≡ Some d → is_left P.moves c d ≡ true → Q.moves ≡ with_retired P.moves c → Moved lines s p P Q
+  acts : s ≡ Host → Q.moves ≡ P.moves → Moved lines s p P Q
+
+-- and a fault stays
+pub record Goes (lines : ℕ) (s : Step) (p : ℕ) (P Q : Spe) : Type 0 where
+  pub moved : Moved lines s p P Q
+  pub faulted : is_faulted P.status ≡ true → is_faulted Q.status ≡ true
 
 -- a command's size, and its end in the memory or in the store
 pub kind-small : (lines : ℕ) (d : Command) (k : Kind) → KindFits lines d k → (d.size ≤ 16384) × (d.ea < 4294967296 → lines ≤ 524288 → d.ea + d.size < 4294967296)
@@ -91,184 +108,310 @@ kind-small lines d PutList fits = let s = fits.size in let m = fits.store in (s,
 kind-small lines d GetList fits = let s = fits.size in let m = fits.store in (s, λ u l. omega arith)
 kind-small lines d Barrier fits = let z : d.size ≡ 0 = fits in (omega arith, λ u l. omega arith)
 
-issued_grown : (lines : ℕ) (P : Spe) (r : Result Order Fault) → ((d : Command) → r ≡ Ok (Queued d) → has_pieces d ≡ true → TransferFits lines d) → Grown lines P (issued_by P r)
-issued_grown lines P (Ok (Queued d)) fits = (inr (d, fits d refl, refl), issued-keeps P.moves d)
-issued_grown lines P (Ok (AtomicOrder a)) fits = as_before lines P
-issued_grown lines P (Err kind) fits = as_before lines P
+-- ---- instructions
 
-commanded_grown : (lines : ℕ) (P : Spe) (op : ℕ) → Grown lines P (commanded lines P op)
+issued_does : (lines : ℕ) (a : Option ChannelOp) (P : Spe) (r : Result Order Fault) → ((d : Command) → r ≡ Ok (Queued d) → KindFits lines d d.kind) → Does lines a P.moves (issued_by P r).moves
+issued_does lines a P (Ok (Queued d)) fits = issues d (fits d refl) refl
+issued_does lines a P (Ok (AtomicOrder o)) fits = stays refl
+issued_does lines a P (Err kind) fits = stays refl
+
+order-fits : (lines : ℕ) (d : Command) → OrderFits lines (Queued d) → KindFits lines d d.kind
+order-fits lines d fits = fits.1
+
+commanded_does : (lines : ℕ) (a : Option ChannelOp) (P : Spe) (op : ℕ) → Does lines a P.moves (commanded lines P op).moves
 unfolding commanded
-commanded_grown lines P op = on_cond _ _ _ (Grown lines P) (issued_grown lines P (checked P.params op lines) (λ d e. order-fits lines d (checked-fits P.params op lines (Queued d) e))) (as_before lines P)
+commanded_does lines a P op =
+    on_cond (is_atomic op) _ _ (λ (Q : Spe). Does lines a P.moves Q.moves) (stays refl)
+    (issued_does lines a P (checked P.channels.params op lines) (λ d e. order-fits lines d (checked-fits P.channels.params op lines (Queued d) e)))
 
-written_grown : (lines : ℕ) (P : Spe) (ch value : ℕ) → Grown lines P (written lines P ch value)
-unfolding written
-written_grown lines P ch value =
-    on_cond (ch == 21) _ _ (Grown lines P) (commanded_grown lines P value)
-    (on_cond (ch == 22) _ _ (Grown lines P) (as_before lines P) (on_cond (ch == 23) _ _ (Grown lines P) (as_before lines P)
-    (on_cond (ch == 28) _ _ (Grown lines P) (as_before lines P) (on_cond (ch == 30) _ _ (Grown lines P) (as_before lines P) (as_before lines P)))))
+acknowledged_does : (lines ch value : ℕ) (P : Spe) → ch ≡ 26 → Does lines (Some (Write ch value)) P.moves (acknowledged P value).moves
+unfolding acknowledged
+acknowledged_does lines ch value P e = resumes value (ap (λ c. Some (Write c value)) e) refl
 
-status_grown : (lines : ℕ) (P : Spe) (rt : ℕ) (o : Option TagStatus) → IfSome (read_status P rt o) (Grown lines P)
-status_grown lines P rt None = tt
-status_grown lines P rt (Some status) = as_before lines P
-
-inbound_grown : (lines : ℕ) (P : Spe) (rt : ℕ) (xs : List ℕ) → IfSome (read_inbound P rt xs) (Grown lines P)
-inbound_grown lines P rt [] = tt
-inbound_grown lines P rt (x ∷ xs) = as_before lines P
-
-channel_grown : (lines : ℕ) (P : Spe) (op : ChannelOp) → IfSome (channel lines P op) (Grown lines P)
-unfolding channel
-channel_grown lines P (Read rt ch) =
-    if_cond (is_read (listed ch)) _ _ (Grown lines P)
-    (if_cond (nat_lt 0 (count P ch)) _ _ (Grown lines P)
-    (if_cond (ch == 12) _ _ (Grown lines P) (as_before lines P) (if_cond (ch == 24) _ _ (Grown lines P) (status_grown lines P rt P.tags.status) (inbound_grown lines P rt P.inbound))) tt)
-    (as_before lines P)
-channel_grown lines P (Count rt ch) = if_cond (is_some (listed ch)) (Some (with_value P rt (count P ch))) (Some (bad_channel P)) (Grown lines P) (as_before lines P) (as_before lines P)
-channel_grown lines P (Write ch value) =
-    if_cond (is_write (listed ch)) _ _ (Grown lines P) (if_cond (nat_lt 0 (count P ch)) _ _ (Grown lines P) (written_grown lines P ch value) tt) (as_before lines P)
-
-followed_grown : (lines : ℕ) (P : Spe) (flow : Flow) → IfSome (followed lines P flow) (Grown lines P)
-followed_grown lines P (Next pc) = as_before lines P
-followed_grown lines P (Stop code next) = as_before lines P
-followed_grown lines P (Halt next) = as_before lines P
-followed_grown lines P (Channel op) = channel_grown lines P op
-
-instr_grown : (lines : ℕ) (P : Spe) (o : Option Instr) → IfSome (exec_instr lines P o) (Grown lines P)
-instr_grown lines P None = as_before lines P
-instr_grown lines P (Some i) = let o = meaning i P.pc P.registers P.store in followed_grown lines (record P { registers = o.regs; store = o.store }) o.flow
-
-exec_grown : (lines : ℕ) (P : Spe) → IfSome (exec lines P) (Grown lines P)
-unfolding exec
-exec_grown lines P = if_cond (is_running P.status) _ _ (Grown lines P) (instr_grown lines P (instr_of (word_at P.store P.pc))) tt
-
-copied_grown : (lines : ℕ) (memory : List ℕ) (P Q : Spe) (b : Bool) (x : Part) → Grown lines P Q → Grown lines P (copied memory Q b x).spe
-unfolding copied
-copied_grown lines memory P Q true x grown = grown
-copied_grown lines memory P Q false x grown = grown
-
-piece_grown : (lines : ℕ) (memory : List ℕ) (P : Spe) (c e k : ℕ) → IfSome (piece memory P c e k) (λ x. Grown lines P x.spe)
-unfolding piece
-piece_grown lines memory P c e k = if_cond (may_piece P c e k) _ _ (λ x. Grown lines P x.spe)
-    (if_map _ (slice_get P.moves.issued c) (λ x. Grown lines P x.spe) (each (slice_get P.moves.issued c))) tt
+-- what holds of each of two outcomes, where the first comes by an equation
+on_eq : (n k : ℕ) (x y : Spe) (R : Spe → Type 0) → (n ≡ k → R x) → R y → R (cond (n == k) x y)
+on_eq n k x y R h g = on (n == k) refl
   where
-    each : (o : Option Command) → IfSome o (λ d. Grown lines P (copied memory (record P { moves = with_done P.moves c k }) (is_put d.kind) (part_of d.ls d.ea d.size k)).spe)
-    each None = tt
-    each (Some d) = copied_grown lines memory P (record P { moves = with_done P.moves c k }) (is_put d.kind) (part_of d.ls d.ea d.size k) (inl refl, done-keeps P.moves c k)
+    on : (b : Bool) → (n == k) ≡ b → R (cond b x y)
+    on true e = h (grind (arith, nat_tests, e))
+    on false e = g
 
-retire_grown : (lines : ℕ) (P : Spe) (c : ℕ) → IfSome (retire P c) (Grown lines P)
-unfolding retire
-retire_grown lines P c = if_cond (may_retire P c) _ _ (Grown lines P) (inl refl, retired-keeps P.moves c) tt
+written_does : (lines : ℕ) (P : Spe) (ch value : ℕ) → Does lines (Some (Write ch value)) P.moves (written lines P ch value).moves
+unfolding written
+written_does lines P ch value =
+    let R : Spe → Type 0 = λ Q. Does lines (Some (Write ch value)) P.moves Q.moves in
+    on_cond (ch == 21) _ _ R (commanded_does lines (Some (Write ch value)) P value)
+    (on_cond (ch == 22) _ _ R (stays refl) (on_cond (ch == 23) _ _ R (stays refl)
+    (on_eq ch 26 _ _ R (acknowledged_does lines ch value P)
+    (on_cond (ch == 28) _ _ R (stays refl) (on_cond (ch == 30) _ _ R (stays refl) (stays refl))))))
 
--- an action of the host leaves a processor's commands and tags
-abbrev pub IsLike : Spe → Spe → Type 0
-IsLike P Q = (Q.tags ≡ P.tags) × (Q.moves ≡ P.moves)
+status_does : (lines : ℕ) (a : Option ChannelOp) (P : Spe) (rt : ℕ) (o : Option TagStatus) → IfSome (read_status P rt o) (λ Q. Does lines a P.moves Q.moves)
+status_does lines a P rt None = tt
+status_does lines a P rt (Some status) = stays refl
 
-taken_like : (P : Spe) (xs : List ℕ) → IfSome (taken_of P xs) (λ g. IsLike P g.spe)
-taken_like P [] = tt
-taken_like P (x ∷ xs) = (refl, refl)
+inbound_does : (lines : ℕ) (a : Option ChannelOp) (P : Spe) (rt : ℕ) (xs : List ℕ) → IfSome (read_inbound P rt xs) (λ Q. Does lines a P.moves Q.moves)
+inbound_does lines a P rt [] = tt
+inbound_does lines a P rt (x ∷ xs) = stays refl
 
-interrupt_like : (P : Spe) (xs : List ℕ) → IfSome (taken_interrupt_of P xs) (λ g. IsLike P g.spe)
-interrupt_like P [] = tt
-interrupt_like P (x ∷ xs) = (refl, refl)
+read_does : (lines : ℕ) (a : Option ChannelOp) (P : Spe) (rt ch : ℕ) → IfSome (read_by P rt ch) (λ Q. Does lines a P.moves Q.moves)
+unfolding read_by
+read_does lines a P rt ch =
+    let R : Spe → Type 0 = λ Q. Does lines a P.moves Q.moves in
+    if_cond (ch == 12) _ _ R (stays refl) (if_cond (ch == 24) _ _ R (status_does lines a P rt P.tags.status)
+    (if_cond (ch == 25) _ _ R (stays refl) (if_cond (ch == 29) _ _ R (inbound_does lines a P rt P.inbound) tt)))
 
-given_like : (a : HostAction) (P : Spe) → IfSome (given a P) (λ g. IsLike P g.spe)
-given_like (Send p value) P = if_cond (nat_lt (length P.inbound) 4) _ _ (λ g. IsLike P g.spe) (refl, refl) tt
-given_like (Take p) P = taken_like P P.outbound
-given_like (TakeIntr p) P = interrupt_like P P.interrupt
-given_like (Store ea len bytes) P = (refl, refl)
-given_like (Await p) P = if_cond (is_running P.status) _ _ (λ g. IsLike P g.spe) tt (refl, refl)
+channel_does : (lines : ℕ) (P : Spe) (op : ChannelOp) → IfSome (channel lines P op) (λ Q. Does lines (Some op) P.moves Q.moves)
+unfolding channel
+channel_does lines P (Read rt ch) =
+    let R : Spe → Type 0 = λ Q. Does lines (Some (Read rt ch)) P.moves Q.moves in
+    if_cond (is_read (listed ch)) _ _ R (if_cond (nat_lt 0 (count P ch)) _ _ R (read_does lines (Some (Read rt ch)) P rt ch) tt) (stays refl)
+channel_does lines P (Count rt ch) = if_cond (is_some (listed ch)) (Some (with_value P rt (count P ch))) (Some (bad_channel P)) (λ Q. Does lines (Some (Count rt ch)) P.moves Q.moves) (stays refl) (stays refl)
+channel_does lines P (Write ch value) =
+    let R : Spe → Type 0 = λ Q. Does lines (Some (Write ch value)) P.moves Q.moves in
+    if_cond (is_write (listed ch)) _ _ R (if_cond (nat_lt 0 (count P ch)) _ _ R (written_does lines P ch value) tt) (stays refl)
+
+followed_does : (lines : ℕ) (P : Spe) (flow : Flow) → IfSome (followed lines P flow) (λ Q. Does lines (op_of flow) P.moves Q.moves)
+followed_does lines P (Next pc) = stays refl
+followed_does lines P (Stop code next) = stays refl
+followed_does lines P (Halt next) = stays refl
+followed_does lines P (Channel op) = channel_does lines P op
+
+instr_does : (lines : ℕ) (P : Spe) (o : Option Instr) → IfSome (exec_instr lines P o) (λ Q. Does lines (asked_by P o) P.moves Q.moves)
+instr_does lines P None = stays refl
+instr_does lines P (Some i) = let o = meaning i P.pc P.registers P.store in followed_does lines (record P { registers = o.regs; store = o.store }) o.flow
+
+running-not : (s : Status) → is_running s ≡ true → is_faulted s ≡ true → ⊥
+running-not Running h k = true≢false (sym k)
+running-not (Stopped code) h k = true≢false (sym k)
+running-not Halted h k = true≢false (sym k)
+running-not BadWord h k = true≢false (sym k)
+running-not BadChannel h k = true≢false (sym k)
+running-not (DmaFault kind) h k = true≢false (sym h)
+
+exec_goes : (lines p : ℕ) (P : Spe) → IfSome (exec lines P) (Goes lines (Exec p) p P)
+unfolding exec asks
+exec_goes lines p P = if_so (is_running P.status) _ (Goes lines (Exec p) p P)
+    (λ runs. if_on (exec_instr lines P (instr_of (word_at P.store P.pc))) (λ Q. Does lines (asks P) P.moves Q.moves) (Goes lines (Exec p) p P)
+    (λ Q does. record { moved = executes refl does; faulted = λ k. absurd (running-not P.status runs k) }) (instr_does lines P (instr_of (word_at P.store P.pc))))
+
+-- ---- steps of the flow controller
+
+-- a step of the flow controller is allowed where no fault stands
+pub not-faulted : (P : Spe) (c : ℕ) (f : Command → Bool) → may_of P c f ≡ true → is_faulted P.status ≡ true → ⊥
+not-faulted P c f h k = true≢false (sym (both (not (is_faulted P.status)) (begins P.moves c f) h).0 ∙ ap not k)
+
+-- which command it is, and that it may begin
+pub may-is : (P : Spe) (c : ℕ) (f : Command → Bool) → may_of P c f ≡ true → (d : Command) × (slice_get P.moves.issued c ≡ Some d) × (f d ≡ true)
+may-is P c f h = on (slice_get P.moves.issued c) refl (both (option_map_or f (slice_get P.moves.issued c) false) (may_begin P.moves c) (both (not (is_faulted P.status)) (begins P.moves c f) h).1).0
+  where
+    on : (o : Option Command) → slice_get P.moves.issued c ≡ o → option_map_or f o false ≡ true → (d : Command) × (slice_get P.moves.issued c ≡ Some d) × (f d ≡ true)
+    on None at g = absurd (true≢false (sym g))
+    on (Some d) at g = (d, at, g)
+
+pub may-begun : (P : Spe) (c : ℕ) (f : Command → Bool) → may_of P c f ≡ true → may_begin P.moves c ≡ true
+may-begun P c f h = (both (option_map_or f (slice_get P.moves.issued c) false) (may_begin P.moves c) (both (not (is_faulted P.status)) (begins P.moves c f) h).1).1
+
+pub passes : (P : Spe) (c : ℕ) (f : Command → Bool) (d : Command) → may_of P c f ≡ true → slice_get P.moves.issued c ≡ Some d → f d ≡ true
+passes P c f d h at = let is = may-is P c f h in let same : is.0 ≡ d = some_same is.0 d (sym is.1 ∙ at) in ap f (sym same) ∙ is.2
+  where
+    some_same : (x y : Command) → Some x ≡ Some y → x ≡ y
+    some_same x y e = cc
+
+told_moves : (b : Bool) (P : Spe) (tag : ℕ) → (cond b (told P tag) P).moves ≡ P.moves
+told_moves true P tag = refl
+told_moves false P tag = refl
+
+told_status : (b : Bool) (P : Spe) (tag : ℕ) → (cond b (told P tag) P).status ≡ P.status
+told_status true P tag = refl
+told_status false P tag = refl
+
+copied_moves : (memory : List ℕ) (P : Spe) (b : Bool) (x : Part) → (copied memory P b x).spe.moves ≡ P.moves
+unfolding copied
+copied_moves memory P true x = refl
+copied_moves memory P false x = refl
+
+copied_status : (memory : List ℕ) (P : Spe) (b : Bool) (x : Part) → (copied memory P b x).spe.status ≡ P.status
+unfolding copied
+copied_status memory P true x = refl
+copied_status memory P false x = refl
+
+-- of each command and of each element there is
+each_of : {X Y : Type 0} (o : Option X) (f : X → Option Y) (R : Y → Type 0) → ((x : X) → o ≡ Some x → IfSome (f x) R) → IfSome (option_and_then f o) R
+each_of None f R h = tt
+each_of (Some x) f R h = h x refl
+
+each_map : {X Y : Type 0} (o : Option X) (f : X → Y) (R : Y → Type 0) → ((x : X) → o ≡ Some x → R (f x)) → IfSome (option_map f o) R
+each_map None f R h = tt
+each_map (Some x) f R h = h x refl
+
+piece_goes : (lines p : ℕ) (memory : List ℕ) (P : Spe) (c e k : ℕ) → IfSome (piece memory P c e k) (λ x. Goes lines (Piece p c e k) p P x.spe)
+unfolding piece may_piece
+piece_goes lines p memory P c e k = if_so (may_of P c (has_part P.moves c e k)) _ (λ x. Goes lines (Piece p c e k) p P x.spe) (λ may.
+    each_of (slice_get P.moves.issued c) _ (λ x. Goes lines (Piece p c e k) p P x.spe) (λ d at.
+    each_map (present P.moves.read c d) (piece_of memory P c k d) (λ x. Goes lines (Piece p c e k) p P x.spe) (λ x there.
+    let has = passes P c (has_part P.moves c e k) d may at in
+    let of = part-is P.moves c e k d has in
+    let same : of.element ≡ x = some_same of.element x (sym of.there ∙ there) in
+    let number : x.number ≡ e = sym (ap (λ (y : Element). y.number) same) ∙ of.number in
+    record {
+      moved = copies c e k d refl at has
+          (copied_moves memory (after_part P c x.number k d) (is_put d.kind) (part_in x k)
+          ∙ told_moves (is_stalled (with_done P.moves c x.number k) c d) (record P { moves = with_done P.moves c x.number k }) d.tag
+          ∙ ap (λ n. with_done P.moves c n k) number);
+      faulted = λ f. absurd (not-faulted P c (has_part P.moves c e k) may f);
+    })))
+  where
+    some_same : (a b : Element) → Some a ≡ Some b → a ≡ b
+    some_same a b q = cc
+
+elem_goes : (lines p : ℕ) (P : Spe) (c : ℕ) → IfSome (elem lines P c) (Goes lines (Elem p c) p P)
+unfolding elem may_elem
+elem_goes lines p P c = if_so (may_of P c (has_element P.moves c)) _ (Goes lines (Elem p c) p P) (λ may.
+    each_map (slice_get P.moves.issued c) (λ d. after_element P c d (next_element lines P c d)) (Goes lines (Elem p c) p P) (λ d at.
+    after may d at (next_element lines P c d) refl))
+  where
+    after : may_of P c (has_element P.moves c) ≡ true → (d : Command) → slice_get P.moves.issued c ≡ Some d → (r : Result Element Fault) → next_element lines P c d ≡ r
+        → Goes lines (Elem p c) p P (after_element P c d r)
+    after may d at (Ok x) is = record {
+      moved = reads c d x refl at (passes P c (has_element P.moves c) d may at) is (told_moves (is_stalled (with_read P.moves c x) c d) (record P { moves = with_read P.moves c x }) d.tag);
+      faulted = λ f. absurd (not-faulted P c (has_element P.moves c) may f);
+    }
+    after may d at (Err kind) is = record { moved = refuses c refl refl refl; faulted = λ f. refl }
+
+retire_goes : (lines p : ℕ) (P : Spe) (c : ℕ) → IfSome (retire P c) (Goes lines (Retire p c) p P)
+unfolding retire may_retire
+retire_goes lines p P c = if_so (may_of P c (is_left P.moves c)) _ (Goes lines (Retire p c) p P) (λ may.
+    let is = may-is P c (is_left P.moves c) may in
+    record { moved = retires c is.0 refl is.1 is.2 refl; faulted = λ f. absurd (not-faulted P c (is_left P.moves c) may f) })
+
+atomic_goes : (lines p : ℕ) (P : Spe) → IfSome (atomic P) (Goes lines (Atomic p) p P)
+unfolding atomic
+atomic_goes lines p P = tt
+
+left_goes : (memory : List ℕ) (s : Step) (p : ℕ) (P : Spe) (o : Option Spe) → IfSome o (Goes (lines_of memory) s p P) → IfSome (option_map (left memory) o) (λ x. Goes (lines_of memory) s p P x.spe)
+left_goes memory s p P None h = tt
+left_goes memory s p P (Some Q) h = h
+
+-- ---- the host
+
+-- an action of the host leaves a processor's status, commands and tags
+abbrev pub IsLike : ℕ → Spe → Spe → Type 0
+IsLike p P Q = (Q.tags ≡ P.tags) × (Q.moves ≡ P.moves) × (Q.status ≡ P.status)
+
+taken_like : (p : ℕ) (P : Spe) (xs : List ℕ) → IfSome (taken_of P xs) (λ g. IsLike p P g.spe)
+taken_like p P [] = tt
+taken_like p P (x ∷ xs) = (refl, refl, refl)
+
+interrupt_like : (p : ℕ) (P : Spe) (xs : List ℕ) → IfSome (taken_interrupt_of P xs) (λ g. IsLike p P g.spe)
+interrupt_like p P [] = tt
+interrupt_like p P (x ∷ xs) = (refl, refl, refl)
+
+given_like : (q : ℕ) (a : HostAction) (P : Spe) → IfSome (given a P) (λ g. IsLike q P g.spe)
+given_like q (Send p value) P = if_cond (nat_lt (length P.inbound) 4) _ _ (λ g. IsLike q P g.spe) (refl, refl, refl) tt
+given_like q (Take p) P = taken_like q P P.outbound
+given_like q (TakeIntr p) P = interrupt_like q P P.interrupt
+given_like q (Store ea len bytes) P = (refl, refl, refl)
+given_like q (Await p) P = if_cond (is_running P.status) _ _ (λ g. IsLike q P g.spe) tt (refl, refl, refl)
 
 -- one processor at most is another, in this relation to what it was
-pub record Changed (R : Spe → Spe → Type 0) (old new : List Spe) : Type 0 where
+pub record Changed (R : ℕ → Spe → Spe → Type 0) (old new : List Spe) : Type 0 where
   pub p : ℕ
   pub was : Spe
   pub is : Spe
   pub at : slice_get old p ≡ Some was
   pub set : new ≡ slice_set old p is
-  pub how : R was is
+  pub how : R p was is
 
-abbrev pub Changes : (Spe → Spe → Type 0) → List Spe → List Spe → Type 0
-Changes R old new = (new ≡ old) ⊎ Changed R old new
+-- or, where A, none is
+abbrev pub Changes : Type 0 → (ℕ → Spe → Spe → Type 0) → List Spe → List Spe → Type 0
+Changes A R old new = (A × (new ≡ old)) ⊎ Changed R old new
 
 -- a step of one processor
-in_changes : {X : Type 0} (R : Spe → Spe → Type 0) (f : Spe → Option X) (spe_of : X → Spe) (spes : List Spe) (p : ℕ) (make : X → State)
-    → ((P : Spe) → IfSome (f P) (λ x. R P (spe_of x))) → ((x : X) → (make x).spes ≡ slice_set spes p (spe_of x))
-    → IfSome (option_and_then (λ P. option_map make (f P)) (slice_get spes p)) (λ N. Changes R spes N.spes)
+in_changes : {X : Type 0} (R : ℕ → Spe → Spe → Type 0) (f : Spe → Option X) (spe_of : X → Spe) (spes : List Spe) (p : ℕ) (make : X → State)
+    → ((P : Spe) → IfSome (f P) (λ x. R p P (spe_of x))) → ((x : X) → (make x).spes ≡ slice_set spes p (spe_of x))
+    → IfSome (option_and_then (λ P. option_map make (f P)) (slice_get spes p)) (λ N. Changed R spes N.spes)
 in_changes R f spe_of spes p make each sets = on (slice_get spes p) refl
   where
-    made : (P : Spe) → slice_get spes p ≡ Some P → (o : Option _) → IfSome o (λ x. R P (spe_of x)) → IfSome (option_map make o) (λ N. Changes R spes N.spes)
+    made : (P : Spe) → slice_get spes p ≡ Some P → (o : Option _) → IfSome o (λ x. R p P (spe_of x)) → IfSome (option_map make o) (λ N. Changed R spes N.spes)
     made P at None h = tt
-    made P at (Some x) h = inr (record { p = p; was = P; is = spe_of x; at = at; set = sets x; how = h })
+    made P at (Some x) h = record { p = p; was = P; is = spe_of x; at = at; set = sets x; how = h }
 
-    on : (o : Option Spe) → slice_get spes p ≡ o → IfSome (option_and_then (λ P. option_map make (f P)) o) (λ N. Changes R spes N.spes)
+    on : (o : Option Spe) → slice_get spes p ≡ o → IfSome (option_and_then (λ P. option_map make (f P)) o) (λ N. Changed R spes N.spes)
     on None at = tt
     on (Some P) at = made P at (f P) (each P)
 
-at_changes : (M : State) (p : ℕ) (a : HostAction) → IfSome (at_spe M p (given a)) (λ d. Changes IsLike M.spes d.state.spes)
+at_changes : (M : State) (p : ℕ) (a : HostAction) → IfSome (at_spe M p (given a)) (λ d. Changes ⊤ IsLike M.spes d.state.spes)
 at_changes M p a = on (slice_get M.spes p) refl
   where
-    made : (P : Spe) → slice_get M.spes p ≡ Some P → (o : Option Given) → IfSome o (λ g. IsLike P g.spe) → IfSome (option_map (λ g. record { state = with_spe M p g.spe; took = g.took }) o) (λ (d : Acted). Changes IsLike M.spes d.state.spes)
+    made : (P : Spe) → slice_get M.spes p ≡ Some P → (o : Option Given) → IfSome o (λ g. IsLike p P g.spe) → IfSome (option_map (λ g. record { state = with_spe M p g.spe; took = g.took }) o) (λ (d : Acted). Changes ⊤ IsLike M.spes d.state.spes)
     made P at None h = tt
     made P at (Some g) h = inr (record { p = p; was = P; is = g.spe; at = at; set = refl; how = h })
 
-    on : (o : Option Spe) → slice_get M.spes p ≡ o → IfSome (option_and_then (λ P. option_map (λ g. record { state = with_spe M p g.spe; took = g.took }) (given a P)) o) (λ (d : Acted). Changes IsLike M.spes d.state.spes)
+    on : (o : Option Spe) → slice_get M.spes p ≡ o → IfSome (option_and_then (λ P. option_map (λ g. record { state = with_spe M p g.spe; took = g.took }) (given a P)) o) (λ (d : Acted). Changes ⊤ IsLike M.spes d.state.spes)
     on None at = tt
-    on (Some P) at = made P at (given a P) (given_like a P)
+    on (Some P) at = made P at (given a P) (given_like p a P)
 
-acted_changes : (M : State) (a : HostAction) → IfSome (acted M a) (λ d. Changes IsLike M.spes d.state.spes)
+acted_changes : (M : State) (a : HostAction) → IfSome (acted M a) (λ d. Changes ⊤ IsLike M.spes d.state.spes)
 unfolding acted
 acted_changes M (Send p value) = at_changes M p (Send p value)
 acted_changes M (Take p) = at_changes M p (Take p)
 acted_changes M (TakeIntr p) = at_changes M p (TakeIntr p)
-acted_changes M (Store ea len bytes) = inl refl
+acted_changes M (Store ea len bytes) = inl (tt, refl)
 acted_changes M (Await p) = at_changes M p (Await p)
 
-host_changes : (M : State) → IfSome (host_step M) (λ N. Changes IsLike M.spes N.spes)
+host_changes : (M : State) → IfSome (host_step M) (λ N. Changes ⊤ IsLike M.spes N.spes)
 unfolding host_step
 host_changes M = on (slice_get M.host.script M.host.done)
   where
-    on : (o : Option HostAction) → IfSome (option_and_then (λ a. option_map after_action (acted M a)) o) (λ N. Changes IsLike M.spes N.spes)
+    on : (o : Option HostAction) → IfSome (option_and_then (λ a. option_map after_action (acted M a)) o) (λ N. Changes ⊤ IsLike M.spes N.spes)
     on None = tt
-    on (Some a) = if_map after_action (acted M a) (λ N. Changes IsLike M.spes N.spes) (acted_changes M a)
+    on (Some a) = if_map after_action (acted M a) (λ N. Changes ⊤ IsLike M.spes N.spes) (acted_changes M a)
 
-weaken : (R S : Spe → Spe → Type 0) (old new : List Spe) → ((P Q : Spe) → R P Q → S P Q) → Changes R old new → Changes S old new
-weaken R S old new k (inl same) = inl same
-weaken R S old new k (inr x) = inr (record { p = x.p; was = x.was; is = x.is; at = x.at; set = x.set; how = k x.was x.is x.how })
+-- ---- the whole machine
 
-if_on : {X : Type 0} (o : Option X) (A B : X → Type 0) → ((x : X) → A x → B x) → IfSome o A → IfSome o B
-if_on None A B k h = tt
-if_on (Some x) A B k h = k x h
+-- a step of one processor changes that one
+in_goes : (M : State) (p : ℕ) (s : Step) → ((P : Spe) → IfSome (own M.memory s P) (λ x. Goes (lines_of M.memory) s p P x.spe)) → IfSome (act_in M p s) (λ N. Changed (Goes (lines_of M.memory) s) M.spes N.spes)
+in_goes M p s each = in_changes (Goes (lines_of M.memory) s) (own M.memory s) (λ x. x.spe) M.spes p (with_left M p) each (λ x. refl)
 
-elem_grown : (lines : ℕ) (P : Spe) (c : ℕ) → IfSome (elem P c) (Grown lines P)
-unfolding elem
-elem_grown lines P c = tt
+like_goes : (lines p : ℕ) (P Q : Spe) → IsLike p P Q → Goes lines Host p P Q
+like_goes lines p P Q like = record { moved = acts refl like.1; faulted = λ f. ap is_faulted like.2 ∙ f }
 
-atomic_grown : (lines : ℕ) (P : Spe) → IfSome (atomic P) (Grown lines P)
-unfolding atomic
-atomic_grown lines P = tt
+-- the step is another's: the processor is as it was
+abbrev pub is_at : ℕ → Step → Bool
+is_at p (Exec q) = q == p
+is_at p (Piece q c e k) = q == p
+is_at p (Elem q c) = q == p
+is_at p (Retire q c) = q == p
+is_at p (Atomic q) = q == p
+is_at p Host = false
 
-act_changes : (M : State) (s : Step) → IfSome (act M s) (λ N. Changes (Grown (lines_of M)) M.spes N.spes)
-act_changes M (Exec p) = in_changes (Grown (lines_of M)) (exec (lines_of M)) (λ Q. Q) M.spes p (with_spe M p) (exec_grown (lines_of M)) (λ Q. refl)
-act_changes M (Piece p c e k) = in_changes (Grown (lines_of M)) (λ P. piece M.memory P c e k) (λ x. x.spe) M.spes p (with_left M p) (λ P. piece_grown (lines_of M) M.memory P c e k) (λ x. refl)
-act_changes M (Elem p c) = in_changes (Grown (lines_of M)) (λ P. elem P c) (λ Q. Q) M.spes p (with_spe M p) (λ P. elem_grown (lines_of M) P c) (λ Q. refl)
-act_changes M (Retire p c) = in_changes (Grown (lines_of M)) (λ P. retire P c) (λ Q. Q) M.spes p (with_spe M p) (λ P. retire_grown (lines_of M) P c) (λ Q. refl)
-act_changes M (Atomic p) = in_changes (Grown (lines_of M)) atomic (λ Q. Q) M.spes p (with_spe M p) (atomic_grown (lines_of M)) (λ Q. refl)
-act_changes M Host = if_on (host_step M) _ _ (λ N. weaken IsLike (Grown (lines_of M)) M.spes N.spes (λ P Q like. (inl (ap (λ m. m.issued) like.1), λ c h. subst (λ m. is_complete m c ≡ true) (sym like.1) h))) (host_changes M)
+act_changes : (M : State) (s : Step) → IfSome (act M s) (λ N. Changes (s ≡ Host) (Goes (lines_of M.memory) s) M.spes N.spes)
+act_changes M (Exec p) = if_on (act_in M p (Exec p)) _ _ (λ N. inr) (in_goes M p (Exec p) (λ P. left_goes M.memory (Exec p) p P _ (exec_goes (lines_of M.memory) p P)))
+act_changes M (Piece p c e k) = if_on (act_in M p (Piece p c e k)) _ _ (λ N. inr) (in_goes M p (Piece p c e k) (λ P. piece_goes (lines_of M.memory) p M.memory P c e k))
+act_changes M (Elem p c) = if_on (act_in M p (Elem p c)) _ _ (λ N. inr) (in_goes M p (Elem p c) (λ P. left_goes M.memory (Elem p c) p P _ (elem_goes (lines_of M.memory) p P c)))
+act_changes M (Retire p c) = if_on (act_in M p (Retire p c)) _ _ (λ N. inr) (in_goes M p (Retire p c) (λ P. left_goes M.memory (Retire p c) p P _ (retire_goes (lines_of M.memory) p P c)))
+act_changes M (Atomic p) = if_on (act_in M p (Atomic p)) _ _ (λ N. inr) (in_goes M p (Atomic p) (λ P. left_goes M.memory (Atomic p) p P _ (atomic_goes (lines_of M.memory) p P)))
+act_changes M Host = if_on (host_step M) _ _ (λ N. weaken M.spes N.spes) (host_changes M)
+  where
+    weaken : (old new : List Spe) → Changes ⊤ IsLike old new → Changes (Host ≡ Host) (Goes (lines_of M.memory) Host) old new
+    weaken old new (inl same) = inl (refl, same.1)
+    weaken old new (inr x) = inr (record { p = x.p; was = x.was; is = x.is; at = x.at; set = x.set; how = like_goes (lines_of M.memory) x.p x.was x.is x.how })
 
 -- the processors stay settled
-pub settled-after : {R : Spe → Spe → Type 0} (old new : List Spe) → AreSettled old → Changes R old new → AreSettled (map settled new)
-settled-after old new all (inl same) = rw same (ap (map settled) all)
+pub settled-after : {A : Type 0} {R : ℕ → Spe → Spe → Type 0} (old new : List Spe) → AreSettled old → Changes A R old new → AreSettled (map settled new)
+settled-after old new all (inl same) = rw same.1 (ap (map settled) all)
 settled-after old new all (inr x) = rw x.set (settled-set old x.p x.is all)
 
 pub act-settled : (M : State) (s : Step) (N : State) → act M s ≡ Some N → AreSettled M.spes → AreSettled (map settled N.spes)
-act-settled M s N e all = settled-after M.spes N.spes all (if_is (act M s) N (λ K. Changes (Grown (lines_of M)) M.spes K.spes) e (act_changes M s))
+act-settled M s N e all = settled-after M.spes N.spes all (if_is (act M s) N (λ K. Changes (s ≡ Host) (Goes (lines_of M.memory) s) M.spes K.spes) e (act_changes M s))
 
 settled_at : (spes : List Spe) (p : ℕ) (P : Spe) → AreSettled spes → slice_get spes p ≡ Some P → settled P ≡ P
 settled_at [] p P all at = absurd (cc)
 settled_at (x ∷ spes) zero P all at = let same : x ≡ P = cc in subst (λ y. settled y ≡ y) same (let h : settled x ∷ map settled spes ≡ x ∷ spes = all in cc)
 settled_at (x ∷ spes) (suc p) P all at = settled_at spes p P (let h : settled x ∷ map settled spes ≡ x ∷ spes = all in cc) at
 
-like_settled : (P Q : Spe) → IsLike P Q → settled P ≡ P → settled Q ≡ Q
-like_settled P Q like h =
+like_settled : (p : ℕ) (P Q : Spe) → IsLike p P Q → settled P ≡ P → settled Q ≡ Q
+like_settled p P Q like h =
     let tags : (settled P).tags ≡ P.tags = ap (λ (x : Spe). x.tags) h in
     ap (λ t. record Q { tags = t }) (ap (λ t. settled_tags (busy Q.moves) (length Q.moves.issued) t) like.0
     ∙ ap (λ m. settled_tags (busy m) (length m.issued) P.tags) like.1 ∙ tags ∙ sym like.0)
@@ -276,13 +419,13 @@ like_settled P Q like h =
 set_settled : (spes : List Spe) (p : ℕ) (Q : Spe) → AreSettled spes → settled Q ≡ Q → AreSettled (slice_set spes p Q)
 set_settled spes p Q all h = map-set settled spes p Q ∙ ap (λ xs. slice_set xs p (settled Q)) all ∙ ap (slice_set spes p) h
 
-like_after : (old new : List Spe) → AreSettled old → Changes IsLike old new → AreSettled new
-like_after old new all (inl same) = rw same all
-like_after old new all (inr x) = rw x.set (set_settled old x.p x.is all (like_settled x.was x.is x.how (settled_at old x.p x.was all x.at)))
+like_after : (old new : List Spe) → AreSettled old → Changes ⊤ IsLike old new → AreSettled new
+like_after old new all (inl same) = rw same.1 all
+like_after old new all (inr x) = rw x.set (set_settled old x.p x.is all (like_settled x.p x.was x.is x.how (settled_at old x.p x.was all x.at)))
 
 -- after the host's step the processors are settled already
 pub host-settled : (M N : State) → host_step M ≡ Some N → AreSettled M.spes → map settled N.spes ≡ N.spes
-host-settled M N e all = like_after M.spes N.spes all (if_is (host_step M) N (λ K. Changes IsLike M.spes K.spes) e (host_changes M))
+host-settled M N e all = like_after M.spes N.spes all (if_is (host_step M) N (λ K. Changes ⊤ IsLike M.spes K.spes) e (host_changes M))
 
 pub host-made : (processors : List Processor) (memory : List ℕ) (host : Progress) (M : State) (made : Bool) → AreSettled M.spes
     → MatchBool made (IsSomeAnd (host_step M) (Shows processors memory host)) (host_step M ≡ None)
@@ -307,65 +450,177 @@ map-got f [] q y h = absurd (cc)
 map-got f (x ∷ xs) zero y h = (x, refl, (cc))
 map-got f (x ∷ xs) (suc q) y h = map-got f xs q y h
 
-one_more : (lines n : ℕ) (P Q : Spe) → IsBounded lines n P → HasIssued lines P Q → IsBounded lines (n + 1) Q
-one_more lines n P Q is (inl same) = record { few = let l = is.few in let e = ap length same in omega arith; fits = subst (MovesFit lines) (sym same) is.fits }
-one_more lines n P Q is (inr x) = record {
-  few = let l = is.few in let e = ap length x.2 in let a = length-append P.moves.issued (x.0 ∷ []) in omega arith;
-  fits = λ c d at pieces.
-      let at2 : slice_get (P.moves.issued ++ x.0 ∷ []) c ≡ Some d = subst (λ xs. slice_get xs c ≡ Some d) x.2 at in
-      get-cases P.moves.issued x.0 d c (TransferFits lines d) at2
-      (λ k same. subst (TransferFits lines) (sym same) (x.1 (subst (λ y. has_pieces y ≡ true) same pieces)))
-      (λ old. is.fits c d old pieces);
+fits_more : (lines : ℕ) (issued : List Command) (x : Command) → KindFits lines x x.kind → MovesFit lines issued → MovesFit lines (issued ++ x ∷ [])
+fits_more lines issued x fit fits c d at =
+    get-cases issued x d c (KindFits lines d d.kind) at
+    (λ k same. subst (λ y. KindFits lines y y.kind) (sym same) fit)
+    (λ old. fits c d old)
+
+tested_is : (lines : ℕ) (y x : Element) → tested lines y ≡ Ok x → ElementFits lines x × (x.number ≡ y.number)
+tested_is lines y x h = on (transfer_fault y.ls y.ea y.size lines) refl h
+  where
+    on : (o : Option Fault) → o ≡ transfer_fault y.ls y.ea y.size lines → unless o y ≡ Ok x → ElementFits lines x × (x.number ≡ y.number)
+    on (Some kind) e g = absurd (cc)
+    on None e g = let same : y ≡ x = cc in (subst (ElementFits lines) same (fits lines y e), ap (λ (z : Element). z.number) (sym same))
+
+-- an element that was read fits, and its number is that of those before it
+pub read-is : (lines : ℕ) (P : Spe) (c : ℕ) (d : Command) (x : Element) → next_element lines P c d ≡ Ok x → ElementFits lines x × (x.number ≡ length (read_of P.moves.read c))
+unfolding element_of
+read-is lines P c d x is =
+    let at = next_at P.moves c d in
+    tested_is lines (element_by d.ls (read_of P.moves.read c) (word_at P.store at) (word_at P.store (at + 4))) x is
+
+-- what IsBounded says, of moves alone
+record MovesBounded (lines n : ℕ) (m : Moves) : Type 0 where
+  few : length m.issued ≤ n
+  fits : MovesFit lines m.issued
+  elements : All (λ r. ElementFits lines r.element) m.read
+
+bounded_moves : (lines n : ℕ) (Q : Spe) (m : Moves) → Q.moves ≡ m → MovesBounded lines n m → IsBounded lines n Q
+bounded_moves lines n Q m same is = record {
+  few = subst (λ (k : Moves). length k.issued ≤ n) (sym same) is.few;
+  fits = subst (λ (k : Moves). MovesFit lines k.issued) (sym same) is.fits;
+  elements = subst (λ (k : Moves). All (λ r. ElementFits lines r.element) k.read) (sym same) is.elements;
 }
 
-weaker : (lines n : ℕ) (P : Spe) → IsBounded lines n P → IsBounded lines (n + 1) P
-weaker lines n P is = record { few = let l = is.few in omega arith; fits = is.fits }
+bounded_same : (lines n : ℕ) (P Q : Spe) → Q.moves ≡ P.moves → IsBounded lines n P → IsBounded lines (n + 1) Q
+bounded_same lines n P Q same is = bounded_moves lines (n + 1) Q P.moves same (record { few = let l = is.few in omega arith; fits = is.fits; elements = is.elements })
 
-bounded_after : (lines n : ℕ) (old new : List Spe) → AreBounded lines n old → Changes (Grown lines) old new → AreBounded lines (n + 1) new
-bounded_after lines n old new all (inl same) p P at = weaker lines n P (all p P (subst (λ xs. slice_get xs p ≡ Some P) same at))
-bounded_after lines n old new all (inr x) p P at =
+one_more : (lines n : ℕ) (s : Step) (p : ℕ) (P Q : Spe) → IsBounded lines n P → Moved lines s p P Q → IsBounded lines (n + 1) Q
+one_more lines n s p P Q is (executes e (stays same)) = bounded_same lines n P Q same is
+one_more lines n s p P Q is (executes e (issues d fit same)) = bounded_moves lines (n + 1) Q (with_issued P.moves d) same (record {
+  few = let l = is.few in let a = length-append P.moves.issued (d ∷ []) in omega arith;
+  fits = fits_more lines P.moves.issued d fit is.fits;
+  elements = is.elements;
+})
+one_more lines n s p P Q is (executes e (resumes tag asked same)) = bounded_moves lines (n + 1) Q (with_resumed P.moves (stalls_of_tag P.moves tag)) same (record { few = let l = is.few in omega arith; fits = is.fits; elements = is.elements })
+one_more lines n s p P Q is (copies c e k d of at has same) = bounded_moves lines (n + 1) Q (with_done P.moves c e k) same (record { few = let l = is.few in omega arith; fits = is.fits; elements = is.elements })
+one_more lines n s p P Q is (reads c d x of at has got same) = bounded_moves lines (n + 1) Q (with_read P.moves c x) same (record {
+  few = let l = is.few in omega arith;
+  fits = is.fits;
+  elements = All-append (λ r. ElementFits lines r.element) P.moves.read (record { cmd = c; element = x } ∷ []) is.elements (one (record { cmd = c; element = x }) (read-is lines P c d x got).0);
+})
+  where
+    one : (r : ElementRead) → ElementFits lines r.element → All (λ (y : ElementRead). ElementFits lines y.element) (r ∷ [])
+    one r fit zero y h = fit
+    one r fit (suc k) y h = absurd (omega arith)
+one_more lines n s p P Q is (refuses c of fault same) = bounded_same lines n P Q same is
+one_more lines n s p P Q is (retires c d of at left same) = bounded_moves lines (n + 1) Q (with_retired P.moves c) same (record { few = let l = is.few in omega arith; fits = is.fits; elements = is.elements })
+one_more lines n s p P Q is (acts of same) = bounded_same lines n P Q same is
+
+weaker : (lines n : ℕ) (P : Spe) → IsBounded lines n P → IsBounded lines (n + 1) P
+weaker lines n P is = record { few = let l = is.few in omega arith; fits = is.fits; elements = is.elements }
+
+bounded_after : (lines n : ℕ) (s : Step) (old new : List Spe) → AreBounded lines n old → Changes (s ≡ Host) (Goes lines s) old new → AreBounded lines (n + 1) new
+bounded_after lines n s old new all (inl same) p P at = weaker lines n P (all p P (subst (λ xs. slice_get xs p ≡ Some P) same.1 at))
+bounded_after lines n s old new all (inr x) p P at =
     set_cases old x.p p x.is P (IsBounded lines (n + 1) P) (subst (λ xs. slice_get xs p ≡ Some P) x.set at)
-    (λ same. subst (IsBounded lines (n + 1)) (sym same) (one_more lines n x.was x.is (all x.p x.was x.at) x.how.0))
+    (λ same. subst (IsBounded lines (n + 1)) (sym same) (one_more lines n s x.p x.was x.is (all x.p x.was x.at) x.how.moved))
     (λ h. weaker lines n P (all p P h))
 
 settled_bounded : (lines n : ℕ) (spes : List Spe) → AreBounded lines n spes → AreBounded lines n (map settled spes)
 settled_bounded lines n spes all p P at =
     let g = map-got settled spes p P at in
     let is = all p g.0 g.1 in
-    subst (IsBounded lines n) g.2 (record { few = is.few; fits = is.fits })
+    subst (IsBounded lines n) g.2 (record { few = is.few; fits = is.fits; elements = is.elements })
 
-pub act-bounded : (M : State) (s : Step) (N : State) (lines n : ℕ) → lines_of M ≡ lines → act M s ≡ Some N → AreBounded lines n M.spes → AreBounded lines (n + 1) (map settled N.spes)
+pub act-bounded : (M : State) (s : Step) (N : State) (lines n : ℕ) → lines_of M.memory ≡ lines → act M s ≡ Some N → AreBounded lines n M.spes → AreBounded lines (n + 1) (map settled N.spes)
 act-bounded M s N lines n same e all =
-    settled_bounded lines (n + 1) N.spes (bounded_after lines n M.spes N.spes all
-    (subst (λ k. Changes (Grown k) M.spes N.spes) same (if_is (act M s) N (λ K. Changes (Grown (lines_of M)) M.spes K.spes) e (act_changes M s))))
+    settled_bounded lines (n + 1) N.spes (bounded_after lines n s M.spes N.spes all
+    (subst (λ k. Changes (s ≡ Host) (Goes k s) M.spes N.spes) same (if_is (act M s) N (λ K. Changes (s ≡ Host) (Goes (lines_of M.memory) s) M.spes K.spes) e (act_changes M s))))
 
--- what was complete is complete still
-abbrev KeptAt : Spe → List Spe → ℕ → Type 0
-KeptAt P new p = (Q : Spe) × (slice_get new p ≡ Some Q) × Keeps P.moves Q.moves
+-- ---- one processor, at a step of the machine
 
-set_got : {X : Type 0} (xs : List X) (p q : ℕ) (y x : X) (G : Type 0) → slice_get xs q ≡ Some x → (p ≡ q → slice_get (slice_set xs p y) q ≡ Some y → G) → (slice_get (slice_set xs p y) q ≡ Some x → G) → G
+-- what the step does to it: it is another's, or its own
+pub data Seen (lines : ℕ) (s : Step) (p : ℕ) (P Q : Spe) : Type 0 where
+  another : is_at p s ≡ false → Q.moves ≡ P.moves → Q.status ≡ P.status → Seen lines s p P Q
+  goes : Goes lines s p P Q → Seen lines s p P Q
+
+set_got : {X : Type 0} (xs : List X) (p q : ℕ) (y x : X) (G : Type 0) → slice_get xs q ≡ Some x → (p ≡ q → slice_get (slice_set xs p y) q ≡ Some y → G) → ((p == q) ≡ false → slice_get (slice_set xs p y) q ≡ Some x → G) → G
 set_got [] p q y x G h new old = absurd (cc)
 set_got (z ∷ xs) zero zero y x G h new old = new refl refl
-set_got (z ∷ xs) zero (suc q) y x G h new old = old h
-set_got (z ∷ xs) (suc p) zero y x G h new old = old h
-set_got (z ∷ xs) (suc p) (suc q) y x G h new old = set_got xs p q y x G h (λ e. new (ap suc e)) old
+set_got (z ∷ xs) zero (suc q) y x G h new old = old (grind (arith, nat_tests)) h
+set_got (z ∷ xs) (suc p) zero y x G h new old = old (grind (arith, nat_tests)) h
+set_got (z ∷ xs) (suc p) (suc q) y x G h new old = set_got xs p q y x G h (λ e. new (ap suc e)) (λ e. old (grind (arith, nat_tests, e)))
 
-kept_at : (lines : ℕ) (old new : List Spe) (p : ℕ) (P : Spe) → slice_get old p ≡ Some P → Changes (Grown lines) old new → KeptAt P new p
-kept_at lines old new p P at (inl same) = (P, subst (λ xs. slice_get xs p ≡ Some P) (sym same) at, λ c h. h)
-kept_at lines old new p P at (inr x) =
-    set_got old x.p p x.is P (KeptAt P new p) at
+-- who makes it
+moved-by : (lines : ℕ) (s : Step) (p q : ℕ) (P Q : Spe) → (q == p) ≡ false → Moved lines s q P Q → is_at p s ≡ false
+moved-by lines s p q P Q h (executes of d) = ap (is_at p) of ∙ h
+moved-by lines s p q P Q h (copies c e k d of at has same) = ap (is_at p) of ∙ h
+moved-by lines s p q P Q h (reads c d x of at has got same) = ap (is_at p) of ∙ h
+moved-by lines s p q P Q h (refuses c of fault same) = ap (is_at p) of ∙ h
+moved-by lines s p q P Q h (retires c d of at left same) = ap (is_at p) of ∙ h
+moved-by lines s p q P Q h (acts of same) = ap (is_at p) of
+
+abbrev SeenAt : ℕ → Step → ℕ → Spe → List Spe → Type 0
+SeenAt lines s p P new = (Q : Spe) × (slice_get new p ≡ Some Q) × Seen lines s p P Q
+
+seen_after : (lines : ℕ) (s : Step) (old new : List Spe) (p : ℕ) (P : Spe) → slice_get old p ≡ Some P → Changes (s ≡ Host) (Goes lines s) old new → SeenAt lines s p P new
+seen_after lines s old new p P at (inl same) = (P, subst (λ xs. slice_get xs p ≡ Some P) (sym same.1) at, another (ap (is_at p) same.0) refl refl)
+seen_after lines s old new p P at (inr x) =
+    set_got old x.p p x.is P (SeenAt lines s p P new) at
     (λ e got.
     let was : x.was ≡ P = let a : slice_get old p ≡ Some x.was = subst (λ q. slice_get old q ≡ Some x.was) e x.at in cc in
-    (x.is, subst (λ xs. slice_get xs p ≡ Some x.is) (sym x.set) got, subst (λ (y : Spe). Keeps y.moves x.is.moves) was x.how.1))
-    (λ got. (P, subst (λ xs. slice_get xs p ≡ Some P) (sym x.set) got, λ c h. h))
+    (x.is, subst (λ xs. slice_get xs p ≡ Some x.is) (sym x.set) got, goes (subst (λ y. Goes lines s p y x.is) was (subst (λ q. Goes lines s q x.was x.is) e x.how))))
+    (λ differs got. (P, subst (λ xs. slice_get xs p ≡ Some P) (sym x.set) got, another (moved-by lines s p x.p x.was x.is differs x.how.moved) refl refl))
 
 got_map : {X Y : Type 0} (f : X → Y) (xs : List X) (q : ℕ) (x : X) → slice_get xs q ≡ Some x → slice_get (map f xs) q ≡ Some (f x)
 got_map f [] q x h = absurd (cc)
 got_map f (y ∷ xs) zero x h = ap (option_map f) h
 got_map f (y ∷ xs) (suc q) x h = got_map f xs q x h
 
+-- settling changes neither the status nor the commands
+seen_settled : (lines : ℕ) (s : Step) (p : ℕ) (P Q : Spe) → Seen lines s p P Q → Seen lines s p P (settled Q)
+seen_settled lines s p P Q (another other same status) = another other same status
+seen_settled lines s p P Q (goes g) = goes (record { moved = moved_settled lines s p P Q g.moved; faulted = g.faulted })
+  where
+    moved_settled : (lines : ℕ) (s : Step) (p : ℕ) (P Q : Spe) → Moved lines s p P Q → Moved lines s p P (settled Q)
+    moved_settled lines s p P Q (executes of d) = executes of d
+    moved_settled lines s p P Q (copies c e k d of at has same) = copies c e k d of at has same
+    moved_settled lines s p P Q (reads c d x of at has got same) = reads c d x of at has got same
+    moved_settled lines s p P Q (refuses c of fault same) = refuses c of fault same
+    moved_settled lines s p P Q (retires c d of at left same) = retires c d of at left same
+    moved_settled lines s p P Q (acts of same) = acts of same
+
+pub act-seen : (M : State) (s : Step) (N : State) (p : ℕ) (P : Spe) → act M s ≡ Some N → slice_get M.spes p ≡ Some P
+    → (Q : Spe) × (slice_get (map settled N.spes) p ≡ Some Q) × Seen (lines_of M.memory) s p P Q
+act-seen M s N p P e at =
+    let k = seen_after (lines_of M.memory) s M.spes N.spes p P at (if_is (act M s) N (λ K. Changes (s ≡ Host) (Goes (lines_of M.memory) s) M.spes K.spes) e (act_changes M s)) in
+    (settled k.0, got_map settled N.spes p k.0 k.1, seen_settled (lines_of M.memory) s p P k.0 k.2)
+
+-- a command keeps its number, and is complete still where it was
+same-keeps : (m n : Moves) → n ≡ m → Keeps m n
+same-keeps m n same = subst (Keeps m) (sym same) (keeps-same m)
+
+as-keeps : (m n k : Moves) → k ≡ n → Keeps m n → Keeps m k
+as-keeps m n k same keeps = subst (Keeps m) (sym same) keeps
+
+moved-keeps : (lines : ℕ) (s : Step) (p : ℕ) (P Q : Spe) → Moved lines s p P Q → Keeps P.moves Q.moves
+moved-keeps lines s p P Q (executes of (stays same)) = same-keeps P.moves Q.moves same
+moved-keeps lines s p P Q (executes of (issues d fit same)) = as-keeps P.moves (with_issued P.moves d) Q.moves same (issued-keeps P.moves d)
+moved-keeps lines s p P Q (executes of (resumes tag asked same)) = as-keeps P.moves (with_resumed P.moves (stalls_of_tag P.moves tag)) Q.moves same (resumed-keeps P.moves (stalls_of_tag P.moves tag))
+moved-keeps lines s p P Q (copies c e k d of at has same) = as-keeps P.moves (with_done P.moves c e k) Q.moves same (done-keeps P.moves c e k)
+moved-keeps lines s p P Q (reads c d x of at has got same) =
+    as-keeps P.moves (with_read P.moves c x) Q.moves same (read-keeps P.moves c x (λ y at2. let one : d ≡ y = some_same d y (sym at ∙ at2) in subst (λ z. are_all_there P.moves.read c z ≡ false) one (element-is P.moves c d has).left))
+  where
+    some_same : (a b : Command) → Some a ≡ Some b → a ≡ b
+    some_same a b q = cc
+moved-keeps lines s p P Q (refuses c of fault same) = same-keeps P.moves Q.moves same
+moved-keeps lines s p P Q (retires c d of at left same) = as-keeps P.moves (with_retired P.moves c) Q.moves same (retired-keeps P.moves c)
+moved-keeps lines s p P Q (acts of same) = same-keeps P.moves Q.moves same
+
+seen-keeps : (lines : ℕ) (s : Step) (p : ℕ) (P Q : Spe) → Seen lines s p P Q → Keeps P.moves Q.moves
+seen-keeps lines s p P Q (another other same status) = same-keeps P.moves Q.moves same
+seen-keeps lines s p P Q (goes g) = moved-keeps lines s p P Q g.moved
+
 pub act-keeps : (M : State) (s : Step) (N : State) (p : ℕ) (P : Spe) → act M s ≡ Some N → slice_get M.spes p ≡ Some P
     → (Q : Spe) × (slice_get (map settled N.spes) p ≡ Some Q) × Keeps P.moves Q.moves
-act-keeps M s N p P e at =
-    let k = kept_at (lines_of M) M.spes N.spes p P at (if_is (act M s) N (λ K. Changes (Grown (lines_of M)) M.spes K.spes) e (act_changes M s)) in
-    (settled k.0, got_map settled N.spes p k.0 k.1, k.2)
+act-keeps M s N p P e at = let k = act-seen M s N p P e at in (k.0, k.1, seen-keeps (lines_of M.memory) s p P k.0 k.2)
+
+-- no processor comes or goes
+length_after : {A : Type 0} {R : ℕ → Spe → Spe → Type 0} (old new : List Spe) → Changes A R old new → length new ≡ length old
+length_after old new (inl same) = ap length same.1
+length_after old new (inr x) = ap length x.set ∙ length-set old x.p x.is
+
+pub act-length : (M : State) (s : Step) (N : State) → act M s ≡ Some N → length (map settled N.spes) ≡ length M.spes
+act-length M s N e = length-map N.spes settled ∙ length_after M.spes N.spes (if_is (act M s) N (λ K. Changes (s ≡ Host) (Goes (lines_of M.memory) s) M.spes K.spes) e (act_changes M s))

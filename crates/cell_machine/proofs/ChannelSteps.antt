@@ -1,8 +1,8 @@
 -- The channels that are there, and their counts.
-use Rattle.std.proofs.Common.{◌≡◌, ◌≢◌, ℕ, ◌-◌, ◌%◌, ◌==◌, ◌≤◌, ◌&&◌, ◌||◌, Bool, true, false, List, [], ◌∷◌, length, arith, refl, sym, ◌∙◌, ap, subst, true≢false}
-use Rattle.std.specs.Prelude.{MatchBool, Option, Some, None, nat_lt, nat_le, is_some, IsSomeAnd, cond, Ok, Err}
+use Rattle.std.proofs.Common.{◌≡◌, ◌≢◌, ◌↔◌, ℕ, ◌-◌, ◌%◌, ◌==◌, ◌<◌, ◌≤◌, ◌&&◌, not, Bool, true, false, List, [], ◌∷◌, ◌++◌, length, arith, refl, sym, ◌∙◌, ap, subst, true≢false}
+use Rattle.std.specs.Prelude.{MatchBool, Option, Some, None, nat_lt, nat_le, is_some, IsSomeAnd, cond, Result, Ok, Err, is_err, IsOk, OnOk}
 use Rattle.std.proofs.lemmas.Bool.Decides.{nat_tests}
-use Rattle.cell_channels.specs.State.{opening_channels, count_of, with_param}
+use Rattle.cell_channels.specs.State.{count_of}
 use Rattle.cell_channels.specs.Table.{way_of}
 use Rattle.cell_channels.specs.declared.ways.Way.{Way}
 use Rattle.cell_channels.specs.declared.ways.Way.TheVariants.{Read as Reads, Write as Writes}
@@ -22,7 +22,7 @@ use Rattle.cell_channels.specs.declared.channels.Channels.{Channels}
 use Rattle.cell_channels.specs.declared.channels.Counts.{Counts}
 use Rattle.cell_machine.specs.declared.processor.Processor.{Processor}
 use Rattle.cell_machine.specs.Shows.{ShowsSpe}
-use Rattle.cell_machine.specs.Channels.{listed, is_read, is_write, count, counts, channel, bad_channel, given, went_on, read_inbound, read_status, is_opcode, refused, with_issued, commanded, written}
+use Rattle.cell_machine.specs.Channels.{listed, is_read, is_write, count, counts, channel, bad_channel, given, went_on, read_by, read_inbound, read_status, read_stalls, is_atomic, refused, with_issued, acknowledged, parameterized, commanded, written}
 
 off : (ch k : ℕ) → ch ≢ k → (ch == k) ≡ false
 off ch k h = grind (arith, nat_tests)
@@ -44,40 +44,33 @@ hidden_write : (b : Bool) (o : Option Way) → (b ≡ false → is_write o ≡ f
 hidden_write true o h = refl
 hidden_write false o h = h refl
 
-not_one : (a b c : Bool) → (a || b || c) ≡ false → (a ≡ false) × (b ≡ false) × (c ≡ false)
-not_one true b c h = absurd (true≢false h)
-not_one false true c h = absurd (true≢false h)
-not_one false false c h = (refl, refl, h)
-
-pub read-other : (ch : ℕ) → ch ≢ 12 → ch ≢ 24 → ch ≢ 29 → is_read (listed ch) ≡ false
+pub read-other : (ch : ℕ) → ch ≢ 12 → ch ≢ 24 → ch ≢ 25 → ch ≢ 29 → is_read (listed ch) ≡ false
 unfolding listed way_of
-read-other ch a b c = hidden_read (ch == 25 || ch == 26 || ch == 27) _ (λ h.
-    let hid = not_one (ch == 25) (ch == 26) (ch == 27) h in
-    rw (off ch 12 a, off ch 24 b, off ch 29 c, hid.0, hid.1, hid.2)
+read-other ch a b c d = hidden_read (ch == 27) _ (λ h.
+    rw (off ch 12 a, off ch 24 b, off ch 25 c, off ch 29 d, h)
     (skip_write (ch == 16) _ (skip_write (ch == 17) _ (skip_write (ch == 18) _ (skip_write (ch == 19) _ (skip_write (ch == 20) _ (skip_write (ch == 21) _
-    (skip_write (ch == 22) _ (skip_write (ch == 23) _ (skip_write (ch == 28) _ (skip_write (ch == 30) _ refl)))))))))))
+    (skip_write (ch == 22) _ (skip_write (ch == 23) _ (skip_write (ch == 26) _ (skip_write (ch == 28) _ (skip_write (ch == 30) _ refl))))))))))))
 
 param_off : (ch k : ℕ) → (nat_le 16 ch && nat_le ch 20) ≡ false → 16 ≤ k → k ≤ 20 → (ch == k) ≡ false
 param_off ch k h low high = grind (arith, nat_tests)
 
-pub write-other : (ch : ℕ) → (nat_le 16 ch && nat_le ch 20) ≡ false → ch ≢ 21 → ch ≢ 22 → ch ≢ 23 → ch ≢ 28 → ch ≢ 30 → is_write (listed ch) ≡ false
+pub write-other : (ch : ℕ) → (nat_le 16 ch && nat_le ch 20) ≡ false → ch ≢ 21 → ch ≢ 22 → ch ≢ 23 → ch ≢ 26 → ch ≢ 28 → ch ≢ 30 → is_write (listed ch) ≡ false
 unfolding listed way_of
-write-other ch p a b c d e = hidden_write (ch == 25 || ch == 26 || ch == 27) _ (λ h.
-    let hid = not_one (ch == 25) (ch == 26) (ch == 27) h in
-    rw (param_off ch 16 p (omega arith) (omega arith), param_off ch 17 p (omega arith) (omega arith), param_off ch 18 p (omega arith) (omega arith), param_off ch 19 p (omega arith) (omega arith), param_off ch 20 p (omega arith) (omega arith), off ch 21 a, off ch 22 b, off ch 23 c, off ch 28 d, off ch 30 e, hid.0, hid.1, hid.2)
-    (skip_read (ch == 12) _ (skip_read (ch == 24) _ (skip_read (ch == 29) _ refl))))
+write-other ch p a b c f d e = hidden_write (ch == 27) _ (λ h.
+    rw (param_off ch 16 p (omega arith) (omega arith), param_off ch 17 p (omega arith) (omega arith), param_off ch 18 p (omega arith) (omega arith), param_off ch 19 p (omega arith) (omega arith), param_off ch 20 p (omega arith) (omega arith), off ch 21 a, off ch 22 b, off ch 23 c, off ch 26 f, off ch 28 d, off ch 30 e, h)
+    (skip_read (ch == 12) _ (skip_read (ch == 24) _ (skip_read (ch == 25) _ (skip_read (ch == 29) _ refl)))))
 
 -- what the operations come to
-pub read-bad : (lines : ℕ) (P : Spe) (rt ch : ℕ) → ch ≢ 12 → ch ≢ 24 → ch ≢ 29 → channel lines P (Read rt ch) ≡ Some (bad_channel P)
+pub read-bad : (lines : ℕ) (P : Spe) (rt ch : ℕ) → ch ≢ 12 → ch ≢ 24 → ch ≢ 25 → ch ≢ 29 → channel lines P (Read rt ch) ≡ Some (bad_channel P)
 unfolding channel
-read-bad lines P rt ch a b c = rw (read-other ch a b c) refl
+read-bad lines P rt ch a b c d = rw (read-other ch a b c d) refl
 
 pub read-mask : (lines : ℕ) (P : Spe) (rt : ℕ) → channel lines P (Read rt 12) ≡ Some (given P rt P.tags.mask)
-unfolding channel listed way_of count count_of
+unfolding channel listed way_of count count_of read_by
 read-mask lines P rt = refl
 
 status_on : (lines : ℕ) (P : Spe) (rt : ℕ) (o : Option TagStatus) → P.tags.status ≡ o → channel lines P (Read rt 24) ≡ read_status P rt o
-unfolding channel listed way_of count count_of
+unfolding channel listed way_of count count_of read_by
 status_on lines P rt None e = rw e refl
 status_on lines P rt (Some status) e = rw e refl
 
@@ -85,16 +78,50 @@ pub read-status : (lines : ℕ) (P : Spe) (rt : ℕ) → channel lines P (Read r
 read-status lines P rt = status_on lines P rt P.tags.status refl
 
 inbound_on : (lines : ℕ) (P : Spe) (rt : ℕ) (xs : List ℕ) → P.inbound ≡ xs → channel lines P (Read rt 29) ≡ read_inbound P rt xs
-unfolding channel listed way_of count count_of
+unfolding channel listed way_of count count_of read_by
 inbound_on lines P rt [] e = rw e refl
 inbound_on lines P rt (x ∷ xs) e = let some : nat_lt 0 (length (x ∷ xs)) ≡ true = grind (arith, nat_tests) in rw (e, some) refl
 
 pub read-inbound : (lines : ℕ) (P : Spe) (rt : ℕ) → channel lines P (Read rt 29) ≡ read_inbound P rt P.inbound
 read-inbound lines P rt = inbound_on lines P rt P.inbound refl
 
-pub write-bad : (lines : ℕ) (P : Spe) (ch value : ℕ) → (nat_le 16 ch && nat_le ch 20) ≡ false → ch ≢ 21 → ch ≢ 22 → ch ≢ 23 → ch ≢ 28 → ch ≢ 30 → channel lines P (Write ch value) ≡ Some (bad_channel P)
+pub not-clear : (b : Bool) → not b ≡ false → b ≡ true
+not-clear true h = refl
+not-clear false h = absurd (true≢false h)
+
+pub not-set : (b : Bool) → not b ≡ true → b ≡ false
+not-set true h = absurd (true≢false (sym h))
+not-set false h = refl
+
+-- the stall status, where it has a bit
+pub read-stalls : (lines : ℕ) (P : Spe) (rt : ℕ) → (P.channels.stalls == 0) ≡ false → channel lines P (Read rt 25) ≡ Some (read_stalls P rt)
+unfolding channel listed way_of count count_of read_by
+read-stalls lines P rt h = rw h refl
+
+pub stalls-none : (lines : ℕ) (P : Spe) (rt : ℕ) → (P.channels.stalls == 0) ≡ true → channel lines P (Read rt 25) ≡ None
+unfolding channel listed way_of count count_of
+stalls-none lines P rt h = rw h refl
+
+-- and the code's reading of it
+pub stalls-read : (lines : ℕ) (b : Bool) (P : Spe) (new : Processor) (rt : ℕ) → MatchBool b (((P.channels.stalls == 0) ≡ false) × ShowsSpe new (read_stalls P rt)) ((P.channels.stalls == 0) ≡ true)
+    → MatchBool b (IsSomeAnd (channel lines P (Read rt 25)) (ShowsSpe new)) (channel lines P (Read rt 25) ≡ None)
+stalls-read lines true P new rt h = rw (read-stalls lines P rt h.0) h.1
+stalls-read lines false P new rt h = stalls-none lines P rt h
+
+pub stalls-ready : (lines : ℕ) (P : Spe) (rt : ℕ) → is_some (channel lines P (Read rt 25)) ≡ not (P.channels.stalls == 0)
+stalls-ready lines P rt = on (P.channels.stalls == 0) refl
+  where
+    on : (b : Bool) → (P.channels.stalls == 0) ≡ b → is_some (channel lines P (Read rt 25)) ≡ not b
+    on true e = ap is_some (stalls-none lines P rt e)
+    on false e = ap is_some (read-stalls lines P rt e)
+
+pub write-ack : (lines : ℕ) (P : Spe) (tag : ℕ) → channel lines P (Write 26 tag) ≡ Some (went_on (acknowledged P tag))
+unfolding channel listed way_of count count_of written
+write-ack lines P tag = refl
+
+pub write-bad : (lines : ℕ) (P : Spe) (ch value : ℕ) → (nat_le 16 ch && nat_le ch 20) ≡ false → ch ≢ 21 → ch ≢ 22 → ch ≢ 23 → ch ≢ 26 → ch ≢ 28 → ch ≢ 30 → channel lines P (Write ch value) ≡ Some (bad_channel P)
 unfolding channel
-write-bad lines P ch value p a b c d e = rw (write-other ch p a b c d e) refl
+write-bad lines P ch value p a b c f d e = rw (write-other ch p a b c f d e) refl
 
 pub write-mask : (lines : ℕ) (P : Spe) (value : ℕ) → channel lines P (Write 22 value) ≡ Some (went_on (record P { tags = record P.tags { mask = value } }))
 unfolding channel listed way_of count count_of written
@@ -104,35 +131,35 @@ pub write-request : (lines : ℕ) (P : Spe) (value : ℕ) → channel lines P (W
 unfolding channel listed way_of count count_of written
 write-request lines P value = refl
 
-at_param : (lines : ℕ) (P : Spe) (value k : ℕ) → k ≡ 16 → channel lines P (Write k value) ≡ Some (went_on (record P { params = with_param P.params k value }))
+at_param : (lines : ℕ) (P : Spe) (value k : ℕ) → k ≡ 16 → channel lines P (Write k value) ≡ Some (went_on (parameterized P k value))
 unfolding channel listed way_of count count_of written
 at_param lines P value k e = rw e refl
 
-at_param_17 : (lines : ℕ) (P : Spe) (value k : ℕ) → k ≡ 17 → channel lines P (Write k value) ≡ Some (went_on (record P { params = with_param P.params k value }))
+at_param_17 : (lines : ℕ) (P : Spe) (value k : ℕ) → k ≡ 17 → channel lines P (Write k value) ≡ Some (went_on (parameterized P k value))
 unfolding channel listed way_of count count_of written
 at_param_17 lines P value k e = rw e refl
 
-at_param_18 : (lines : ℕ) (P : Spe) (value k : ℕ) → k ≡ 18 → channel lines P (Write k value) ≡ Some (went_on (record P { params = with_param P.params k value }))
+at_param_18 : (lines : ℕ) (P : Spe) (value k : ℕ) → k ≡ 18 → channel lines P (Write k value) ≡ Some (went_on (parameterized P k value))
 unfolding channel listed way_of count count_of written
 at_param_18 lines P value k e = rw e refl
 
-at_param_19 : (lines : ℕ) (P : Spe) (value k : ℕ) → k ≡ 19 → channel lines P (Write k value) ≡ Some (went_on (record P { params = with_param P.params k value }))
+at_param_19 : (lines : ℕ) (P : Spe) (value k : ℕ) → k ≡ 19 → channel lines P (Write k value) ≡ Some (went_on (parameterized P k value))
 unfolding channel listed way_of count count_of written
 at_param_19 lines P value k e = rw e refl
 
-at_param_20 : (lines : ℕ) (P : Spe) (value k : ℕ) → k ≡ 20 → channel lines P (Write k value) ≡ Some (went_on (record P { params = with_param P.params k value }))
+at_param_20 : (lines : ℕ) (P : Spe) (value k : ℕ) → k ≡ 20 → channel lines P (Write k value) ≡ Some (went_on (parameterized P k value))
 unfolding channel listed way_of count count_of written
 at_param_20 lines P value k e = rw e refl
 
 param_on : (lines : ℕ) (P : Spe) (ch value : ℕ) (a b c d : Bool) → (ch == 16) ≡ a → (ch == 17) ≡ b → (ch == 18) ≡ c → (ch == 19) ≡ d → (nat_le 16 ch && nat_le ch 20) ≡ true
-    → channel lines P (Write ch value) ≡ Some (went_on (record P { params = with_param P.params ch value }))
+    → channel lines P (Write ch value) ≡ Some (went_on (parameterized P ch value))
 param_on lines P ch value true b c d ea eb ec ed h = at_param lines P value ch (grind (arith, nat_tests))
 param_on lines P ch value false true c d ea eb ec ed h = at_param_17 lines P value ch (grind (arith, nat_tests))
 param_on lines P ch value false false true d ea eb ec ed h = at_param_18 lines P value ch (grind (arith, nat_tests))
 param_on lines P ch value false false false true ea eb ec ed h = at_param_19 lines P value ch (grind (arith, nat_tests))
 param_on lines P ch value false false false false ea eb ec ed h = at_param_20 lines P value ch (grind (arith, nat_tests))
 
-pub write-param : (lines : ℕ) (P : Spe) (ch value : ℕ) → (nat_le 16 ch && nat_le ch 20) ≡ true → channel lines P (Write ch value) ≡ Some (went_on (record P { params = with_param P.params ch value }))
+pub write-param : (lines : ℕ) (P : Spe) (ch value : ℕ) → (nat_le 16 ch && nat_le ch 20) ≡ true → channel lines P (Write ch value) ≡ Some (went_on (parameterized P ch value))
 write-param lines P ch value h = param_on lines P ch value _ _ _ _ refl refl refl refl h
 
 pub command-full : (lines : ℕ) (P : Spe) (op n : ℕ) → n ≡ 16 - length (outstanding P) → n ≡ 0 → channel lines P (Write 21 op) ≡ None
@@ -142,6 +169,12 @@ command-full lines P op n is zero = rw (← is, zero) refl
 pub command-taken : (lines : ℕ) (P : Spe) (op n : ℕ) → n ≡ 16 - length (outstanding P) → n ≢ 0 → channel lines P (Write 21 op) ≡ Some (commanded lines P op)
 unfolding channel listed way_of count count_of written
 command-taken lines P op n is some = let t : nat_lt 0 n ≡ true = grind (arith, nat_tests) in rw (← is, t) refl
+
+-- what a mailbox of one place that takes a value had, and has
+pub put-first : {X Y : Type 0} (r : Result X Y) (old new : List ℕ) (v : ℕ) → is_err r ≡ false → (IsOk r ↔ (length old < 1)) → OnOk r (new ≡ old ++ v ∷ []) → (old ≡ []) × (new ≡ v ∷ [])
+put-first (Err e) old new v h k f = absurd (true≢false h)
+put-first (Ok u) [] new v h k f = (refl, f)
+put-first (Ok u) (x ∷ old) new v h k f = let l : length (x ∷ old) < 1 = k.0 refl in absurd (omega arith)
 
 pub outbound-put : (lines : ℕ) (P : Spe) (value : ℕ) → P.outbound ≡ [] → channel lines P (Write 28 value) ≡ Some (went_on (record P { outbound = value ∷ [] }))
 unfolding channel listed way_of count count_of written
@@ -182,24 +215,26 @@ inbound_ready P rt (x ∷ xs) = let some : nat_lt 0 (length (x ∷ xs)) ≡ true
 pub read-ready : (lines : ℕ) (P : Spe) (rt : ℕ) → is_some (channel lines P (Read rt 29)) ≡ nat_lt 0 (length P.inbound)
 read-ready lines P rt = ap is_some (read-inbound lines P rt) ∙ inbound_ready P rt P.inbound
 
-read_on : (lines : ℕ) (P : Spe) (rt ch : ℕ) (b : Bool) → (ch == 12) ≡ b → ch ≢ 24 → ch ≢ 29 → is_some (channel lines P (Read rt ch)) ≡ true
-read_on lines P rt ch true e a c = let is : ch ≡ 12 = grind (arith, nat_tests) in rw is (ap is_some (read-mask lines P rt))
-read_on lines P rt ch false e a c = ap is_some (read-bad lines P rt ch (let differs : ch ≢ 12 = grind (arith, nat_tests) in differs) a c)
+read_on : (lines : ℕ) (P : Spe) (rt ch : ℕ) (b : Bool) → (ch == 12) ≡ b → ch ≢ 24 → ch ≢ 25 → ch ≢ 29 → is_some (channel lines P (Read rt ch)) ≡ true
+read_on lines P rt ch true e a d c = let is : ch ≡ 12 = grind (arith, nat_tests) in rw is (ap is_some (read-mask lines P rt))
+read_on lines P rt ch false e a d c = ap is_some (read-bad lines P rt ch (let differs : ch ≢ 12 = grind (arith, nat_tests) in differs) a d c)
 
-pub read-always : (lines : ℕ) (P : Spe) (rt ch : ℕ) → ch ≢ 24 → ch ≢ 29 → is_some (channel lines P (Read rt ch)) ≡ true
-read-always lines P rt ch a c = read_on lines P rt ch (ch == 12) refl a c
+pub read-always : (lines : ℕ) (P : Spe) (rt ch : ℕ) → ch ≢ 24 → ch ≢ 25 → ch ≢ 29 → is_some (channel lines P (Read rt ch)) ≡ true
+read-always lines P rt ch a d c = read_on lines P rt ch (ch == 12) refl a d c
 
-write_on : (lines : ℕ) (P : Spe) (ch value : ℕ) (a b p : Bool) → (ch == 22) ≡ a → (ch == 23) ≡ b → (nat_le 16 ch && nat_le ch 20) ≡ p → ch ≢ 21 → ch ≢ 28 → ch ≢ 30 → is_some (channel lines P (Write ch value)) ≡ true
-write_on lines P ch value true b p ea eb ep x y z = let is : ch ≡ 22 = grind (arith, nat_tests) in rw is (ap is_some (write-mask lines P value))
-write_on lines P ch value false true p ea eb ep x y z = let is : ch ≡ 23 = grind (arith, nat_tests) in rw is (ap is_some (write-request lines P value))
-write_on lines P ch value false false true ea eb ep x y z = ap is_some (write-param lines P ch value ep)
-write_on lines P ch value false false false ea eb ep x y z =
+write_on : (lines : ℕ) (P : Spe) (ch value : ℕ) (a b f p : Bool) → (ch == 22) ≡ a → (ch == 23) ≡ b → (ch == 26) ≡ f → (nat_le 16 ch && nat_le ch 20) ≡ p → ch ≢ 21 → ch ≢ 28 → ch ≢ 30 → is_some (channel lines P (Write ch value)) ≡ true
+write_on lines P ch value true b f p ea eb ef ep x y z = let is : ch ≡ 22 = grind (arith, nat_tests) in rw is (ap is_some (write-mask lines P value))
+write_on lines P ch value false true f p ea eb ef ep x y z = let is : ch ≡ 23 = grind (arith, nat_tests) in rw is (ap is_some (write-request lines P value))
+write_on lines P ch value false false true p ea eb ef ep x y z = let is : ch ≡ 26 = grind (arith, nat_tests) in rw is (ap is_some (write-ack lines P value))
+write_on lines P ch value false false false true ea eb ef ep x y z = ap is_some (write-param lines P ch value ep)
+write_on lines P ch value false false false false ea eb ef ep x y z =
     let a : ch ≢ 22 = grind (arith, nat_tests) in
     let b : ch ≢ 23 = grind (arith, nat_tests) in
-    ap is_some (write-bad lines P ch value ep x a b y z)
+    let f : ch ≢ 26 = grind (arith, nat_tests) in
+    ap is_some (write-bad lines P ch value ep x a b f y z)
 
 pub write-always : (lines : ℕ) (P : Spe) (ch value : ℕ) → ch ≢ 21 → ch ≢ 28 → ch ≢ 30 → is_some (channel lines P (Write ch value)) ≡ true
-write-always lines P ch value x y z = write_on lines P ch value (ch == 22) (ch == 23) _ refl refl refl x y z
+write-always lines P ch value x y z = write_on lines P ch value (ch == 22) (ch == 23) (ch == 26) _ refl refl refl refl x y z
 
 command_ready : (lines : ℕ) (P : Spe) (op n : ℕ) (b : Bool) → n ≡ 16 - length (outstanding P) → (n == 0) ≡ b → is_some (channel lines P (Write 21 op)) ≡ nat_lt 0 n
 command_ready lines P op n true is e =
@@ -248,13 +283,13 @@ pub counts-are : (P : Spe) (f i o r : ℕ) (t : Bool) → f ≡ 16 - length (out
     → record { free = f; tags = t; inbound = i; outbound = 1 - o; intr = 1 - r } ≡ counts P
 counts-are P f i o r t d e a b c = rw (a, b, c, d, e) refl
 
-pub count-ok : (P : Spe) (ch n : ℕ) (s : Channels) (k : Counts) → s ≡ opening_channels → k ≡ counts P → count_of s k ch ≡ Some n → n ≡ count P ch
+pub count-ok : (P : Spe) (ch n : ℕ) (s : Channels) (k : Counts) → P.channels ≡ s → k ≡ counts P → count_of s k ch ≡ Some n → n ≡ count P ch
 unfolding count
-count-ok P ch n s k opens same h =
-    let e : count_of opening_channels (counts P) ch ≡ Some n = subst (λ x. count_of opening_channels x ch ≡ Some n) same (subst (λ x. count_of x k ch ≡ Some n) opens h) in
+count-ok P ch n s k is same h =
+    let e : count_of P.channels (counts P) ch ≡ Some n = subst (λ x. count_of P.channels x ch ≡ Some n) same (subst (λ x. count_of x k ch ≡ Some n) (sym is) h) in
     sym (ap (λ o. option_map_or (λ m. m) o 0) e)
 
-listed_on : (ch : ℕ) (b : Bool) → (ch == 25 || ch == 26 || ch == 27) ≡ b → is_some (listed ch) ≡ true → is_some (way_of ch) ≡ true
+listed_on : (ch : ℕ) (b : Bool) → (ch == 27) ≡ b → is_some (listed ch) ≡ true → is_some (way_of ch) ≡ true
 unfolding listed
 listed_on ch true e h = absurd (true≢false (sym h ∙ rw e refl))
 listed_on ch false e h = rw e at h
@@ -270,18 +305,18 @@ pub count-some : (lines : ℕ) (P : Spe) (rt ch : ℕ) → is_some (channel line
 count-some lines P rt ch = count_on lines P rt ch (is_some (listed ch)) refl
 
 -- what a word that is written to MFC_Cmd comes to
-pub commanded-other : (lines : ℕ) (P : Spe) (op : ℕ) → is_opcode (op % 65536) ≡ false → commanded lines P op ≡ refused P Opcode
+pub commanded-atomic : (lines : ℕ) (P : Spe) (op : ℕ) → is_atomic op ≡ true → commanded lines P op ≡ refused P Opcode
 unfolding commanded
-commanded-other lines P op h = rw h refl
+commanded-atomic lines P op h = rw h refl
 
-pub commanded-queued : (lines : ℕ) (P : Spe) (op : ℕ) (d : Command) → is_opcode (op % 65536) ≡ true → checked P.params op lines ≡ Ok (Queued d) → commanded lines P op ≡ went_on (record P { moves = with_issued P.moves d })
+pub commanded-queued : (lines : ℕ) (P : Spe) (op : ℕ) (d : Command) → is_atomic op ≡ false → checked P.channels.params op lines ≡ Ok (Queued d) → commanded lines P op ≡ went_on (record P { moves = with_issued P.moves d })
 unfolding commanded
 commanded-queued lines P op d h e = rw (h, e) refl
 
-pub commanded-atomic : (lines : ℕ) (P : Spe) (op : ℕ) (a : AtomicOp) → is_opcode (op % 65536) ≡ true → checked P.params op lines ≡ Ok (Atomic a) → commanded lines P op ≡ refused P Opcode
+pub commanded-line : (lines : ℕ) (P : Spe) (op : ℕ) (a : AtomicOp) → is_atomic op ≡ false → checked P.channels.params op lines ≡ Ok (Atomic a) → commanded lines P op ≡ refused P Opcode
 unfolding commanded
-commanded-atomic lines P op a h e = rw (h, e) refl
+commanded-line lines P op a h e = rw (h, e) refl
 
-pub commanded-fault : (lines : ℕ) (P : Spe) (op : ℕ) (kind : Fault) → is_opcode (op % 65536) ≡ true → checked P.params op lines ≡ Err kind → commanded lines P op ≡ refused P kind
+pub commanded-fault : (lines : ℕ) (P : Spe) (op : ℕ) (kind : Fault) → is_atomic op ≡ false → checked P.channels.params op lines ≡ Err kind → commanded lines P op ≡ refused P kind
 unfolding commanded
 commanded-fault lines P op kind h e = rw (h, e) refl

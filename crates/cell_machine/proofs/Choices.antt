@@ -9,23 +9,35 @@ use Rattle.cell_base.specs.declared.steps.Step.{Step}
 use Rattle.cell_base.specs.declared.steps.Step.TheVariants.{Exec, Piece, Elem, Retire, Atomic, Host}
 use Rattle.mfc_command.specs.declared.command.Command.{Command}
 use Rattle.mfc_command.specs.Order.{outstanding as outstanding_of}
+use Rattle.mfc_lists.specs.declared.Element.{Element}
 use Rattle.cell_machine.specs.declared.processor.Processor.{Processor}
 use Rattle.cell_machine.specs.Spe.{Spe}
 use Rattle.cell_host.specs.Script.{Progress}
-use Rattle.cell_machine.specs.State.{State, with_spe}
+use Rattle.cell_machine.specs.State.{State}
 use Rattle.cell_machine.specs.Exec.{exec}
-use Rattle.cell_machine.specs.Moves.{outstanding, is_complete, pieces_of}
-use Rattle.cell_machine.specs.Transfers.{piece, retire, may_piece, may_retire}
-use Rattle.cell_machine.specs.Next.{act, next, ended_by, lines_of, with_left}
+use Rattle.cell_machine.specs.Moves.{outstanding, is_complete, present, parts_in}
+use Rattle.cell_machine.specs.Transfers.{piece, piece_of, elem, after_element, next_element, retire, may_of, may_piece, may_elem, may_retire, has_part, has_element, is_left}
+use Rattle.cell_machine.specs.Next.{act, act_in, own, left, next, ended_by, lines_of, with_left}
 use Rattle.cell_machine.specs.Hosts.{host as host_step}
-use Rattle.cell_machine.specs.Run.{steps_of, steps_of_mfc, steps_of_number, steps_of_command, allowed, picked, actors, first_allowed, HasEnded, CanGoOn}
+use Rattle.cell_machine.specs.Run.{steps_of, steps_of_mfc, steps_of_number, steps_of_command, pieces_of, allowed, picked, actors, first_allowed, HasEnded, CanGoOn}
 use Rattle.cell_machine.specs.Choices.{may, allowed_of_number, allowed_of_mfc, all_of_spus, all_of_mfcs}
+use Rattle.cell_machine.specs.MovesShown.{AreElements}
 use Rattle.cell_machine.specs.Shows.{Shows, ShowsSpe}
-use Rattle.cell_machine.proofs.AllTwo.{two_at, two_none, two_length, is_some_map, none_of}
-use Rattle.cell_machine.proofs.Steps.{act-absent, act-elem, act-atomic}
-use Rattle.cell_machine.proofs.SpeShown.{piece-none, piece-some, piece-facts, part-there, retire-none, retire-some, left-facts, get-either, complete_or}
+use Rattle.cell_machine.proofs.AllTwo.{two_at, two_none, two_found, two_length, is_some_map, none_of}
+use Rattle.cell_machine.proofs.Steps.{act-absent, act-atomic}
+use Rattle.cell_machine.proofs.SpeShown.{get-either, complete-no_part, complete-no_element, complete-not_left}
 use Rattle.cell_machine.proofs.MovesShown.{get-within, eq_is, eq_not}
+use Rattle.cell_machine.proofs.Elements.{part-is}
+use Rattle.cell_machine.proofs.Bounds.{may-is}
 use Rattle.cell_machine.proofs.Places.{filter-both}
+
+-- a step is allowed where it is allowed for its processor
+act-own : (M : State) (p : ℕ) (s : Step) (P : Spe) → slice_get M.spes p ≡ Some P → is_some (act_in M p s) ≡ is_some (own M.memory s P)
+act-own M p s P at =
+    ap (λ o. is_some (option_and_then (λ Q. option_map (with_left M p) (own M.memory s Q)) o)) at ∙ is_some_map (with_left M p) (own M.memory s P)
+
+next-own : (M : State) (p : ℕ) (s : Step) (P : Spe) → slice_get M.spes p ≡ Some P → is_some (option_map (ended_by M s) (act_in M p s)) ≡ is_some (own M.memory s P)
+next-own M p s P at = is_some_map (ended_by M s) (act_in M p s) ∙ act-own M p s P at
 
 -- the processor's test says whether its instruction is allowed
 pub next-exec : {memory : List ℕ} {host : Progress} (processors : List Processor) (M : State) (p : ℕ) (x : Processor) (b : Bool) → Shows processors memory host M → p < length processors → x ≡ slice_index_or processors p x
@@ -33,9 +45,9 @@ pub next-exec : {memory : List ℕ} {host : Progress} (processors : List Process
     → is_some (next M (Exec p)) ≡ b
 next-exec processors M p x b shows h at test =
     let two = two_at ShowsSpe processors M.spes p x shows.spes h in
-    rw two.1 (is_some_map (ended_by M (Exec p)) (option_map (with_spe M p) (exec (lines_of M) two.0))
-    ∙ is_some_map (with_spe M p) (exec (lines_of M) two.0)
-    ∙ sym (test (lines_of M) two.0 (subst (λ y. ShowsSpe y two.0) (sym at) two.2)))
+    next-own M p (Exec p) two.0 two.1
+    ∙ is_some_map (left M.memory) (exec (lines_of M.memory) two.0)
+    ∙ sym (test (lines_of M.memory) two.0 (subst (λ y. ShowsSpe y two.0) (sym at) two.2))
 
 allowed-one : (M : State) (s : Step) (xs : List Step) → xs ≡ s ∷ [] → is_some (next M s) ≡ true → filter (λ t. is_some (next M t)) xs ≡ s ∷ []
 allowed-one M s xs e h = rw e (rw h refl)
@@ -62,25 +74,39 @@ pub allowed-no_host : (M : State) (b : Bool) → b ≡ is_some (host_step M) →
 allowed-no_host M b test off = allowed-no_one M Host (Host ∷ []) refl (next-host M ∙ sym test ∙ off)
 
 -- what the flow controller may do is what the machine allows
-piece_may : (memory : List ℕ) (P : Spe) (c e k : ℕ) (b : Bool) → may_piece P c e k ≡ b → is_some (piece memory P c e k) ≡ b
-piece_may memory P c e k true h = let f = part-there P.moves c k (piece-facts P c e k h).1 in ap is_some (piece-some memory P c e k f.0 h f.1)
-piece_may memory P c e k false h = ap is_some (piece-none memory P c e k h)
+some_mapped : {X Y : Type 0} (o : Option X) (f : X → Y) (x : X) → o ≡ Some x → is_some (option_map f o) ≡ true
+some_mapped o f x e = ap (λ q. is_some (option_map f q)) e
 
-retire_may : (P : Spe) (c : ℕ) (b : Bool) → may_retire P c ≡ b → is_some (retire P c) ≡ b
-retire_may P c true h = ap is_some (retire-some P c h)
-retire_may P c false h = ap is_some (retire-none P c h)
+is_some_if : {X : Type 0} (b : Bool) (o : Option X) → (b ≡ true → is_some o ≡ true) → is_some (cond b o None) ≡ b
+is_some_if true o h = h refl
+is_some_if false o h = refl
+
+piece_may : (memory : List ℕ) (P : Spe) (c e k : ℕ) → is_some (piece memory P c e k) ≡ may_piece P c e k
+unfolding piece may_piece
+piece_may memory P c e k = is_some_if (may_of P c (has_part P.moves c e k)) _ (λ may.
+    let is = may-is P c (has_part P.moves c e k) may in
+    let of = part-is P.moves c e k is.0 is.2 in
+    ap (λ o. is_some (option_and_then (λ d. option_map (piece_of memory P c k d) (present P.moves.read c d)) o)) is.1
+    ∙ some_mapped (present P.moves.read c is.0) (piece_of memory P c k is.0) of.element of.there)
+
+elem_may : (lines : ℕ) (P : Spe) (c : ℕ) → is_some (elem lines P c) ≡ may_elem P c
+unfolding elem may_elem
+elem_may lines P c = is_some_if (may_of P c (has_element P.moves c)) _ (λ may.
+    let is = may-is P c (has_element P.moves c) may in
+    some_mapped (slice_get P.moves.issued c) (λ d. after_element P c d (next_element lines P c d)) is.0 is.1)
+
+retire_may : (P : Spe) (c : ℕ) → is_some (retire P c) ≡ may_retire P c
+unfolding retire
+retire_may P c = is_some_if (may_retire P c) _ (λ may. refl)
 
 pub next-piece : (M : State) (p c e k : ℕ) (P : Spe) → slice_get M.spes p ≡ Some P → is_some (next M (Piece p c e k)) ≡ may_piece P c e k
-next-piece M p c e k P at =
-    is_some_map (ended_by M (Piece p c e k)) (act M (Piece p c e k))
-    ∙ ap (λ o. is_some (option_and_then (λ Q. option_map (with_left M p) (piece M.memory Q c e k)) o)) at
-    ∙ is_some_map (with_left M p) (piece M.memory P c e k) ∙ piece_may M.memory P c e k (may_piece P c e k) refl
+next-piece M p c e k P at = next-own M p (Piece p c e k) P at ∙ piece_may M.memory P c e k
+
+pub next-elem : (M : State) (p c : ℕ) (P : Spe) → slice_get M.spes p ≡ Some P → is_some (next M (Elem p c)) ≡ may_elem P c
+next-elem M p c P at = next-own M p (Elem p c) P at ∙ is_some_map (left M.memory) (elem (lines_of M.memory) P c) ∙ elem_may (lines_of M.memory) P c
 
 pub next-retire : (M : State) (p c : ℕ) (P : Spe) → slice_get M.spes p ≡ Some P → is_some (next M (Retire p c)) ≡ may_retire P c
-next-retire M p c P at =
-    is_some_map (ended_by M (Retire p c)) (act M (Retire p c))
-    ∙ ap (λ o. is_some (option_and_then (λ Q. option_map (with_spe M p) (retire Q c)) o)) at
-    ∙ is_some_map (with_spe M p) (retire P c) ∙ retire_may P c (may_retire P c) refl
+next-retire M p c P at = next-own M p (Retire p c) P at ∙ is_some_map (left M.memory) (retire P c) ∙ retire_may P c
 
 same_pieces : (t u : Step → Bool) (g : ℕ → Step) (ks : List ℕ) → ((k : ℕ) → t (g k) ≡ u (g k)) → filter t (map g ks) ≡ filter u (map g ks)
 same_pieces t u g [] same = refl
@@ -92,10 +118,16 @@ same_head t u x xs e h = rw (e, h) refl
 same_number : (M : State) (p : ℕ) (P : Spe) (c : ℕ) → slice_get M.spes p ≡ Some P → filter (λ s. is_some (next M s)) (steps_of_number p P c) ≡ allowed_of_number p P c
 same_number M p P c at = on (slice_get P.moves.issued c)
   where
-    on : (o : Option Command) → filter (λ s. is_some (next M s)) (option_map_or (steps_of_command p c) o []) ≡ filter (may P) (option_map_or (steps_of_command p c) o [])
+    in_element : (o : Option Element) → filter (λ s. is_some (next M s)) (option_map_or (pieces_of p c) o []) ≡ filter (may P) (option_map_or (pieces_of p c) o [])
+    in_element None = refl
+    in_element (Some x) = same_pieces (λ s. is_some (next M s)) (may P) (Piece p c x.number) (range_with_len 0 (parts_in x)) (λ k. next-piece M p c x.number k P at)
+
+    on : (o : Option Command) → filter (λ s. is_some (next M s)) (option_map_or (steps_of_command p P.moves.read c) o []) ≡ filter (may P) (option_map_or (steps_of_command p P.moves.read c) o [])
     on None = refl
-    on (Some d) = same_head (λ s. is_some (next M s)) (may P) (Retire p c) (map (Piece p c 0) (range_with_len 0 (pieces_of d))) (next-retire M p c P at)
-        (same_pieces (λ s. is_some (next M s)) (may P) (Piece p c 0) (range_with_len 0 (pieces_of d)) (λ k. next-piece M p c 0 k P at))
+    on (Some d) =
+        let pieces = option_map_or (pieces_of p c) (present P.moves.read c d) [] in
+        same_head (λ s. is_some (next M s)) (may P) (Elem p c) (Retire p c ∷ pieces) (next-elem M p c P at)
+        (same_head (λ s. is_some (next M s)) (may P) (Retire p c) pieces (next-retire M p c P at) (in_element (present P.moves.read c d)))
 
 same_numbers : (M : State) (p : ℕ) (P : Spe) (cs : List ℕ) → slice_get M.spes p ≡ Some P
     → filter (λ s. is_some (next M s)) (flat_map (steps_of_number p P) cs) ≡ filter (may P) (flat_map (steps_of_number p P) cs)
@@ -109,7 +141,7 @@ same_numbers M p P (c ∷ cs) at =
 allowed_mfc : {memory : List ℕ} {host : Progress} (processors : List Processor) (M : State) (p : ℕ) (P : Spe) → Shows processors memory host M → slice_get M.spes p ≡ Some P → allowed M (Mfc p) ≡ allowed_of_mfc p P
 allowed_mfc processors M p P shows at =
     ap (λ o. filter (λ s. is_some (next M s)) (option_map_or (steps_of_mfc p) o [])) at
-    ∙ ap (λ b. cond b (Atomic p ∷ filter (λ s. is_some (next M s)) (flat_map (steps_of_number p P) (outstanding P))) (filter (λ s. is_some (next M s)) (flat_map (steps_of_number p P) (outstanding P)))) (no_next M (Atomic p) (act-atomic processors M p shows))
+    ∙ ap (λ b. cond b (Atomic p ∷ filter (λ s. is_some (next M s)) (flat_map (steps_of_number p P) (outstanding P))) (filter (λ s. is_some (next M s)) (flat_map (steps_of_number p P) (outstanding P)))) (no_next M (Atomic p) (act-atomic M p))
     ∙ same_numbers M p P (outstanding P) at
 
 pub allowed-no_mfc : {memory : List ℕ} {host : Progress} (processors : List Processor) (M : State) (p : ℕ) → Shows processors memory host M → length processors ≤ p → allowed M (Mfc p) ≡ []
@@ -234,25 +266,51 @@ none_of_part t g a (suc n) k h low high = on (a == k) refl (filter_none t (g a) 
     on true e both later = subst (λ j. t (g j) ≡ false) (eq_is a k e) both.0
     on false e both later = later both.1 (eq_not a k e)
 
-command_none : (p : ℕ) (P : Spe) (c : ℕ) (d : Command) → allowed_of_mfc p P ≡ [] → slice_get P.moves.issued c ≡ Some d → is_complete P.moves c ≡ false → filter (may P) (steps_of_command p c d) ≡ []
+command_none : (p : ℕ) (P : Spe) (c : ℕ) (d : Command) → allowed_of_mfc p P ≡ [] → slice_get P.moves.issued c ≡ Some d → is_complete P.moves c ≡ false → filter (may P) (steps_of_command p P.moves.read c d) ≡ []
 unfolding outstanding_of
 command_none p P c d none at open_yet =
-    ap (λ o. filter (may P) (option_map_or (steps_of_command p c) o [])) (sym at)
+    ap (λ o. filter (may P) (option_map_or (steps_of_command p P.moves.read c) o [])) (sym at)
     ∙ none_in (may P) (steps_of_number p P) (λ j. not (is_complete P.moves j)) 0 (length P.moves.issued) c none (ap not open_yet) (omega arith) (let l = get-within P.moves.issued c d at in omega arith)
 
+-- neither an element, nor a retirement, nor a piece
+none_of_command : (p : ℕ) (P : Spe) (c : ℕ) (d : Command) → allowed_of_mfc p P ≡ [] → slice_get P.moves.issued c ≡ Some d → is_complete P.moves c ≡ false
+    → (may_elem P c ≡ false) × (may_retire P c ≡ false) × (filter (may P) (option_map_or (pieces_of p c) (present P.moves.read c d) []) ≡ [])
+none_of_command p P c d none at open_yet =
+    let one = filter_none (may P) (Elem p c) (Retire p c ∷ option_map_or (pieces_of p c) (present P.moves.read c d) []) (command_none p P c d none at open_yet) in
+    let two = filter_none (may P) (Retire p c) (option_map_or (pieces_of p c) (present P.moves.read c d) []) one.1 in
+    (one.0, two.0, two.1)
+
+-- a command that has a step isn't complete
+open_if : (b t : Bool) → t ≡ true → (b ≡ true → t ≡ false) → b ≡ false
+open_if true t h k = absurd (true≢false (sym h ∙ k refl))
+open_if false t h k = refl
+
+off_if : (b : Bool) → (b ≡ true → b ≡ false) → b ≡ false
+off_if true h = h refl
+off_if false h = refl
+
 no_piece : (p : ℕ) (P : Spe) (c e k : ℕ) → allowed_of_mfc p P ≡ [] → may_piece P c e k ≡ false
-no_piece p P c e k none = complete_or (may_piece P c e k) (may_piece P c e k ≡ false) (λ h.
-    let g = piece-facts P c e k h in
-    let f = part-there P.moves c k g.1 in
-    let rest = (filter_none (may P) (Retire p c) (map (Piece p c 0) (range_with_len 0 (pieces_of f.0))) (command_none p P c f.0 none f.1 f.3)).1 in
-    let l = f.2 in
-    let off : may_piece P c 0 k ≡ false = none_of_part (may P) (Piece p c 0) 0 (pieces_of f.0) k rest (omega arith) (omega arith) in
-    absurd (true≢false (sym h ∙ subst (λ j. may_piece P c j k ≡ false) (sym g.0) off))) (λ h. h)
+unfolding may_piece
+no_piece p P c e k none = off_if (may_of P c (has_part P.moves c e k)) (λ h.
+    let is = may-is P c (has_part P.moves c e k) h in
+    let of = part-is P.moves c e k is.0 is.2 in
+    let open_yet = open_if (is_complete P.moves c) (has_part P.moves c e k is.0) is.2 (complete-no_part P.moves c e k is.0 is.1) in
+    let pieces : filter (may P) (pieces_of p c of.element) ≡ [] = ap (λ o. filter (may P) (option_map_or (pieces_of p c) o [])) (sym of.there) ∙ (none_of_command p P c is.0 none is.1 open_yet).2 in
+    let within = of.within in
+    let off : may_piece P c of.element.number k ≡ false = none_of_part (may P) (Piece p c of.element.number) 0 (parts_in of.element) k pieces (omega arith) (omega (arith, within)) in
+    subst (λ j. may_piece P c j k ≡ false) of.number off)
+
+no_elem : (p : ℕ) (P : Spe) (c : ℕ) → ((d : Command) → slice_get P.moves.issued c ≡ Some d → AreElements P.moves c d) → allowed_of_mfc p P ≡ [] → may_elem P c ≡ false
+unfolding may_elem
+no_elem p P c els none = off_if (may_of P c (has_element P.moves c)) (λ h.
+    let is = may-is P c (has_element P.moves c) h in
+    (none_of_command p P c is.0 none is.1 (open_if (is_complete P.moves c) (has_element P.moves c is.0) is.2 (complete-no_element P.moves c is.0 (els is.0 is.1) is.1))).0)
 
 no_retire : (p : ℕ) (P : Spe) (c : ℕ) → allowed_of_mfc p P ≡ [] → may_retire P c ≡ false
-no_retire p P c none = complete_or (may_retire P c) (may_retire P c ≡ false) (λ h.
-    let f = left-facts P c h in
-    absurd (true≢false (sym h ∙ (filter_none (may P) (Retire p c) (map (Piece p c 0) (range_with_len 0 (pieces_of f.0))) (command_none p P c f.0 none f.1 f.3)).0))) (λ h. h)
+unfolding may_retire
+no_retire p P c none = off_if (may_of P c (is_left P.moves c)) (λ h.
+    let is = may-is P c (is_left P.moves c) h in
+    (none_of_command p P c is.0 none is.1 (open_if (is_complete P.moves c) (is_left P.moves c is.0) is.2 (complete-not_left P.moves c is.0 is.1))).1)
 
 -- a processor that is there has no step where none is allowed
 spe_none : {memory : List ℕ} {host : Progress} (processors : List Processor) (M : State) (p : ℕ) (s : Step) → Shows processors memory host M → all_of_mfcs M ≡ [] → (slice_get M.spes p ≡ None → next M s ≡ None)
@@ -260,6 +318,22 @@ spe_none : {memory : List ℕ} {host : Progress} (processors : List Processor) (
 spe_none processors M p s shows all absent there =
     get-either M.spes p (next M s ≡ None) absent (λ P at.
     there P at (sym (allowed_mfc processors M p P shows at) ∙ actor_none M Mfc (length M.spes) p all (get-within M.spes p P at)))
+
+-- the elements of its commands are in order
+spe_elements : {memory : List ℕ} {host : Progress} (processors : List Processor) (M : State) (p : ℕ) (P : Spe) (c : ℕ) (d : Command) → Shows processors memory host M → slice_get M.spes p ≡ Some P → slice_get P.moves.issued c ≡ Some d → AreElements P.moves c d
+spe_elements processors M p P c d shows at there = elim (two_found ShowsSpe processors M.spes p shows.spes) as (λ _. AreElements P.moves c d) [
+  | inl none ↦ absurd (no_spe (sym none ∙ at))
+  | inr two ↦ let same : two.1 ≡ P = same_spe two.1 P (sym two.2 ∙ at) in shown two.0 (subst (λ y. ShowsSpe two.0 y) same two.3)
+]
+  where
+    no_spe : None ≡ Some P → ⊥
+    no_spe e = cc
+
+    same_spe : (x y : Spe) → Some x ≡ Some y → x ≡ y
+    same_spe x y e = cc
+
+    shown : (x : Processor) → ShowsSpe x P → AreElements P.moves c d
+    shown x shows = let q = shows.queue in q.moves.done.elements c d there
 
 -- where no step is first, the machine has ended
 pub has_ended : {memory : List ℕ} {host : Progress} (processors : List Processor) (M : State) → Shows processors memory host M → first_allowed M ≡ None → HasEnded M
@@ -271,12 +345,15 @@ has_ended processors M shows h (Piece p c e k) =
     let all = append_none (all_of_spus M) (all_of_mfcs M ++ allowed M TheHost) (sym (all_parts M) ∙ first_none (flat_map (allowed M) (actors M)) h) in
     spe_none processors M p (Piece p c e k) shows (append_none (all_of_mfcs M) (allowed M TheHost) all.1).0 (λ none. rw none refl)
     (λ P at none. none_of (next M (Piece p c e k)) (next-piece M p c e k P at ∙ no_piece p P c e k none))
-has_ended processors M shows h (Elem p c) = no_act M (Elem p c) (act-elem processors M p c shows)
+has_ended processors M shows h (Elem p c) =
+    let all = append_none (all_of_spus M) (all_of_mfcs M ++ allowed M TheHost) (sym (all_parts M) ∙ first_none (flat_map (allowed M) (actors M)) h) in
+    spe_none processors M p (Elem p c) shows (append_none (all_of_mfcs M) (allowed M TheHost) all.1).0 (λ none. rw none refl)
+    (λ P at none. none_of (next M (Elem p c)) (next-elem M p c P at ∙ no_elem p P c (λ d. spe_elements processors M p P c d shows at) none))
 has_ended processors M shows h (Retire p c) =
     let all = append_none (all_of_spus M) (all_of_mfcs M ++ allowed M TheHost) (sym (all_parts M) ∙ first_none (flat_map (allowed M) (actors M)) h) in
     spe_none processors M p (Retire p c) shows (append_none (all_of_mfcs M) (allowed M TheHost) all.1).0 (λ none. rw none refl)
     (λ P at none. none_of (next M (Retire p c)) (next-retire M p c P at ∙ no_retire p P c none))
-has_ended processors M shows h (Atomic p) = no_act M (Atomic p) (act-atomic processors M p shows)
+has_ended processors M shows h (Atomic p) = no_act M (Atomic p) (act-atomic M p)
 has_ended processors M shows h Host =
     let all = append_none (all_of_spus M) (all_of_mfcs M ++ allowed M TheHost) (sym (all_parts M) ∙ first_none (flat_map (allowed M) (actors M)) h) in
     none_of (next M Host) (filter_none (λ s. is_some (next M s)) Host [] (append_none (all_of_mfcs M) (allowed M TheHost) all.1).1).0

@@ -1,5 +1,5 @@
 -- On a run every step of a command stands after the place at which each command that goes before it became complete,
--- and a command that is complete stays complete.
+-- and a command keeps its number, and stays complete where it is.
 use Rattle.std.proofs.Common.{◌≡◌, ◌≢◌, ℕ, zero, suc, ◌+◌, ◌<◌, ◌≤◌, ◌==◌, ◌&&◌, ◌||◌, not, Bool, true, false, List, [], ◌∷◌, ◌++◌, length, arith, refl, sym, ◌∙◌, ap, subst, true≢false}
 use Rattle.std.specs.Prelude.{Option, Some, None, slice_get, nat_lt, filter, map, cond, is_some, option_map, option_and_then}
 use Rattle.std.specs.List.{list_any, range_with_len}
@@ -8,10 +8,10 @@ use Rattle.mfc_command.specs.declared.command.Command.{Command}
 use Rattle.mfc_command.specs.Order.{goes_before, may_start, outstanding, precedes}
 use Rattle.cell_base.specs.declared.steps.Step.{Step}
 use Rattle.cell_base.specs.declared.steps.Step.TheVariants.{Exec, Piece, Elem, Retire, Atomic, Host}
-use Rattle.cell_machine.specs.Spe.{Spe, is_faulted}
-use Rattle.cell_machine.specs.State.{State, with_spe}
+use Rattle.cell_machine.specs.Spe.{Spe}
+use Rattle.cell_machine.specs.State.{State}
 use Rattle.cell_machine.specs.Moves.{is_complete, may_begin}
-use Rattle.cell_machine.specs.Transfers.{elem, may_piece, has_part, may_retire, is_left}
+use Rattle.cell_machine.specs.Transfers.{may_piece, may_elem, may_retire, has_part, has_element, is_left}
 use Rattle.cell_machine.specs.Tags.{settled}
 use Rattle.cell_machine.specs.Next.{act, next, ended_by}
 use Rattle.cell_machine.specs.Opening.{Opening, opening}
@@ -22,19 +22,16 @@ use Rattle.cell_machine.specs.Shows.{IsMachine}
 use Rattle.cell_machine.specs.Order.{is_step_of, IsInOrder}
 use Rattle.cell_machine.proofs.SpeShown.{first_of_both, second_of_both, not_of}
 use Rattle.cell_machine.proofs.MovesShown.{eq_is, eq_not, get-within}
-use Rattle.cell_machine.proofs.Choices.{next-piece, next-retire}
-use Rattle.cell_machine.proofs.Staying.{Keeps}
-use Rattle.cell_machine.proofs.Bounds.{act-keeps}
+use Rattle.cell_machine.proofs.Choices.{next-piece, next-elem, next-retire}
+use Rattle.cell_machine.proofs.Elements.{not_on}
+use Rattle.cell_machine.proofs.Staying.{Keeps, keeps-same, keeps-then}
+use Rattle.cell_machine.proofs.Bounds.{may-begun, act-keeps}
 
 or_off : (a b : Bool) → (a || b) ≡ false → (a ≡ false) × (b ≡ false)
 or_off true b h = absurd (true≢false h)
 or_off false b h = (refl, h)
 
 -- none of a range that passes t passes g
-not_on : (b : Bool) → (b ≡ true → ⊥) → b ≡ false
-not_on true h = absurd (h refl)
-not_on false h = refl
-
 none_on : (t g : ℕ → Bool) (a k : ℕ) (rest : List ℕ) (b : Bool) → t a ≡ b → list_any g (cond b (a ∷ rest) rest) ≡ false → g k ≡ true → (list_any g rest ≡ false → a ≢ k → t k ≡ false) → t k ≡ false
 none_on t g a k rest true e h go later =
     not_on (t k) (λ p. by (a == k) refl p)
@@ -76,38 +73,38 @@ begun P c d may before = may-start-complete (is_complete P.moves) P.moves.issued
 
 piece-begun : (P : Spe) (d e k : ℕ) → may_piece P d e k ≡ true → may_begin P.moves d ≡ true
 unfolding may_piece
-piece-begun P d e k h = second_of_both (not (is_faulted P.status) && e == 0 && has_part P.moves d k) (may_begin P.moves d) h
+piece-begun P d e k h = may-begun P d (has_part P.moves d e k) h
+
+elem-begun : (P : Spe) (d : ℕ) → may_elem P d ≡ true → may_begin P.moves d ≡ true
+unfolding may_elem
+elem-begun P d h = may-begun P d (has_element P.moves d) h
 
 retire-begun : (P : Spe) (d : ℕ) → may_retire P d ≡ true → may_begin P.moves d ≡ true
 unfolding may_retire
-retire-begun P d h = second_of_both (not (is_faulted P.status) && is_left P.moves d) (may_begin P.moves d) h
+retire-begun P d h = may-begun P d (is_left P.moves d) h
 
-elem-none : (M : State) (p c : ℕ) → act M (Elem p c) ≡ None
-unfolding elem
-elem-none M p c = on (slice_get M.spes p)
-  where
-    on : (o : Option Spe) → option_and_then (λ P. option_map (with_spe M p) (elem P c)) o ≡ None
-    on None = refl
-    on (Some P) = refl
+-- where a step of b is allowed that waits for b's turn, and it is a step of d
+begun-at : (M : State) (q p b c d : ℕ) (P : Spe) (r : Bool) → (r ≡ true → slice_get M.spes q ≡ Some P → may_begin P.moves b ≡ true) → r ≡ true → (q == p && b == d) ≡ true
+    → slice_get M.spes p ≡ Some P → goes_before P.moves.issued c d ≡ true → is_complete P.moves c ≡ true
+begun-at M q p b c d P r begins allowed of at before =
+    let is_p : q ≡ p = eq_is q p (first_of_both (q == p) (b == d) of) in
+    let is_d : b ≡ d = eq_is b d (second_of_both (q == p) (b == d) of) in
+    let at_q : slice_get M.spes q ≡ Some P = subst (λ j. slice_get M.spes j ≡ Some P) (sym is_p) at in
+    begun P c d (subst (λ j. may_begin P.moves j ≡ true) is_d (begins allowed at_q)) before
 
 -- an allowed step of d comes only where each command that goes before d is complete
 step-waits : (M : State) (s : Step) (p c d : ℕ) (P : Spe) → is_some (next M s) ≡ true → is_step_of p d s ≡ true → slice_get M.spes p ≡ Some P → goes_before P.moves.issued c d ≡ true → is_complete P.moves c ≡ true
 step-waits M (Piece q b e k) p c d P allowed of at before =
-    let is_p : q ≡ p = eq_is q p (first_of_both (q == p) (b == d) of) in
-    let is_d : b ≡ d = eq_is b d (second_of_both (q == p) (b == d) of) in
-    let at_q : slice_get M.spes q ≡ Some P = subst (λ j. slice_get M.spes j ≡ Some P) (sym is_p) at in
-    begun P c d (subst (λ j. may_begin P.moves j ≡ true) is_d (piece-begun P b e k (sym (next-piece M q b e k P at_q) ∙ allowed))) before
+    begun-at M q p b c d P (is_some (next M (Piece q b e k))) (λ h there. piece-begun P b e k (sym (next-piece M q b e k P there) ∙ h)) allowed of at before
+step-waits M (Elem q b) p c d P allowed of at before =
+    begun-at M q p b c d P (is_some (next M (Elem q b))) (λ h there. elem-begun P b (sym (next-elem M q b P there) ∙ h)) allowed of at before
 step-waits M (Retire q b) p c d P allowed of at before =
-    let is_p : q ≡ p = eq_is q p (first_of_both (q == p) (b == d) of) in
-    let is_d : b ≡ d = eq_is b d (second_of_both (q == p) (b == d) of) in
-    let at_q : slice_get M.spes q ≡ Some P = subst (λ j. slice_get M.spes j ≡ Some P) (sym is_p) at in
-    begun P c d (subst (λ j. may_begin P.moves j ≡ true) is_d (retire-begun P b (sym (next-retire M q b P at_q) ∙ allowed))) before
-step-waits M (Elem q b) p c d P allowed of at before = absurd (true≢false (sym allowed ∙ ap (λ o. is_some (option_map (ended_by M (Elem q b)) o)) (elem-none M q b)))
+    begun-at M q p b c d P (is_some (next M (Retire q b))) (λ h there. retire-begun P b (sym (next-retire M q b P there) ∙ h)) allowed of at before
 step-waits M (Exec q) p c d P allowed of at before = absurd (true≢false (sym of))
 step-waits M (Atomic q) p c d P allowed of at before = absurd (true≢false (sym of))
 step-waits M Host p c d P allowed of at before = absurd (true≢false (sym of))
 
-replay-part : (M : State) (before after : List Step) (s : Step) → is_some (replay M (before ++ s ∷ after)) ≡ true → (N : State) → replay M before ≡ Some N → is_some (next N s) ≡ true
+pub replay-part : (M : State) (before after : List Step) (s : Step) → is_some (replay M (before ++ s ∷ after)) ≡ true → (N : State) → replay M before ≡ Some N → is_some (next N s) ≡ true
 replay-part M [] after s run N at = on (next M s) refl run
   where
     on : (o : Option State) → next M s ≡ o → is_some (option_and_then (λ K. replay K after) o) ≡ true → is_some (next N s) ≡ true
@@ -120,7 +117,7 @@ replay-part M (t ∷ before) after s run N at = on (next M t) run at (λ K r a. 
     on None g a k = absurd (true≢false (sym g))
     on (Some K) g a k = k K g a
 
-some-of : {X Y : Type 0} (f : X → Option Y) (o : Option X) (y : Y) → option_and_then f o ≡ Some y → (x : X) × (o ≡ Some x) × (f x ≡ Some y)
+pub some-of : {X Y : Type 0} (f : X → Option Y) (o : Option X) (y : Y) → option_and_then f o ≡ Some y → (x : X) × (o ≡ Some x) × (f x ≡ Some y)
 some-of f None y h = absurd (cc)
 some-of f (Some x) y h = (x, refl, h)
 
@@ -131,33 +128,32 @@ run-waits S before after s p c d P run of at goes =
     let M = some-of (λ (N : State). slice_get N.spes p) (replay (opening S) before) P at in
     step-waits M.0 s p c d P (replay-part (opening S) before after s run.0 M.0 M.1) of M.2 goes
 
-next-act : (M : State) (s : Step) (N : State) → next M s ≡ Some N → (K : State) × (act M s ≡ Some K) × (map settled K.spes ≡ N.spes)
+pub next-act : (M : State) (s : Step) (N : State) → next M s ≡ Some N → (K : State) × (act M s ≡ Some K) × (map settled K.spes ≡ N.spes)
 next-act M s N e = on (act M s) refl e
   where
     on : (o : Option State) → act M s ≡ o → option_map (ended_by M s) o ≡ Some N → (K : State) × (act M s ≡ Some K) × (map settled K.spes ≡ N.spes)
     on None a g = absurd (cc)
     on (Some K) a g = (K, a, (let same : ended_by M s K ≡ N = cc in ap (λ (x : State). x.spes) same))
 
--- a command that is complete stays complete through these steps
+-- through these steps a command keeps its number, and stays complete where it is
 replay-keeps : (M : State) (steps : List Step) (N : State) (p : ℕ) (P Q : Spe) → replay M steps ≡ Some N → slice_get M.spes p ≡ Some P → slice_get N.spes p ≡ Some Q → Keeps P.moves Q.moves
-replay-keeps M [] N p P Q run at last = let same : P ≡ Q = cc in subst (λ (y : Spe). Keeps P.moves y.moves) same (λ c h. h)
+replay-keeps M [] N p P Q run at last = let same : P ≡ Q = cc in subst (λ (y : Spe). Keeps P.moves y.moves) same (keeps-same P.moves)
 replay-keeps M (s ∷ steps) N p P Q run at last =
     let first = some-of (λ K. replay K steps) (next M s) N run in
     let acted = next-act M s first.0 first.1 in
     let kept = act-keeps M s acted.0 p P acted.1 at in
     let there : slice_get first.0.spes p ≡ Some kept.0 = subst (λ xs. slice_get xs p ≡ Some kept.0) acted.2 kept.1 in
-    let later = replay-keeps first.0 steps N p kept.0 Q first.2 there last in
-    λ c h. later c (kept.2 c h)
+    keeps-then P.moves kept.0.moves Q.moves kept.2 (replay-keeps first.0 steps N p kept.0 Q first.2 there last)
 
-replay-rest : (M : State) (before between : List Step) (N K : State) → replay M before ≡ Some N → replay M (before ++ between) ≡ Some K → replay N between ≡ Some K
+pub replay-rest : (M : State) (before between : List Step) (N K : State) → replay M before ≡ Some N → replay M (before ++ between) ≡ Some K → replay N between ≡ Some K
 replay-rest M [] between N K e f = let same : M ≡ N = cc in subst (λ L. replay L between ≡ Some K) same f
 replay-rest M (s ∷ before) between N K e f =
     let first = some-of (λ L. replay L before) (next M s) N e in
     replay-rest first.0 before between N K first.2 (subst (λ o. option_and_then (λ L. replay L (before ++ between)) o ≡ Some K) first.1 f)
 
-run-stays : (S : Opening) (before between : List Step) (p : ℕ) (P Q : Spe) → spe_of (record { setup = S; steps = before }) p ≡ Some P
+run-keeps : (S : Opening) (before between : List Step) (p : ℕ) (P Q : Spe) → spe_of (record { setup = S; steps = before }) p ≡ Some P
     → spe_of (record { setup = S; steps = before ++ between }) p ≡ Some Q → Keeps P.moves Q.moves
-run-stays S before between p P Q early late =
+run-keeps S before between p P Q early late =
     let M = some-of (λ (N : State). slice_get N.spes p) (replay (opening S) before) P early in
     let N = some-of (λ (N : State). slice_get N.spes p) (replay (opening S) (before ++ between)) Q late in
     replay-keeps M.0 between N.0 p P Q (replay-rest (opening S) before between M.0 N.0 M.1 N.1) M.2 N.2
@@ -169,5 +165,6 @@ machine-in_order setup steps capacity processors memory host m is view =
       waits = λ before after s p c d P e of at goes.
           let run : IsRun setup steps = (ap is_some is.replayed, is.within) in
           run-waits setup before after s p c d P (subst (IsRun setup) e run) of at goes;
-      stays = λ before between after p c P Q e early late. run-stays setup before between p P Q early late c;
+      stays = λ before between after p c P Q e early late. (run-keeps setup before between p P Q early late).complete c;
+      grows = λ before between after p P Q e early late. let k = run-keeps setup before between p P Q early late in (k.later, k.issued);
     })

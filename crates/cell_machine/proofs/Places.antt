@@ -1,24 +1,27 @@
 -- The places of a flow controller's allowed steps.
-use Rattle.std.proofs.Common.{◌≡◌, ℕ, zero, suc, ◌+◌, ◌-◌, ◌%◌, ◌<◌, ◌≤◌, not, Bool, true, false, List, [], ◌∷◌, ◌++◌, length, map, arith, refl, sym, ◌∙◌, ap, subst, true≢false}
-use Rattle.std.specs.Prelude.{Option, Some, None, slice_get, nat_lt, nat_le, filter, cond, find, flat_map, Result, Ok, Err}
+use Rattle.std.proofs.Common.{◌≡◌, ℕ, zero, suc, ◌+◌, ◌-◌, ◌%◌, ◌<◌, ◌≤◌, ◌==◌, ◌&&◌, not, Bool, true, false, List, [], ◌∷◌, ◌++◌, length, map, arith, refl, sym, ◌∙◌, ap, subst, true≢false, ◌⊎◌, inl, inr}
+use Rattle.std.specs.Prelude.{Option, Some, None, slice_get, nat_lt, nat_le, filter, cond, if◌then◌else◌, find, flat_map, Result, Ok, Err}
 use Rattle.std.specs.Result.{result_ok}
 use Rattle.std.proofs.Math.Nat.{mod-eq_of_lt}
 use Rattle.std.specs.List.{range_with_len}
+use Rattle.std.specs.Option.{option_map_or}
 use Rattle.std.proofs.lemmas.Bool.Decides.{nat_tests}
 use Rattle.cell_base.specs.declared.steps.Step.{Step}
-use Rattle.cell_base.specs.declared.steps.Step.TheVariants.{Piece, Retire}
+use Rattle.cell_base.specs.declared.steps.Step.TheVariants.{Piece, Elem, Retire}
+use Rattle.mfc_command.specs.declared.command.Command.{Command}
 use Rattle.mfc_command.specs.Order.{outstanding as outstanding_of}
+use Rattle.mfc_lists.specs.declared.Element.{Element}
 use Rattle.mfc_queue.specs.At.{IsAt}
 use Rattle.mfc_queue.specs.Calls.{Call, outstanding as outstanding_calls, is_outstanding, is_retired, is_marked, issued, parts, left}
 use Rattle.mfc_queue.proofs.AtLemmas.{ok-of}
-use Rattle.cell_machine.specs.Spe.{Spe, is_faulted}
-use Rattle.cell_machine.specs.Moves.{outstanding, is_complete, may_begin}
-use Rattle.cell_machine.specs.Transfers.{may_piece, may_retire}
-use Rattle.cell_machine.specs.Run.{steps_of_number}
+use Rattle.cell_machine.specs.Spe.{Spe, Moves, is_faulted}
+use Rattle.cell_machine.specs.Moves.{outstanding, is_complete, is_moved, is_done, parts_in, present, may_begin}
+use Rattle.cell_machine.specs.Transfers.{begins, is_part_left, has_part, may_piece, may_elem, may_retire}
+use Rattle.cell_machine.specs.Run.{pieces_of, steps_of_command, steps_of_number}
 use Rattle.cell_machine.specs.Choices.{may, allowed_of_number, allowed_of_mfc}
-use Rattle.cell_machine.specs.Shows.{ShowsMoves}
-use Rattle.cell_machine.proofs.SpeShown.{left-facts, issued-is, outstanding-same, part-done, part-left, piece-no_part, piece-part}
-use Rattle.cell_machine.proofs.MovesShown.{no-pieces}
+use Rattle.cell_machine.specs.MovesShown.{ShowsMoves}
+use Rattle.cell_machine.proofs.Same.{eq_same, some_same}
+use Rattle.cell_machine.proofs.SpeShown.{and_off, begins-at, begins-not, outstanding-same}
 
 pub filter-both : {X : Type 0} (t : X → Bool) (xs ys : List X) → filter t (xs ++ ys) ≡ filter t xs ++ filter t ys
 filter-both t [] ys = refl
@@ -60,14 +63,7 @@ picked-left r n rest count at xs a b c h =
     let e : count ≡ length xs = omega arith in
     first-at r at xs h ∙ ap (slice_get xs) (c ∙ ap (λ k. n % k) e)
 
--- the allowed pieces of a command are those that are left, where it may begin, and else none
-piece_is : (calls : List Call) (P : Spe) (c k : ℕ) → ShowsMoves calls P.moves → is_outstanding calls c ≡ true → is_faulted P.status ≡ false → may_begin P.moves c ≡ true → k < parts calls c
-    → may_piece P c 0 k ≡ not (is_marked calls c k)
-piece_is calls P c k shows open_yet sound begins within = on (is_marked calls c k) refl
-  where
-    on : (b : Bool) → is_marked calls c k ≡ b → may_piece P c 0 k ≡ not b
-    on true e = piece-no_part P c 0 k (part-done calls P.moves c k shows open_yet e)
-    on false e = piece-part P c 0 k sound refl (part-left calls P.moves c k shows open_yet within e) ∙ begins
+-- ---- the pieces of a command
 
 filter_map : (t : Step → Bool) (f : ℕ → Step) (u : ℕ → Bool) (a n : ℕ) → ((k : ℕ) → k < a + n → t (f k) ≡ u k) → filter t (map f (range_with_len a n)) ≡ map f (filter u (range_with_len a n))
 filter_map t f u a zero h = refl
@@ -80,32 +76,66 @@ filter_map t f u a (suc n) h = on (t (f a)) (u a) (h a (omega arith)) (filter_ma
     on true false e h = absurd (true≢false e)
     on false true e h = absurd (true≢false (sym e))
 
-pub pieces-left : (calls : List Call) (p : ℕ) (P : Spe) (c : ℕ) → ShowsMoves calls P.moves → is_outstanding calls c ≡ true → is_faulted P.status ≡ false → may_begin P.moves c ≡ true
-    → filter (may P) (map (Piece p c 0) (range_with_len 0 (parts calls c))) ≡ map (Piece p c 0) (left calls c)
-unfolding left
-pieces-left calls p P c shows open_yet sound begins =
-    filter_map (may P) (Piece p c 0) (λ k. not (is_marked calls c k)) 0 (parts calls c) (λ k l. piece_is calls P c k shows open_yet sound begins (omega arith))
-
 none_of : (t : Step → Bool) (f : ℕ → Step) (a n : ℕ) → ((k : ℕ) → t (f k) ≡ false) → filter t (map f (range_with_len a n)) ≡ []
 none_of t f a zero h = refl
 none_of t f a (suc n) h = rw (h a) (none_of t f (a + 1) n h)
 
-pub no-pieces_left : (p : ℕ) (P : Spe) (c n : ℕ) → ((k : ℕ) → may_piece P c 0 k ≡ false) → filter (may P) (map (Piece p c 0) (range_with_len 0 n)) ≡ []
-no-pieces_left p P c n h = none_of (may P) (Piece p c 0) 0 n h
+piece_is : (calls : List Call) (P : Spe) (c k : ℕ) (d : Command) (x : Element) → ShowsMoves calls P.moves → slice_get P.moves.issued c ≡ Some d → present P.moves.read c d ≡ Some x
+    → is_faulted P.status ≡ false → may_begin P.moves c ≡ true → is_moved d ≡ true → k < parts_in x → may_piece P c x.number k ≡ not (is_marked calls c k)
+unfolding may_piece
+piece_is calls P c k d x shows at p sound begun moved within =
+    let l : nat_lt k (parts_in x) ≡ true = grind (arith, nat_tests) in
+    let same : (x.number == x.number) ≡ true = eq_same x.number in
+    let done : is_done P.moves.done c x.number k ≡ is_marked calls c k = sym (shows.done.marked c k d x at p) in
+    let has : has_part P.moves c x.number k d ≡ not (is_marked calls c k) = rw (moved, p) (rw (same, l, done) refl) in
+    rw sound (begins-at P.moves c d (has_part P.moves c x.number k) at ∙ rw (has, begun) (and_true (not (is_marked calls c k))))
+  where
+    and_true : (b : Bool) → (b && true) ≡ b
+    and_true true = refl
+    and_true false = refl
 
-pub number-retire : (p : ℕ) (P : Spe) (c : ℕ) → may_retire P c ≡ true → allowed_of_number p P c ≡ Retire p c ∷ []
-number-retire p P c h = let f = left-facts P c h in rw (f.1, no-pieces f.0 f.2, h) refl
+-- none is allowed where the controller is at fault, or the command may not begin, or isn't moved, or has no part left
+pub piece-none : (P : Spe) (c e k : ℕ) → (is_faulted P.status ≡ true) ⊎ (begins P.moves c (has_part P.moves c e k) ≡ false) → may_piece P c e k ≡ false
+unfolding may_piece
+piece-none P c e k (inl h) = rw h refl
+piece-none P c e k (inr h) = and_off (not (is_faulted P.status)) _ h
 
-pub number-pieces : (calls : List Call) (p : ℕ) (P : Spe) (c : ℕ) → ShowsMoves calls P.moves → is_outstanding calls c ≡ true → may_retire P c ≡ false
-    → allowed_of_number p P c ≡ filter (may P) (map (Piece p c 0) (range_with_len 0 (parts calls c)))
-number-pieces calls p P c shows open_yet h =
-    let d = issued-is calls P.moves c shows open_yet in
-    rw (d.1, h) (ap (λ n. filter (may P) (map (Piece p c 0) (range_with_len 0 n))) (sym (shows.parts c d.0 d.1)))
+pub begins-waits : (m : Moves) (c : ℕ) (f : Command → Bool) → may_begin m c ≡ false → begins m c f ≡ false
+begins-waits m c f h = and_off (option_map_or f (slice_get m.issued c) false) (may_begin m c) h
 
-pub number-none : (calls : List Call) (p : ℕ) (P : Spe) (c : ℕ) → ShowsMoves calls P.moves → is_outstanding calls c ≡ true → may_retire P c ≡ false → parts calls c ≡ 0 → allowed_of_number p P c ≡ []
-number-none calls p P c shows open_yet h none = number-pieces calls p P c shows open_yet h ∙ ap (λ n. filter (may P) (map (Piece p c 0) (range_with_len 0 n))) none
+pub no-pieces : (p : ℕ) (P : Spe) (c : ℕ) (o : Option Element) → ((e k : ℕ) → may_piece P c e k ≡ false) → filter (may P) (option_map_or (pieces_of p c) o []) ≡ []
+no-pieces p P c None h = refl
+no-pieces p P c (Some x) h = none_of (may P) (Piece p c x.number) 0 (parts_in x) (h x.number)
 
--- walks over the outstanding commands
+-- the allowed pieces of a command that may begin are those of its element that are left
+pub pieces-left : (calls : List Call) (p : ℕ) (P : Spe) (c : ℕ) (d : Command) (x : Element) → ShowsMoves calls P.moves → slice_get P.moves.issued c ≡ Some d → present P.moves.read c d ≡ Some x
+    → is_faulted P.status ≡ false → may_begin P.moves c ≡ true → filter (may P) (option_map_or (pieces_of p c) (present P.moves.read c d) []) ≡ map (Piece p c x.number) (left calls c)
+unfolding left
+pieces-left calls p P c d x shows at p_is sound begun = by (is_moved d) refl
+  where
+    by : (b : Bool) → is_moved d ≡ b → filter (may P) (option_map_or (pieces_of p c) (present P.moves.read c d) []) ≡ map (Piece p c x.number) (filter (λ k. not (is_marked calls c k)) (range_with_len 0 (parts calls c)))
+    by true moved =
+        let n : parts calls c ≡ parts_in x = shows.done.parts c d at ∙ rw (moved, p_is) refl in
+        ap (λ o. filter (may P) (option_map_or (pieces_of p c) o [])) p_is
+        ∙ filter_map (may P) (Piece p c x.number) (λ k. not (is_marked calls c k)) 0 (parts_in x) (λ k l. piece_is calls P c k d x shows at p_is sound begun moved (omega arith))
+        ∙ ap (λ j. map (Piece p c x.number) (filter (λ k. not (is_marked calls c k)) (range_with_len 0 j))) (sym n)
+    by false kept =
+        let n : parts calls c ≡ 0 = shows.done.parts c d at ∙ rw kept refl in
+        no-pieces p P c (present P.moves.read c d) (λ e k. piece-none P c e k (inr (begins-not P.moves c (has_part P.moves c e k) (λ y at_y.
+        let same : y ≡ d = some_same y d (sym at_y ∙ at) in
+        ap (λ b. b && option_map_or (is_part_left P.moves.done c e k) (present P.moves.read c y) false) (ap is_moved same ∙ kept)))))
+        ∙ sym (ap (λ j. map (Piece p c x.number) (filter (λ k. not (is_marked calls c k)) (range_with_len 0 j))) n)
+
+-- the allowed steps of a command: its element, its retirement, and its pieces
+pub number-cut : (p : ℕ) (P : Spe) (c : ℕ) (d : Command) → slice_get P.moves.issued c ≡ Some d
+    → allowed_of_number p P c ≡ (if may_elem P c then Elem p c ∷ [] else []) ++ ((if may_retire P c then Retire p c ∷ [] else []) ++ filter (may P) (option_map_or (pieces_of p c) (present P.moves.read c d) []))
+number-cut p P c d at = ap (λ o. filter (may P) (option_map_or (steps_of_command p P.moves.read c) o [])) at ∙ on (may_elem P c) (may_retire P c) (filter (may P) (option_map_or (pieces_of p c) (present P.moves.read c d) []))
+  where
+    on : (a b : Bool) (xs : List Step) → cond a (Elem p c ∷ cond b (Retire p c ∷ xs) xs) (cond b (Retire p c ∷ xs) xs) ≡ (if a then Elem p c ∷ [] else []) ++ ((if b then Retire p c ∷ [] else []) ++ xs)
+    on true true xs = refl
+    on true false xs = refl
+    on false true xs = refl
+    on false false xs = refl
 
 found-passes : {X : Type 0} (t : X → Bool) (xs : List X) (x : X) → find t xs ≡ Some x → t x ≡ true
 found-passes t [] x h = absurd (cc)

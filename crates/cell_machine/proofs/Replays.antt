@@ -11,11 +11,10 @@ use Rattle.cell_machine.specs.Opening.{Opening, opening}
 use Rattle.cell_machine.specs.Run.{Ran, replay, spe_of, state_of}
 use Rattle.cell_machine.specs.Tags.{settled}
 use Rattle.mfc_queue.specs.Calls.{issued}
-use Rattle.cell_machine.specs.Kept.{CanStep, MovesFit, IsKept}
-use Rattle.cell_machine.specs.Shows.{Shows, ShowsSpe, IsMachine, IsFit, CanGo, AreBounded}
+use Rattle.cell_machine.specs.Kept.{IsKept}
+use Rattle.cell_machine.specs.Shows.{Shows, ShowsSpe, IsMachine, IsFit, CanGo, CanStep, AreBounded}
 use Rattle.cell_machine.proofs.AllTwo.{two_at, some_and}
 use Rattle.cell_machine.proofs.Steps.{lines-is}
-use Rattle.cell_machine.proofs.SpeShown.{queue-kept}
 use Rattle.cell_machine.proofs.Bounds.{act-settled, act-bounded}
 
 none_last : (o : Option State) → option_and_then (λ N. Some N) o ≡ o
@@ -57,7 +56,7 @@ pub machine-step : (setup : Opening) (steps : List Step) (capacity : ℕ) (proce
     → IsMachine setup (steps ++ s ∷ []) room new memory2 host2
 machine-step setup steps capacity processors new memory memory2 host host2 s room old did same long script within grown =
     let made = some_and (act old.state s) (λ N. Shows new memory2 host2 (settled_in N)) did in
-    let lines : lines_of old.state ≡ setup.lines = lines-is processors old.state setup.lines old.shown (sym old.long) in
+    let lines : lines_of old.state.memory ≡ setup.lines = ap lines_of old.shown.memory_is ∙ lines-is memory setup.lines (sym old.long) in
     let longer : length steps + 1 ≡ length (steps ++ s ∷ []) = sym (length-append steps (s ∷ [])) in
     record {
       room = omega arith;
@@ -80,30 +79,25 @@ pub machine-can : (setup : Opening) (steps : List Step) (capacity : ℕ) (proces
     → IsMachine setup steps capacity processors memory host → length steps < setup.budget → CanGo processors memory
 machine-can setup steps capacity processors memory host is within = record { lines = setup.lines; long = is.long; each = each }
   where
-    each : All (λ c. CanStep setup.lines c.queue) processors
+    each : All (CanStep setup.lines) processors
     each k d h =
         let two = two_at ShowsSpe processors is.state.spes k d is.shown.spes h in
-        let q = two.2.queue in
         let bound = is.bounded k two.0 two.1 in
         let few = bound.few in
         let small = is.small in
-        let e : length (issued q.calls) ≡ length two.0.moves.issued = ap length q.moves.issued in
-        record {
-          kept = queue-kept setup.lines _ two.0 q (omega arith) bound.fits;
-          number = record { calls = q.calls; stands = q.stands; few = omega arith };
-          fits = record { calls = q.calls; stands = q.stands; fits = subst (MovesFit setup.lines) (sym q.moves.issued) bound.fits };
-        }
+        record { spe = two.0; shows = two.2; bounded = record { few = omega arith; fits = bound.fits; elements = bound.elements } }
 
 -- what each processor of a machine knows of its queue
 pub machine-kept : {setup : Opening} {steps : List Step} {capacity : ℕ} {processors : List Processor} {memory : List ℕ} {host : Progress}
-    → IsMachine setup steps capacity processors memory host → All (λ c. IsKept c.queue) processors
+    → IsMachine setup steps capacity processors memory host → All (λ c. IsKept c.commands.queue) processors
 machine-kept is k d h =
     let two = two_at ShowsSpe _ is.state.spes k d is.shown.spes h in
-    let bound = is.bounded k two.0 two.1 in
-    let few = bound.few in
+    let q = two.2.queue in
+    let few = (is.bounded k two.0 two.1).few in
     let within = is.within in
     let small = is.small in
-    queue-kept _ _ two.0 two.2.queue (omega arith) bound.fits
+    let e : length (issued q.calls) ≡ length two.0.moves.issued = ap length q.moves.done.issued in
+    record { calls = q.calls; stands = q.stands; numbered = omega arith }
 
 -- each action of a machine's script fits it
 pub machine-fit : (setup : Opening) (steps : List Step) (capacity : ℕ) (processors : List Processor) (memory : List ℕ) (host : Progress)

@@ -1,29 +1,32 @@
 -- What the code's processor shows of its commands.
 use Rattle.std.proofs.Common.{◌≡◌, ◌≢◌, ℕ, zero, suc, ◌+◌, ◌-◌, ◌/◌, ◌<◌, ◌≤◌, ◌==◌, ◌&&◌, not, Bool, true, false, List, [], ◌∷◌, ◌++◌, length, arith, refl, sym, ◌∙◌, ap, subst, length-append, true≢false}
-use Rattle.std.specs.Prelude.{Option, Some, None, slice_get, nat_lt, IsSomeAnd, MatchBool, is_some, slice_range}
+use Rattle.std.specs.Prelude.{Option, Some, None, IfSome, IfNone, slice_get, slice_index_or, slice_set, nat_lt, IsSomeAnd, MatchBool, is_some, slice_range, cond}
 use Rattle.std.specs.Bool.{OnTrue}
-use Rattle.std.specs.List.{list_any, list_all, range_with_len}
+use Rattle.std.specs.List.{list_any, list_all, range_with_len, last_or}
+use Rattle.std.specs.Option.{option_map_or}
 use Rattle.std.proofs.lemmas.Bool.Decides.{nat_tests}
 use Rattle.std.proofs.Math.ListN.{length-map}
-use Rattle.mfc_command.specs.declared.command.Command.{Command}
 use Rattle.mfc_command.specs.declared.range.Part.{Part}
-use Rattle.mfc_command.specs.Order.{may_start, busy_groups, outstanding as outstanding_of}
-use Rattle.mfc_command.specs.Check.{TransferFits}
 use Rattle.cell_base.specs.Bytes.{put}
-use Rattle.mfc_command.specs.Parts.{part_of, parts_of}
+use Rattle.tag_groups.specs.declared.TagStatus.{TagStatus}
+use Rattle.mfc_command.specs.declared.command.Command.{Command}
+use Rattle.mfc_command.specs.declared.command.Kind.{Kind}
+use Rattle.mfc_command.specs.declared.command.Kind.TheVariants.{Put, Get, PutList, GetList, Barrier}
+use Rattle.mfc_command.specs.Order.{is_list, is_barrier, may_start, busy_groups, outstanding as outstanding_of}
+use Rattle.mfc_lists.specs.declared.Element.{Element}
+use Rattle.mfc_lists.specs.declared.ListState.{ListState}
+use Rattle.mfc_lists.specs.Readings.{Reading, StandsFor as StandsForReading, current}
 use Rattle.mfc_queue.specs.declared.Queue.{Queue}
 use Rattle.mfc_queue.specs.Calls.{Call, Issue, SetParts, Mark, Retire, issued, is_retired, is_outstanding, outstanding as outstanding_calls, parts, is_marked, all_marked, may_begin as may_begin_calls, busy as busy_calls}
-use Rattle.mfc_queue.proofs.CallLaws.{issued-issued, retired-issued}
-use Rattle.mfc_queue.specs.Stands.{StandsFor, IsOneOf}
-use Rattle.cell_machine.specs.declared.processor.Processor.{Processor}
+use Rattle.mfc_queue.specs.Stands.{StandsFor, IsOneOf, place_in}
 use Rattle.cell_machine.specs.Spe.{Spe, Moves, is_faulted}
-use Rattle.cell_machine.specs.Moves.{is_done, has_pieces, pieces_of, is_complete, may_begin, outstanding, busy}
-use Rattle.cell_machine.specs.Transfers.{has_part, may_piece, is_left, may_retire, with_done, with_retired, piece, retire, copied, is_put}
-use Rattle.cell_machine.specs.Channels.{with_issued, read_status}
-use Rattle.tag_groups.specs.declared.TagStatus.{TagStatus}
-use Rattle.cell_machine.specs.Kept.{IsKept, MovesFit}
-use Rattle.cell_machine.specs.Shows.{ShowsSpe, ShowsMoves, ShowsQueue}
-use Rattle.cell_machine.proofs.MovesShown.{moves-issue, moves-retire, moves-mark, moves-mark_last, complete-now, complete-pieces, complete-retires, get-within, some-pieces, no-pieces, eq_is, eq_off}
+use Rattle.cell_machine.specs.Moves.{read_of, elements_in, elements_of, are_all_there, present, parts_in, whole, is_done, is_finished, is_moved, is_stalled, is_at_rest, was_retired, is_complete, is_complete_as, may_begin, outstanding, busy}
+use Rattle.cell_machine.specs.Transfers.{begins, copied, is_part_left, has_part, has_element, is_left}
+use Rattle.cell_machine.specs.Channels.{read_status}
+use Rattle.cell_machine.specs.MovesShown.{ShowsMoves, ShowsDone, ShowsLists, ShowsList, AreElements, parts_now, reading}
+use Rattle.cell_machine.specs.Shows.{IsListOf}
+use Rattle.cell_machine.proofs.MovesShown.{get-within, eq_is, eq_off}
+use Rattle.cell_machine.proofs.ListsGo.{current-part, current-none}
 
 pub first_of_both : (a b : Bool) → (a && b) ≡ true → a ≡ true
 first_of_both true b h = refl
@@ -37,43 +40,12 @@ pub not_of : (b : Bool) → not b ≡ true → b ≡ false
 not_of true h = absurd (true≢false (sym h))
 not_of false h = refl
 
-and_off : (a b : Bool) → b ≡ false → (a && b) ≡ false
+pub and_off : (a b : Bool) → b ≡ false → (a && b) ≡ false
 and_off true b h = h
 and_off false b h = refl
 
-below : (a b : ℕ) → nat_lt a b ≡ true → a < b
+pub below : (a b : ℕ) → nat_lt a b ≡ true → a < b
 below a b h = grind (arith, nat_tests)
-
-pub open-of : (calls : List Call) (m : Moves) (c : ℕ) → ShowsMoves calls m → is_outstanding calls c ≡ true → is_complete m c ≡ false
-open-of calls m c shows is = sym (ap (λ f. f c) shows.complete) ∙ not_of (is_retired calls c) (second_of_both (nat_lt c (length (issued calls))) _ is)
-
-pub outstanding-is : (calls : List Call) (m : Moves) (c : ℕ) (d : Command) → ShowsMoves calls m → slice_get m.issued c ≡ Some d → is_complete m c ≡ false → is_outstanding calls c ≡ true
-outstanding-is calls m c d shows at open_yet =
-    let l : c < length m.issued = get-within m.issued c d at in
-    let e : length (issued calls) ≡ length m.issued = ap length shows.issued in
-    let t : nat_lt c (length (issued calls)) ≡ true = grind (arith, nat_tests) in
-    let r : is_retired calls c ≡ false = ap (λ f. f c) shows.complete ∙ open_yet in
-    rw (t, r) refl
-
--- an outstanding command was issued
-pub issued-is : (calls : List Call) (m : Moves) (c : ℕ) → ShowsMoves calls m → is_outstanding calls c ≡ true → (d : Command) × (slice_get m.issued c ≡ Some d)
-issued-is calls m c shows is =
-    let l : c < length (issued calls) = below c (length (issued calls)) (first_of_both (nat_lt c (length (issued calls))) _ is) in
-    let e : length (issued calls) ≡ length m.issued = ap length shows.issued in
-    there m.issued c (omega arith)
-  where
-    there : {X : Type 0} (xs : List X) (i : ℕ) → i < length xs → (x : X) × (slice_get xs i ≡ Some x)
-    there [] i h = absurd (omega arith)
-    there (x ∷ xs) zero h = (x, refl)
-    there (x ∷ xs) (suc i) h = there xs i (omega arith)
-
-pub part-is : (m : Moves) (c k : ℕ) (d : Command) → slice_get m.issued c ≡ Some d → has_part m c k ≡ (nat_lt k (pieces_of d) && not (is_done m c k))
-unfolding has_part
-part-is m c k d at = rw at refl
-
-part-none : (m : Moves) (c k : ℕ) → slice_get m.issued c ≡ None → has_part m c k ≡ false
-unfolding has_part
-part-none m c k at = rw at refl
 
 pub get-either : {X : Type 0} (xs : List X) (i : ℕ) (Q : Type 0) → (slice_get xs i ≡ None → Q) → ((x : X) → slice_get xs i ≡ Some x → Q) → Q
 get-either xs i Q none some = on (slice_get xs i) refl
@@ -82,81 +54,9 @@ get-either xs i Q none some = on (slice_get xs i) refl
     on None e = none e
     on (Some x) e = some x e
 
--- a command that is complete has no part left
-all-at : (f : ℕ → Bool) (a n k : ℕ) → list_all f (range_with_len a n) ≡ true → a ≤ k → k < a + n → f k ≡ true
-all-at f a zero k h low high = absurd (omega arith)
-all-at f a (suc n) k h low high = on (a == k) refl (λ l. all-at f (a + 1) n k (second_of_both (f a) _ h) l (omega arith))
-  where
-    on : (b : Bool) → (a == k) ≡ b → (a + 1 ≤ k → f k ≡ true) → f k ≡ true
-    on true e r = let same : a ≡ k = grind (arith, nat_tests) in subst (λ j. f j ≡ true) same (first_of_both (f a) _ h)
-    on false e r = r (let differs : a ≢ k = grind (arith, nat_tests) in omega arith)
-
-none_left : (a b : Bool) → (b ≡ true → a ≡ true) → (b && not a) ≡ false
-none_left a false h = refl
-none_left a true h = rw (h refl) refl
-
-pub complete-no_part : (m : Moves) (c k : ℕ) (d : Command) → slice_get m.issued c ≡ Some d → is_complete m c ≡ true → has_part m c k ≡ false
-complete-no_part m c k d at complete = part-is m c k d at ∙ on (has_pieces d) refl
-  where
-    on : (b : Bool) → has_pieces d ≡ b → (nat_lt k (pieces_of d) && not (is_done m c k)) ≡ false
-    on false h = let z : nat_lt k 0 ≡ false = grind (arith, nat_tests) in rw (no-pieces d h) (ap (λ b. b && not (is_done m c k)) z)
-    on true h = none_left (is_done m c k) (nat_lt k (pieces_of d)) (λ l.
-        all-at (is_done m c) 0 (pieces_of d) k (sym (complete-pieces m c d at h) ∙ complete) (omega arith) (let x = below k (pieces_of d) l in omega arith))
-
 pub complete_or : (b : Bool) (Q : Type 0) → (b ≡ true → Q) → (b ≡ false → Q) → Q
 complete_or true Q yes_it no_it = yes_it refl
 complete_or false Q yes_it no_it = no_it refl
-
-pub closed-no_part : (calls : List Call) (m : Moves) (c k : ℕ) → ShowsMoves calls m → is_outstanding calls c ≡ false → has_part m c k ≡ false
-closed-no_part calls m c k shows closed =
-    get-either m.issued c (has_part m c k ≡ false) (part-none m c k) (λ d at.
-    complete_or (is_complete m c) (has_part m c k ≡ false) (λ h. complete-no_part m c k d at h)
-    (λ h. absurd (true≢false (sym (outstanding-is calls m c d shows at h) ∙ closed))))
-
--- where the controller is at fault, or the command has no such part, the piece isn't allowed
-pub piece-faulted : (P : Spe) (c e k : ℕ) → is_faulted P.status ≡ true → may_piece P c e k ≡ false
-unfolding may_piece
-piece-faulted P c e k h = rw h refl
-
-pub piece-elem : (P : Spe) (c e k : ℕ) → e ≢ 0 → may_piece P c e k ≡ false
-unfolding may_piece
-piece-elem P c e k h = let z : (e == 0) ≡ false = grind (arith, nat_tests) in rw z (ap (λ b. b && has_part P.moves c k && may_begin P.moves c) (and_off (not (is_faulted P.status)) false refl))
-
-pub piece-no_part : (P : Spe) (c e k : ℕ) → has_part P.moves c k ≡ false → may_piece P c e k ≡ false
-unfolding may_piece
-piece-no_part P c e k h = rw h (ap (λ b. b && may_begin P.moves c) (and_off (not (is_faulted P.status) && e == 0) false refl))
-
--- nor where it may not begin
-pub piece-waits : (P : Spe) (c e k : ℕ) → may_begin P.moves c ≡ false → may_piece P c e k ≡ false
-unfolding may_piece
-piece-waits P c e k h = rw h (and_off (not (is_faulted P.status) && e == 0 && has_part P.moves c k) false refl)
-
-pub piece-part : (P : Spe) (c e k : ℕ) → is_faulted P.status ≡ false → e ≡ 0 → has_part P.moves c k ≡ true → may_piece P c e k ≡ may_begin P.moves c
-unfolding may_piece
-piece-part P c e k h z g = let t : (e == 0) ≡ true = grind (arith, nat_tests) in rw (h, t, g) refl
-
-pub begin-is : (calls : List Call) (m : Moves) (c : ℕ) → ShowsMoves calls m → may_begin_calls calls c ≡ may_begin m c
-begin-is calls m c shows = ap (λ f. may_start f (issued calls) c) shows.complete ∙ ap (λ cs. may_start (is_complete m) cs c) shows.issued
-
-pub busy-same : (calls : List Call) (m : Moves) → ShowsMoves calls m → busy_calls calls ≡ busy m
-busy-same calls m shows = ap (λ f. busy_groups f (issued calls)) shows.complete ∙ ap (busy_groups (is_complete m)) shows.issued
-
-pub outstanding-same : (calls : List Call) (P : Spe) → ShowsMoves calls P.moves → outstanding_calls calls ≡ outstanding P
-outstanding-same calls P shows = ap (λ f. outstanding_of f (issued calls)) shows.complete ∙ ap (outstanding_of (is_complete P.moves)) shows.issued
-
-pub has-part : (calls : List Call) (m : Moves) (c k : ℕ) → ShowsMoves calls m → is_outstanding calls c ≡ true → has_part m c k ≡ (nat_lt k (parts calls c) && not (is_marked calls c k))
-has-part calls m c k shows open_yet =
-    let d = issued-is calls m c shows open_yet in
-    part-is m c k d.0 d.1 ∙ rw (shows.parts c d.0 d.1, shows.marked c k) refl
-
-pub part-past : (calls : List Call) (m : Moves) (c k : ℕ) → ShowsMoves calls m → is_outstanding calls c ≡ true → parts calls c ≤ k → has_part m c k ≡ false
-part-past calls m c k shows open_yet past = let off : nat_lt k (parts calls c) ≡ false = grind (arith, nat_tests) in has-part calls m c k shows open_yet ∙ rw off refl
-
-pub part-done : (calls : List Call) (m : Moves) (c k : ℕ) → ShowsMoves calls m → is_outstanding calls c ≡ true → is_marked calls c k ≡ true → has_part m c k ≡ false
-part-done calls m c k shows open_yet done = has-part calls m c k shows open_yet ∙ rw done (and_off (nat_lt k (parts calls c)) false refl)
-
-pub part-left : (calls : List Call) (m : Moves) (c k : ℕ) → ShowsMoves calls m → is_outstanding calls c ≡ true → k < parts calls c → is_marked calls c k ≡ false → has_part m c k ≡ true
-part-left calls m c k shows open_yet less done = let on : nat_lt k (parts calls c) ≡ true = grind (arith, nat_tests) in has-part calls m c k shows open_yet ∙ rw (on, done) refl
 
 -- a command has a place where it is outstanding
 pub placed : (o : Option ℕ) (b : Bool) → is_some o ≡ b → (none : Bool) → is_some o ≡ not none → none ≡ false → b ≡ true
@@ -169,184 +69,244 @@ pub on_true : {Q : Type 0} (b : Bool) → Q → OnTrue b Q
 on_true true q = q
 on_true false q = tt
 
--- what a part that is there says
-pub part-facts : (calls : List Call) (m : Moves) (c k : ℕ) → ShowsMoves calls m → has_part m c k ≡ true
-    → (d : Command) × (slice_get m.issued c ≡ Some d) × (is_outstanding calls c ≡ true) × (k < pieces_of d) × (is_complete m c ≡ false) × (has_pieces d ≡ true)
-part-facts calls m c k shows has =
-    get-either m.issued c _ (λ at. absurd (true≢false (sym has ∙ part-none m c k at))) (λ d at. facts d at (is_complete m c) refl)
-  where
-    pieces : (d : Command) → k < pieces_of d → (b : Bool) → has_pieces d ≡ b → has_pieces d ≡ true
-    pieces d l true e = e
-    pieces d l false e = absurd (let z = no-pieces d e in omega arith)
+-- ---- which commands are outstanding
 
-    facts : (d : Command) → slice_get m.issued c ≡ Some d → (b : Bool) → is_complete m c ≡ b
-        → (d : Command) × (slice_get m.issued c ≡ Some d) × (is_outstanding calls c ≡ true) × (k < pieces_of d) × (is_complete m c ≡ false) × (has_pieces d ≡ true)
-    facts d at true g = absurd (true≢false (sym has ∙ complete-no_part m c k d at g))
-    facts d at false g =
-        let l = below k (pieces_of d) (first_of_both (nat_lt k (pieces_of d)) (not (is_done m c k)) (sym (part-is m c k d at) ∙ has)) in
-        (d, at, outstanding-is calls m c d shows at g, l, g, pieces d l (has_pieces d) refl)
+pub open-of : (calls : List Call) (m : Moves) (c : ℕ) → ShowsMoves calls m → is_outstanding calls c ≡ true → is_complete m c ≡ false
+open-of calls m c shows is = sym (ap (λ f. f c) shows.complete) ∙ not_of (is_retired calls c) (second_of_both (nat_lt c (length (issued calls))) _ is)
 
-pub piece-facts : (P : Spe) (c e k : ℕ) → may_piece P c e k ≡ true → (e ≡ 0) × (has_part P.moves c k ≡ true)
-unfolding may_piece
-piece-facts P c e k h =
-    let a = first_of_both (not (is_faulted P.status) && e == 0 && has_part P.moves c k) (may_begin P.moves c) h in
-    let z = second_of_both (not (is_faulted P.status)) (e == 0) (first_of_both (not (is_faulted P.status) && e == 0) (has_part P.moves c k) a) in
-    (eq_is e 0 z, second_of_both (not (is_faulted P.status) && e == 0) (has_part P.moves c k) a)
-
-pub piece-none : (memory : List ℕ) (P : Spe) (c e k : ℕ) → may_piece P c e k ≡ false → piece memory P c e k ≡ None
-unfolding piece
-piece-none memory P c e k h = rw h refl
-
-pub piece-some : (memory : List ℕ) (P : Spe) (c e k : ℕ) (d : Command) → may_piece P c e k ≡ true → slice_get P.moves.issued c ≡ Some d
-    → piece memory P c e k ≡ Some (copied memory (record P { moves = with_done P.moves c k }) (is_put d.kind) (part_of d.ls d.ea d.size k))
-unfolding piece
-piece-some memory P c e k d h at = rw (h, at) refl
-
--- after the part is marked, and the command retired with the last one
-pub queue-mark : (q : Queue) (m : Moves) (calls : List Call) (c k : ℕ) (b : Bool) → ShowsMoves calls m → has_part m c k ≡ true
-    → b ≡ all_marked (calls ++ Mark c k ∷ []) c
-    → MatchBool b (StandsFor q ((calls ++ Mark c k ∷ []) ++ Retire c ∷ [])) (StandsFor q (calls ++ Mark c k ∷ []))
-    → ShowsQueue q (with_done m c k)
-queue-mark q m calls c k true shows has last stands =
-    let f = part-facts calls m c k shows has in
-    let now : is_complete (with_done m c k) c ≡ true = complete-now calls m c k f.0 shows f.1 f.5 ∙ sym last in
-    record { calls = (calls ++ Mark c k ∷ []) ++ Retire c ∷ []; stands = stands; moves = moves-mark_last calls m c k f.0 shows f.1 now }
-queue-mark q m calls c k false shows has last stands =
-    let f = part-facts calls m c k shows has in
-    let now : is_complete (with_done m c k) c ≡ false = complete-now calls m c k f.0 shows f.1 f.5 ∙ sym last in
-    record { calls = calls ++ Mark c k ∷ []; stands = stands; moves = moves-mark calls m c k f.0 shows f.1 f.4 now }
-
--- a command that is retired
-
-left-none : (m : Moves) (c : ℕ) → slice_get m.issued c ≡ None → is_left m c ≡ false
-unfolding is_left
-left-none m c at = rw at refl
-
-left-is : (m : Moves) (c : ℕ) (d : Command) → slice_get m.issued c ≡ Some d → is_left m c ≡ (not (has_pieces d) && not (list_any (λ r. r == c) m.retired))
-unfolding is_left
-left-is m c d at = rw at refl
-
-left-pieces : (m : Moves) (c : ℕ) (d : Command) → slice_get m.issued c ≡ Some d → has_pieces d ≡ true → is_left m c ≡ false
-left-pieces m c d at h = left-is m c d at ∙ rw h refl
-
-left-bare : (m : Moves) (c : ℕ) (d : Command) → slice_get m.issued c ≡ Some d → has_pieces d ≡ false → is_left m c ≡ not (is_complete m c)
-left-bare m c d at h = left-is m c d at ∙ rw h (ap not (sym (complete-retires m c d at h)))
-
-pub closed-not_left : (calls : List Call) (m : Moves) (c : ℕ) → ShowsMoves calls m → is_outstanding calls c ≡ false → is_left m c ≡ false
-closed-not_left calls m c shows closed =
-    get-either m.issued c (is_left m c ≡ false) (left-none m c) (λ d at. by d at (has_pieces d) refl (is_complete m c) refl)
-  where
-    by : (d : Command) → slice_get m.issued c ≡ Some d → (b : Bool) → has_pieces d ≡ b → (a : Bool) → is_complete m c ≡ a → is_left m c ≡ false
-    by d at true h a e = left-pieces m c d at h
-    by d at false h true e = left-bare m c d at h ∙ ap not e
-    by d at false h false e = absurd (true≢false (sym (outstanding-is calls m c d shows at e) ∙ closed))
-
--- an outstanding command is to be retired where it has no parts
-pub left-of : (calls : List Call) (m : Moves) (c : ℕ) → ShowsMoves calls m → is_outstanding calls c ≡ true → is_left m c ≡ (parts calls c == 0)
-left-of calls m c shows open_yet = by (issued-is calls m c shows open_yet)
-  where
-    on : (d : Command) → slice_get m.issued c ≡ Some d → (b : Bool) → has_pieces d ≡ b → is_left m c ≡ (pieces_of d == 0)
-    on d at true h = left-pieces m c d at h ∙ sym (eq_off (pieces_of d) 0 (let e = some-pieces d h in let differs : pieces_of d ≢ 0 = omega arith in differs))
-    on d at false h = left-bare m c d at h ∙ ap not (open-of calls m c shows open_yet) ∙ rw (no-pieces d h) refl
-
-    by : (d : Command) × (slice_get m.issued c ≡ Some d) → is_left m c ≡ (parts calls c == 0)
-    by f = on f.0 f.1 (has_pieces f.0) refl ∙ ap (λ n. n == 0) (sym (shows.parts c f.0 f.1))
-
-pub retire-faulted : (P : Spe) (c : ℕ) → is_faulted P.status ≡ true → may_retire P c ≡ false
-unfolding may_retire
-retire-faulted P c h = rw h refl
-
-pub retire-not_left : (P : Spe) (c : ℕ) → is_left P.moves c ≡ false → may_retire P c ≡ false
-unfolding may_retire
-retire-not_left P c h = rw h (ap (λ b. b && may_begin P.moves c) (and_off (not (is_faulted P.status)) false refl))
-
-pub retire-left : (P : Spe) (c : ℕ) → is_faulted P.status ≡ false → is_left P.moves c ≡ true → may_retire P c ≡ may_begin P.moves c
-unfolding may_retire
-retire-left P c h g = rw (h, g) refl
-
-pub retire-none : (P : Spe) (c : ℕ) → may_retire P c ≡ false → retire P c ≡ None
-unfolding retire
-retire-none P c h = rw h refl
-
-pub retire-some : (P : Spe) (c : ℕ) → may_retire P c ≡ true → retire P c ≡ Some (record P { moves = with_retired P.moves c })
-unfolding retire
-retire-some P c h = rw h refl
-
-pub left-facts : (P : Spe) (c : ℕ) → may_retire P c ≡ true → (d : Command) × (slice_get P.moves.issued c ≡ Some d) × (has_pieces d ≡ false) × (is_complete P.moves c ≡ false)
-unfolding may_retire
-left-facts P c h =
-    let has : is_left P.moves c ≡ true = second_of_both (not (is_faulted P.status)) (is_left P.moves c) (first_of_both (not (is_faulted P.status) && is_left P.moves c) (may_begin P.moves c) h) in
-    get-either P.moves.issued c _ (λ at. absurd (true≢false (sym has ∙ left-none P.moves c at))) (λ d at. by d at has (has_pieces d) refl)
-  where
-    by : (d : Command) → slice_get P.moves.issued c ≡ Some d → is_left P.moves c ≡ true → (b : Bool) → has_pieces d ≡ b → (d : Command) × (slice_get P.moves.issued c ≡ Some d) × (has_pieces d ≡ false) × (is_complete P.moves c ≡ false)
-    by d at has true g = absurd (true≢false (sym has ∙ left-pieces P.moves c d at g))
-    by d at has false g = (d, at, g, not_of (is_complete P.moves c) (sym (left-bare P.moves c d at g) ∙ has))
-
-pub queue-retire : (q : Queue) (P : Spe) (calls : List Call) (c : ℕ) → ShowsMoves calls P.moves → may_retire P c ≡ true → StandsFor q (calls ++ Retire c ∷ []) → ShowsQueue q (with_retired P.moves c)
-queue-retire q P calls c shows may stands =
-    let f = left-facts P c may in
-    record { calls = calls ++ Retire c ∷ []; stands = stands; moves = moves-retire calls P.moves c f.0 shows f.1 f.2 }
-
-pub retire-one : (x : Processor) (P : Spe) (c : ℕ) → ShowsSpe x P → may_retire P c ≡ true → IsOneOf x.queue c
-retire-one x P c shows may =
-    let f = left-facts P c may in
-    record { calls = shows.queue.calls; stands = shows.queue.stands; outstanding = outstanding-is shows.queue.calls P.moves c f.0 shows.queue.moves f.1 f.3 }
-
--- a command that is issued
-
-not_retired-new : (calls : List Call) → is_retired calls (length (issued calls)) ≡ false → (d : Command) (n : ℕ) → n ≡ length (issued calls) → is_outstanding (calls ++ Issue d ∷ []) n ≡ true
-not_retired-new calls none d n is =
-    let l = ap length (issued-issued calls d) in
-    let a = length-append (issued calls) (d ∷ []) in
-    let t : nat_lt n (length (issued (calls ++ Issue d ∷ []))) ≡ true = (let less : n < length (issued (calls ++ Issue d ∷ [])) = omega arith in grind (arith, nat_tests)) in
-    let r : is_retired (calls ++ Issue d ∷ []) n ≡ false = ap (λ f. f n) (retired-issued calls d) ∙ ap (is_retired calls) is ∙ none in
+pub outstanding-is : (calls : List Call) (m : Moves) (c : ℕ) (d : Command) → ShowsMoves calls m → slice_get m.issued c ≡ Some d → is_complete m c ≡ false → is_outstanding calls c ≡ true
+outstanding-is calls m c d shows at open_yet =
+    let l : c < length m.issued = get-within m.issued c d at in
+    let e : length (issued calls) ≡ length m.issued = ap length shows.done.issued in
+    let t : nat_lt c (length (issued calls)) ≡ true = grind (arith, nat_tests) in
+    let r : is_retired calls c ≡ false = ap (λ f. f c) shows.complete ∙ open_yet in
     rw (t, r) refl
 
--- a queue knows nothing of the next number
-pub new-outstanding : (q : Queue) (calls : List Call) (d : Command) (n : ℕ) → StandsFor q calls → n ≡ length (issued calls) → is_outstanding (calls ++ Issue d ∷ []) n ≡ true
-new-outstanding q calls d n stands is = not_retired-new calls (stands.fresh (length (issued calls)) (omega arith)).retired d n is
-
-pub queue-issue : (q : Queue) (m : Moves) (calls : List Call) (d : Command) (n p : ℕ) → ShowsMoves calls m → n ≡ length (issued calls) → p ≡ pieces_of d
-    → StandsFor q ((calls ++ Issue d ∷ []) ++ SetParts n p ∷ []) → ShowsQueue q (with_issued m d)
-queue-issue q m calls d n p shows is_n is_p stands =
-    let e : n ≡ length m.issued = is_n ∙ ap length shows.issued in
-    record {
-      calls = (calls ++ Issue d ∷ []) ++ SetParts (length m.issued) (pieces_of d) ∷ [];
-      stands = subst (λ j. StandsFor q ((calls ++ Issue d ∷ []) ++ SetParts j (pieces_of d) ∷ [])) e (subst (λ j. StandsFor q ((calls ++ Issue d ∷ []) ++ SetParts n j ∷ [])) is_p stands);
-      moves = moves-issue calls m d shows;
-    }
-
--- what is kept of a queue
-parts_small : (lines : ℕ) (d : Command) → (has_pieces d ≡ true → TransferFits lines d) → pieces_of d ≤ 129
-parts_small lines d fits = complete_or (has_pieces d) (pieces_of d ≤ 129)
-    (λ h. let f = fits h in let size = f.size in let n = some-pieces d h in let m : (d.ea + d.size - 1) / 128 - d.ea / 128 ≤ 128 = omega arith in omega arith)
-    (λ h. let z = no-pieces d h in omega arith)
-
-pub queue-kept : (lines : ℕ) (q : Queue) (P : Spe) → ShowsQueue q P.moves → length P.moves.issued ≤ 1000000 → MovesFit lines P.moves.issued → IsKept q
-queue-kept lines q P shows few fits = record {
-  calls = shows.calls;
-  stands = shows.stands;
-  numbered = let e = ap length shows.moves.issued in omega arith;
-  pieces = λ c d at. shows.moves.parts c d (subst (λ xs. slice_get xs c ≡ Some d) shows.moves.issued at);
-  cut = λ c. get-either P.moves.issued c (parts shows.calls c ≤ 129)
-      (λ none. let z = (shows.stands.fresh c (past c none)).parts in omega arith)
-      (λ d at. let e = shows.moves.parts c d at in let l = parts_small lines d (fits c d at) in omega arith);
-}
+-- an outstanding command was issued
+pub issued-is : (calls : List Call) (m : Moves) (c : ℕ) → ShowsMoves calls m → is_outstanding calls c ≡ true → (d : Command) × (slice_get m.issued c ≡ Some d)
+issued-is calls m c shows is =
+    let l : c < length (issued calls) = below c (length (issued calls)) (first_of_both (nat_lt c (length (issued calls))) _ is) in
+    let e : length (issued calls) ≡ length m.issued = ap length shows.done.issued in
+    there m.issued c (omega arith)
   where
-    beyond : {X : Type 0} (xs : List X) (i : ℕ) → slice_get xs i ≡ None → length xs ≤ i
-    beyond [] i h = omega arith
-    beyond (x ∷ xs) zero h = absurd (cc)
-    beyond (x ∷ xs) (suc i) h = let r = beyond xs i h in omega arith
+    there : {X : Type 0} (xs : List X) (i : ℕ) → i < length xs → (x : X) × (slice_get xs i ≡ Some x)
+    there [] i h = absurd (omega arith)
+    there (x ∷ xs) zero h = (x, refl)
+    there (x ∷ xs) (suc i) h = there xs i (omega arith)
 
-    past : (c : ℕ) → slice_get P.moves.issued c ≡ None → length (issued shows.calls) ≤ c
-    past c none = let e = ap length shows.moves.issued in let l = beyond P.moves.issued c none in omega arith
+pub begin-is : (calls : List Call) (m : Moves) (c : ℕ) → ShowsMoves calls m → may_begin_calls calls c ≡ may_begin m c
+begin-is calls m c shows = ap (λ f. may_start f (issued calls) c) shows.complete ∙ ap (λ cs. may_start (is_complete m) cs c) shows.done.issued
 
--- a part that is there, without the calls
-pub part-there : (m : Moves) (c k : ℕ) → has_part m c k ≡ true → (d : Command) × (slice_get m.issued c ≡ Some d) × (k < pieces_of d) × (is_complete m c ≡ false)
-part-there m c k has =
-    get-either m.issued c _ (λ at. absurd (true≢false (sym has ∙ part-none m c k at))) (λ d at.
-    complete_or (is_complete m c) _ (λ h. absurd (true≢false (sym has ∙ complete-no_part m c k d at h)))
-    (λ h. (d, at, below k (pieces_of d) (first_of_both (nat_lt k (pieces_of d)) (not (is_done m c k)) (sym (part-is m c k d at) ∙ has)), h)))
+pub busy-same : (calls : List Call) (m : Moves) → ShowsMoves calls m → busy_calls calls ≡ busy m
+busy-same calls m shows = ap (λ f. busy_groups f (issued calls)) shows.complete ∙ ap (busy_groups (is_complete m)) shows.done.issued
+
+pub outstanding-same : (calls : List Call) (P : Spe) → ShowsMoves calls P.moves → outstanding_calls calls ≡ outstanding P
+outstanding-same calls P shows = ap (λ f. outstanding_of f (issued calls)) shows.complete ∙ ap (outstanding_of (is_complete P.moves)) shows.done.issued
+
+-- a command of the calls is the one that was issued
+pub command-is : (calls : List Call) (m : Moves) (c : ℕ) (y d : Command) → ShowsMoves calls m → slice_get (issued calls) c ≡ Some y → slice_get m.issued c ≡ Some d → y ≡ d
+command-is calls m c y d shows got at = let same : slice_get m.issued c ≡ Some y = subst (λ xs. slice_get xs c ≡ Some y) shows.done.issued got in cc
+
+-- ---- what a command may do
+
+pub begins-at : (m : Moves) (c : ℕ) (d : Command) (f : Command → Bool) → slice_get m.issued c ≡ Some d → begins m c f ≡ (f d && may_begin m c)
+begins-at m c d f at = rw at refl
+
+pub begins-none : (m : Moves) (c : ℕ) (f : Command → Bool) → slice_get m.issued c ≡ None → begins m c f ≡ false
+begins-none m c f at = rw at refl
+
+-- one that isn't outstanding does nothing
+pub begins-closed : (calls : List Call) (m : Moves) (c : ℕ) (f : Command → Bool) → ShowsMoves calls m → is_outstanding calls c ≡ false
+    → ((d : Command) → slice_get m.issued c ≡ Some d → is_complete m c ≡ true → f d ≡ false) → begins m c f ≡ false
+begins-closed calls m c f shows closed ended =
+    get-either m.issued c (begins m c f ≡ false) (begins-none m c f) (λ d at.
+    complete_or (is_complete m c) (begins m c f ≡ false) (λ h. begins-at m c d f at ∙ ap (λ b. b && may_begin m c) (ended d at h))
+    (λ h. absurd (true≢false (sym (outstanding-is calls m c d shows at h) ∙ closed))))
+
+pub complete-at : (m : Moves) (c : ℕ) (d : Command) → slice_get m.issued c ≡ Some d → is_complete m c ≡ is_complete_as m c d
+unfolding is_complete
+complete-at m c d at = rw at refl
+
+pub complete-moved : (m : Moves) (c : ℕ) (d : Command) → is_moved d ≡ true → is_complete_as m c d ≡ (are_all_there m.read c d && is_at_rest m c d)
+unfolding is_complete_as
+complete-moved m c d h = rw h refl
+
+pub complete-retired : (m : Moves) (c : ℕ) (d : Command) → is_moved d ≡ false → is_complete_as m c d ≡ was_retired m.retired c
+unfolding is_complete_as
+complete-retired m c d h = rw h refl
+
+all-at : (f : ℕ → Bool) (a n k : ℕ) → list_all f (range_with_len a n) ≡ true → a ≤ k → k < a + n → f k ≡ true
+all-at f a zero k h low high = absurd (omega arith)
+all-at f a (suc n) k h low high = on (a == k) refl (λ l. all-at f (a + 1) n k (second_of_both (f a) _ h) l (omega arith))
+  where
+    on : (b : Bool) → (a == k) ≡ b → (a + 1 ≤ k → f k ≡ true) → f k ≡ true
+    on true e r = let same : a ≡ k = grind (arith, nat_tests) in subst (λ j. f j ≡ true) same (first_of_both (f a) _ h)
+    on false e r = r (let differs : a ≢ k = grind (arith, nat_tests) in omega arith)
+
+pub all-last : {X : Type 0} (f : X → Bool) (o : Option X) (xs : List X) (y : X) → option_map_or f o true ≡ true → list_all f xs ≡ true → last_or o xs ≡ Some y → f y ≡ true
+all-last f None [] y g h e = absurd (cc)
+all-last f (Some x) [] y g h e = ap (λ z. option_map_or f z true) (sym e) ∙ g
+all-last f o (x ∷ xs) y g h e = all-last f (Some x) xs y (first_of_both (f x) (list_all f xs) h) (second_of_both (f x) (list_all f xs) h) e
+
+-- what a part that is left says
+pub record PartLeft (m : Moves) (c e k : ℕ) (d : Command) : Type 0 where
+  pub element : Element
+  pub present_is : present m.read c d ≡ Some element
+  pub number : element.number ≡ e
+  pub within : k < parts_in element
+  pub not_done : is_done m.done c e k ≡ false
+  pub moved : is_moved d ≡ true
+  pub unfinished : is_finished m.done c element ≡ false
+
+pub part-facts : (m : Moves) (c e k : ℕ) (d : Command) → has_part m c e k d ≡ true → PartLeft m c e k d
+unfolding is_finished
+part-facts m c e k d has = on (present m.read c d) refl (second_of_both (is_moved d) _ has)
+  where
+    on : (o : Option Element) → present m.read c d ≡ o → option_map_or (is_part_left m.done c e k) o false ≡ true → PartLeft m c e k d
+    on None p h = absurd (true≢false (sym h))
+    on (Some x) p h =
+        let n : x.number ≡ e = eq_is x.number e (first_of_both (x.number == e) _ (first_of_both (x.number == e && nat_lt k (parts_in x)) _ h)) in
+        let l : k < parts_in x = below k (parts_in x) (second_of_both (x.number == e) _ (first_of_both (x.number == e && nat_lt k (parts_in x)) _ h)) in
+        let u : is_done m.done c e k ≡ false = not_of _ (second_of_both (x.number == e && nat_lt k (parts_in x)) _ h) in
+        record {
+          element = x;
+          present_is = p;
+          number = n;
+          within = l;
+          not_done = u;
+          moved = first_of_both (is_moved d) _ has;
+          unfinished = complete_or (is_finished m.done c x) (is_finished m.done c x ≡ false)
+              (λ all. absurd (true≢false (sym (all-at (is_done m.done c x.number) 0 (parts_in x) k all (omega arith) (omega arith)) ∙ ap (λ j. is_done m.done c j k) n ∙ u))) (λ z. z);
+        }
+
+list-no_barrier : (k : Kind) → is_list k ≡ true → is_barrier k ≡ false
+list-no_barrier Put h = refl
+list-no_barrier Get h = refl
+list-no_barrier PutList h = refl
+list-no_barrier GetList h = refl
+list-no_barrier Barrier h = absurd (true≢false (sym h))
+
+-- a list of a size above 0 is moved
+pub list-moved : (d : Command) → is_list d.kind ≡ true → d.size ≢ 0 → is_moved d ≡ true
+list-moved d list some = let z : (d.size == 0) ≡ false = eq_off d.size 0 some in rw (list-no_barrier d.kind list, z) refl
+
+-- a command that is complete has no part left, no element, and isn't left itself
+pub complete-no_part : (m : Moves) (c e k : ℕ) (d : Command) → slice_get m.issued c ≡ Some d → is_complete m c ≡ true → has_part m c e k d ≡ false
+unfolding present
+complete-no_part m c e k d at complete = complete_or (has_part m c e k d) (has_part m c e k d ≡ false) (λ has.
+    let f = part-facts m c e k d has in
+    let rest = second_of_both (are_all_there m.read c d) (is_at_rest m c d) (sym (complete-moved m c d f.moved) ∙ sym (complete-at m c d at) ∙ complete) in
+    let all = first_of_both (list_all (is_finished m.done c) (elements_of m.read c d)) _ rest in
+    absurd (true≢false (sym (all-last (is_finished m.done c) None (elements_of m.read c d) f.element refl all f.present_is) ∙ f.unfinished))) (λ z. z)
+
+pub complete-no_element : (m : Moves) (c : ℕ) (d : Command) → AreElements m c d → slice_get m.issued c ≡ Some d → is_complete m c ≡ true → has_element m c d ≡ false
+complete-no_element m c d els at complete = complete_or (is_list d.kind) (has_element m c d ≡ false)
+    (λ list. ap (λ b. is_list d.kind && not b && is_at_rest m c d) (there list (is_moved d) refl) ∙ ap (λ b. b && is_at_rest m c d) (and_off (is_list d.kind) false refl))
+    (λ plain. ap (λ b. b && not (are_all_there m.read c d) && is_at_rest m c d) plain)
+  where
+    barrier_off : (b s : Bool) → (not b && not s) ≡ false → b ≡ false → s ≡ true
+    barrier_off true s h e = absurd (true≢false e)
+    barrier_off false true h e = refl
+    barrier_off false false h e = absurd (true≢false h)
+
+    there : is_list d.kind ≡ true → (b : Bool) → is_moved d ≡ b → are_all_there m.read c d ≡ true
+    there list true moved = first_of_both (are_all_there m.read c d) (is_at_rest m c d) (sym (complete-moved m c d moved) ∙ sym (complete-at m c d at) ∙ complete)
+    there list false kept =
+        let z : (d.size == 0) ≡ true = barrier_off (is_barrier d.kind) (d.size == 0) kept (list-no_barrier d.kind list) in
+        let zero_size : d.size ≡ 0 = eq_is d.size 0 z in
+        let none : elements_in d ≡ d.size / 8 = rw list refl in
+        let few = els.few in
+        grind (arith, nat_tests)
+
+pub complete-not_left : (m : Moves) (c : ℕ) (d : Command) → slice_get m.issued c ≡ Some d → is_complete m c ≡ true → is_left m c d ≡ false
+complete-not_left m c d at complete = complete_or (is_moved d) (is_left m c d ≡ false)
+    (λ moved. ap (λ b. not b && not (was_retired m.retired c)) moved)
+    (λ kept. ap (λ b. not (is_moved d) && not b) (sym (complete-retired m c d kept) ∙ sym (complete-at m c d at) ∙ complete) ∙ and_off (not (is_moved d)) false refl)
+
+-- ---- the states of lists
+
+pub get-index : {X : Type 0} (xs : List X) (i : ℕ) (d x : X) → slice_get xs i ≡ Some x → slice_index_or xs i d ≡ x
+get-index [] i d x h = absurd (cc)
+get-index (y ∷ xs) zero d x h = cc
+get-index (y ∷ xs) (suc i) d x h = get-index xs i d x h
+
+pub list-there : (q : Queue) (lists : List (Option ListState)) (m : Moves) (c place : ℕ) (d : Command) (o : Option ListState) → ShowsLists q lists m → slice_get m.issued c ≡ Some d → is_list d.kind ≡ true
+    → place_in q c ≡ Some place → IsListOf (slice_index_or lists place o) m c d
+list-there q lists m c place d o shows at list placed =
+    let s = shows c place d at list placed in
+    let e : slice_index_or lists place o ≡ Some s.state = get-index lists place o (Some s.state) s.there in
+    (λ h. rw e s.stands, λ h. absurd (true≢false (sym list ∙ h)))
+
+-- a command with a state is a list, and one without is none
+pub list-kind : (m : Moves) (c : ℕ) (d : Command) (o : Option ListState) (s : ListState) → IsListOf o m c d → o ≡ Some s → (is_list d.kind ≡ true) × StandsForReading s (reading m c d)
+list-kind m c d o s is e = on (is_list d.kind) refl
+  where
+    on : (b : Bool) → is_list d.kind ≡ b → (is_list d.kind ≡ true) × StandsForReading s (reading m c d)
+    on true h = (h, subst (λ z. IsSomeAnd z (λ t. StandsForReading t (reading m c d))) e (is.0 h))
+    on false h = absurd (let n = is.1 h in cc)
+
+pub plain-kind : (m : Moves) (c : ℕ) (d : Command) (o : Option ListState) → IsListOf o m c d → o ≡ None → is_list d.kind ≡ false
+plain-kind m c d o is e = on (is_list d.kind) refl
+  where
+    on : (b : Bool) → is_list d.kind ≡ b → is_list d.kind ≡ false
+    on true h = absurd (subst (λ z. IsSomeAnd z (λ t. StandsForReading t (reading m c d))) e (is.0 h))
+    on false h = h
+
+pub present-plain : (m : Moves) (c : ℕ) (d : Command) → is_list d.kind ≡ false → present m.read c d ≡ Some (whole d)
+unfolding present
+present-plain m c d h = rw h refl
+
+pub on_some : {X : Type 0} (o : Option X) (R : X → Type 0) → ((x : X) → o ≡ Some x → R x) → IfSome o R
+on_some None R k = tt
+on_some (Some x) R k = k x refl
+
+pub on_none : {X : Type 0} (o : Option X) (R : Type 0) → (o ≡ None → R) → IfNone o R
+on_none None R k = k refl
+on_none (Some x) R k = tt
+
+-- an outstanding one begins, by a test that it passes, where none goes before it
+pub begins-open : (calls : List Call) (m : Moves) (c : ℕ) (f : Command → Bool) → ShowsMoves calls m → is_outstanding calls c ≡ true
+    → ((d : Command) → slice_get m.issued c ≡ Some d → f d ≡ true) → may_begin_calls calls c ≡ begins m c f
+begins-open calls m c f shows is passes =
+    let d = issued-is calls m c shows is in
+    begin-is calls m c shows ∙ sym (begins-at m c d.0 f d.1 ∙ ap (λ b. b && may_begin m c) (passes d.0 d.1))
+
+pub begins-not : (m : Moves) (c : ℕ) (f : Command → Bool) → ((d : Command) → slice_get m.issued c ≡ Some d → f d ≡ false) → begins m c f ≡ false
+begins-not m c f fails = get-either m.issued c (begins m c f ≡ false) (begins-none m c f) (λ d at. begins-at m c d f at ∙ ap (λ b. b && may_begin m c) (fails d at))
+
+pub left-open : (m : Moves) (c : ℕ) (d : Command) → slice_get m.issued c ≡ Some d → is_moved d ≡ false → is_complete m c ≡ false → is_left m c d ≡ true
+left-open m c d at kept open_yet =
+    let r : was_retired m.retired c ≡ false = sym (complete-retired m c d kept) ∙ sym (complete-at m c d at) ∙ open_yet in
+    rw (kept, r) refl
+
+pub left-moved : (m : Moves) (c : ℕ) (d : Command) → is_moved d ≡ true → is_left m c d ≡ false
+left-moved m c d moved = ap (λ b. not b && not (was_retired m.retired c)) moved
+
+pub plain-no_element : (m : Moves) (c : ℕ) (d : Command) → is_list d.kind ≡ false → has_element m c d ≡ false
+plain-no_element m c d plain = ap (λ b. b && not (are_all_there m.read c d) && is_at_rest m c d) plain
+
+-- the present element of an outstanding command has the parts of the queue, and those are done that are marked
+pub part-is : (calls : List Call) (m : Moves) (c e k : ℕ) (d : Command) (x : Element) → ShowsMoves calls m → slice_get m.issued c ≡ Some d → present m.read c d ≡ Some x
+    → x.number ≡ e → k < parts calls c → is_marked calls c k ≡ false → has_part m c e k d ≡ true
+part-is calls m c e k d x shows at p number less unmarked =
+    let n = shows.done.parts c d at in
+    let u : is_done m.done c e k ≡ false = ap (λ j. is_done m.done c j k) (sym number) ∙ sym (shows.done.marked c k d x at p) ∙ unmarked in
+    on n (is_moved d) refl u
+  where
+    on : parts calls c ≡ parts_now m.read c d → (b : Bool) → is_moved d ≡ b → is_done m.done c e k ≡ false → has_part m c e k d ≡ true
+    on n false kept u = absurd (let z : parts calls c ≡ 0 = n ∙ (rw kept refl) in omega arith)
+    on n true moved u =
+        let q : parts calls c ≡ parts_in x = n ∙ (rw (moved, p) refl) in
+        let l : nat_lt k (parts_in x) ≡ true = grind (arith, nat_tests) in
+        let s : (x.number == e) ≡ true = grind (arith, nat_tests) in
+        rw (moved, p) (rw (s, l, u) refl)
+
+pub elements-list : (m : Moves) (c : ℕ) (d : Command) → is_list d.kind ≡ true → elements_of m.read c d ≡ read_of m.read c
+elements-list m c d h = rw h refl
+
+-- the command of the calls, as it was issued
+pub issued-at : (calls : List Call) (m : Moves) (c : ℕ) (y : Command) → ShowsMoves calls m → slice_get (issued calls) c ≡ Some y → slice_get m.issued c ≡ Some y
+issued-at calls m c y shows got = subst (λ xs. slice_get xs c ≡ Some y) shows.done.issued got
 
 -- at most sixteen commands are outstanding
 pub few-outstanding : (q : Queue) (calls : List Call) → StandsFor q calls → length (outstanding_calls calls) ≤ 16
@@ -360,26 +320,6 @@ copied-put memory new store P x same is = rw is (ap (λ (s : List ℕ). record {
 pub copied-get : (memory new store : List ℕ) (P : Spe) (x : Part) → P.store ≡ store → new ≡ put store x.ls (slice_range memory x.ea (x.ea + x.len)) → copied memory P false x ≡ record { spe = record P { store = new }; memory = memory }
 unfolding copied
 copied-get memory new store P x same is = rw is (ap (λ (s : List ℕ). record { spe = record P { store = put s x.ls (slice_range memory x.ea (x.ea + x.len)) }; memory = memory }) same)
-
--- a part that is there is one of a command that is moved in pieces
-pub parts-there : (d : Command) (n k : ℕ) → n ≡ pieces_of d → k < n → (has_pieces d ≡ true) × (k < parts_of d.ea d.size)
-unfolding pieces_of
-parts-there d n k e l = on (has_pieces d) refl
-  where
-    on : (b : Bool) → has_pieces d ≡ b → (has_pieces d ≡ true) × (k < parts_of d.ea d.size)
-    on true h = (h, (let g : pieces_of d ≡ parts_of d.ea d.size = rw h refl in omega arith))
-    on false h = absurd (let g : pieces_of d ≡ 0 = rw h refl in omega arith)
-
--- what a piece that is copied and marked leaves
-pub piece-made : (y z : Processor) (P : Spe) (memory memory2 store store2 : List ℕ) (c e k : ℕ) (d : Command) → may_piece P c e k ≡ true → slice_get P.moves.issued c ≡ Some d → P.store ≡ store
-    → ((Q : Spe) → Q.store ≡ store → copied memory Q (is_put d.kind) (part_of d.ls d.ea d.size k) ≡ record { spe = record Q { store = store2 }; memory = memory2 })
-    → ShowsSpe y (record P { store = store2 })
-    → ((Q : Spe) → ShowsSpe y Q → has_part Q.moves c k ≡ true → ShowsSpe z (record Q { moves = with_done Q.moves c k }))
-    → IsSomeAnd (piece memory P c e k) (λ x. ShowsSpe z x.spe × (x.memory ≡ memory2))
-piece-made y z P memory memory2 store store2 c e k d may at same copies shows marks =
-    let some : piece memory P c e k ≡ Some (record { spe = record P { store = store2; moves = with_done P.moves c k }; memory = memory2 }) =
-    piece-some memory P c e k d may at ∙ ap (λ r. Some r) (copies (record P { moves = with_done P.moves c k }) same) in
-    rw some (marks (record P { store = store2 }) shows (piece-facts P c e k may).1, refl)
 
 pub status-off : (P : Spe) (rt : ℕ) (o : Option TagStatus) → is_some o ≡ false → read_status P rt o ≡ None
 status-off P rt None h = refl

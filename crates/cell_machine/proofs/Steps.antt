@@ -5,6 +5,7 @@ use Rattle.std.proofs.lemmas.List.{map-set}
 use Rattle.tag_groups.specs.declared.Tags.{Tags}
 use Rattle.tag_groups.specs.declared.Request.{Request}
 use Rattle.tag_groups.specs.Settle.{settled_tags, fixed_at, is_met}
+use Rattle.cell_base.specs.declared.steps.Step.{Step}
 use Rattle.cell_base.specs.declared.steps.Step.TheVariants.{Exec, Elem, Atomic}
 use Rattle.cell_host.specs.Script.{Progress}
 use Rattle.cell_machine.specs.declared.processor.Processor.{Processor}
@@ -14,9 +15,9 @@ use Rattle.cell_machine.specs.Tags.{settled}
 use Rattle.cell_machine.specs.Exec.{exec}
 use Rattle.cell_machine.specs.Transfers.{elem, Left}
 use Rattle.cell_machine.specs.Atomic.{atomic}
-use Rattle.cell_machine.specs.Next.{act, lines_of, with_left, settled_in, in_spe}
+use Rattle.cell_machine.specs.Next.{act, act_in, own, left, lines_of, with_left, settled_in}
 use Rattle.cell_machine.specs.Shows.{Shows, ShowsSpe, AllTwo, AreSettled}
-use Rattle.cell_machine.proofs.AllTwo.{two_at, two_none, two_set, two_and_then, some_map}
+use Rattle.cell_machine.proofs.AllTwo.{two_at, two_none, two_set, some_map}
 
 -- a processor that isn't there makes no step
 pub act-absent : {memory : List ℕ} {host : Progress} {X : Type 0} (f : Spe → Option X) (processors : List Processor) (M : State) (p : ℕ) → Shows processors memory host M → length processors ≤ p → option_and_then f (slice_get M.spes p) ≡ None
@@ -52,19 +53,6 @@ state-step processors M N p new P shows all spes is same one = record {
 }
 
 -- the call of the processor at p did the step, or left all as it was
-pub act-in_spe : {memory : List ℕ} {host : Progress} (f : Spe → Option Spe) (processors : List Processor) (d new : Processor) (M : State) (p : ℕ) (made : Bool) → Shows processors memory host M → AreSettled M.spes → p < length processors
-    → ((P : Spe) → ShowsSpe (slice_index_or processors p d) P → MatchBool made (IsSomeAnd (f P) (λ Q. ShowsSpe new (settled Q))) (f P ≡ None))
-    → MatchBool made (IsSomeAnd (in_spe M p f) (λ N. Shows (slice_set processors p new) memory host (settled_in N))) (in_spe M p f ≡ None)
-act-in_spe f processors d new M p true shows all h does =
-    let two = two_at ShowsSpe processors M.spes p d shows.spes h in
-    rw two.1 (some_map (with_spe M p) (f two.0) (λ Q. ShowsSpe new (settled Q)) (λ N. Shows (slice_set processors p new) _ _ (settled_in N))
-    (λ Q r. state-step processors M (with_spe M p Q) p new Q shows all refl shows.memory_is refl r)
-    (does two.0 two.2))
-act-in_spe f processors d new M p false shows all h does =
-    let two = two_at ShowsSpe processors M.spes p d shows.spes h in
-    let none : f two.0 ≡ None = does two.0 two.2 in
-    rw (two.1, none) refl
-
 pub act-left : {memory : List ℕ} {host : Progress} (memory2 : List ℕ) (f : List ℕ → Spe → Option Left) (processors : List Processor) (d new : Processor) (M : State) (p : ℕ) (made : Bool) → Shows processors memory host M → AreSettled M.spes → p < length processors
     → ((P : Spe) → ShowsSpe (slice_index_or processors p d) P → MatchBool made (IsSomeAnd (f memory P) (λ x. ShowsSpe new (settled x.spe) × (x.memory ≡ memory2))) (f memory P ≡ None))
     → MatchBool made (IsSomeAnd (option_and_then (λ P. option_map (with_left M p) (f M.memory P)) (slice_get M.spes p)) (λ N. Shows (slice_set processors p new) memory2 host (settled_in N))) (option_and_then (λ P. option_map (with_left M p) (f M.memory P)) (slice_get M.spes p) ≡ None)
@@ -80,23 +68,36 @@ act-left {memory = memory} memory2 f processors d new M p false shows all h does
     let none : f M.memory two.0 ≡ None = ap (λ m. f m two.0) shows.memory_is ∙ does two.0 two.2 in
     rw (two.1, none) refl
 
-pub lines-is : {memory : List ℕ} {host : Progress} (processors : List Processor) (M : State) (lines : ℕ) → Shows processors memory host M → 128 * lines ≡ length memory → lines_of M ≡ lines
-lines-is processors M lines shows long = let e : length M.memory ≡ 128 * lines = ap length shows.memory_is ∙ sym long in omega arith
+pub act-own : {memory : List ℕ} {host : Progress} (memory2 : List ℕ) (s : Step) (processors : List Processor) (d new : Processor) (M : State) (p : ℕ) (made : Bool) → Shows processors memory host M → AreSettled M.spes → p < length processors
+    → ((P : Spe) → ShowsSpe (slice_index_or processors p d) P → MatchBool made (IsSomeAnd (own memory s P) (λ x. ShowsSpe new (settled x.spe) × (x.memory ≡ memory2))) (own memory s P ≡ None))
+    → MatchBool made (IsSomeAnd (act_in M p s) (λ N. Shows (slice_set processors p new) memory2 host (settled_in N))) (act_in M p s ≡ None)
+act-own memory2 s processors d new M p made shows all h does = act-left memory2 (λ m P. own m s P) processors d new M p made shows all h does
 
-pub exec-lines : {memory : List ℕ} {host : Progress} (processors : List Processor) (M : State) (p lines : ℕ) → Shows processors memory host M → 128 * lines ≡ length memory → act M (Exec p) ≡ in_spe M p (exec lines)
-exec-lines processors M p lines shows long = ap (λ n. in_spe M p (exec n)) (lines-is processors M lines shows long)
+-- a step that leaves the memory
+pub left-alone : (memory : List ℕ) (o : Option Spe) (R : Spe → Type 0) (made : Bool) → MatchBool made (IsSomeAnd o R) (o ≡ None)
+    → MatchBool made (IsSomeAnd (option_map (left memory) o) (λ x. R x.spe × (x.memory ≡ memory))) (option_map (left memory) o ≡ None)
+left-alone memory None R true h = h
+left-alone memory (Some Q) R true h = (h, refl)
+left-alone memory o R false h = rw h refl
 
--- no list command and no atomic command has a step
-spe-elem : (M : State) (p c : ℕ) (x : Processor) (P : Spe) → ShowsSpe x P → option_map (with_spe M p) (elem P c) ≡ None
-unfolding elem
-spe-elem M p c x P shows = refl
+pub lines-is : (memory : List ℕ) (lines : ℕ) → 128 * lines ≡ length memory → lines_of memory ≡ lines
+lines-is memory lines long = omega arith
 
-spe-atomic : (M : State) (p : ℕ) (x : Processor) (P : Spe) → ShowsSpe x P → option_map (with_spe M p) (atomic P) ≡ None
+pub exec-own : (memory : List ℕ) (p lines : ℕ) (P : Spe) (R : Spe → Type 0) (made : Bool) → 128 * lines ≡ length memory → MatchBool made (IsSomeAnd (exec lines P) R) (exec lines P ≡ None)
+    → MatchBool made (IsSomeAnd (own memory (Exec p) P) (λ x. R x.spe × (x.memory ≡ memory))) (own memory (Exec p) P ≡ None)
+exec-own memory p lines P R made long h =
+    left-alone memory (exec (lines_of memory) P) R made (subst (λ n. MatchBool made (IsSomeAnd (exec n P) R) (exec n P ≡ None)) (sym (lines-is memory lines long)) h)
+
+pub elem-own : (memory : List ℕ) (p lines c : ℕ) (P : Spe) (R : Spe → Type 0) (made : Bool) → 128 * lines ≡ length memory → MatchBool made (IsSomeAnd (elem lines P c) R) (elem lines P c ≡ None)
+    → MatchBool made (IsSomeAnd (own memory (Elem p c) P) (λ x. R x.spe × (x.memory ≡ memory))) (own memory (Elem p c) P ≡ None)
+elem-own memory p lines c P R made long h =
+    left-alone memory (elem (lines_of memory) P c) R made (subst (λ n. MatchBool made (IsSomeAnd (elem n P c) R) (elem n P c ≡ None)) (sym (lines-is memory lines long)) h)
+
+-- no atomic command has a step
+pub act-atomic : (M : State) (p : ℕ) → act M (Atomic p) ≡ None
 unfolding atomic
-spe-atomic M p x P shows = refl
-
-pub act-elem : {memory : List ℕ} {host : Progress} (processors : List Processor) (M : State) (p c : ℕ) → Shows processors memory host M → act M (Elem p c) ≡ None
-act-elem processors M p c shows = two_and_then ShowsSpe (λ P. option_map (with_spe M p) (elem P c)) processors M.spes p (spe-elem M p c) shows.spes
-
-pub act-atomic : {memory : List ℕ} {host : Progress} (processors : List Processor) (M : State) (p : ℕ) → Shows processors memory host M → act M (Atomic p) ≡ None
-act-atomic processors M p shows = two_and_then ShowsSpe (λ P. option_map (with_spe M p) (atomic P)) processors M.spes p (spe-atomic M p) shows.spes
+act-atomic M p = on (slice_get M.spes p)
+  where
+    on : (o : Option Spe) → option_and_then (λ P. option_map (with_left M p) (own M.memory (Atomic p) P)) o ≡ None
+    on None = refl
+    on (Some P) = refl

@@ -11,7 +11,7 @@ use Rattle.mfc_queue.specs.declared.Queue.{Queue}
 use Rattle.mfc_queue.specs.Calls.{Call, issued, is_retired, parts, is_marked}
 use Rattle.mfc_queue.specs.Stands.{StandsFor, place_in}
 use Rattle.cell_machine.specs.Spe.{Moves, ElementRead}
-use Rattle.cell_machine.specs.Moves.{read_of, elements_of, present, parts_in, is_moved, is_done, is_finished, is_stalled, is_resumed, was_retired, is_complete}
+use Rattle.cell_machine.specs.Moves.{read_of, elements_in, elements_of, present, parts_in, is_moved, is_done, is_finished, is_stalled, is_resumed, was_retired, is_complete}
 
 -- ---- the calls made on a queue
 
@@ -26,8 +26,9 @@ pub record IsUntouched (m : Moves) (c : ℕ) : Type 0 where
 abbrev pub parts_now : List ElementRead → ℕ → Command → ℕ
 parts_now read c d = if is_moved d then option_map_or parts_in (present read c d) 0 else 0
 
--- the elements that were read have their numbers, and all but the present one are finished; nothing was done of later ones
+-- no more elements were read than there are, they have their numbers, and all but the present one are finished; nothing was done of later ones
 pub record AreElements (m : Moves) (c : ℕ) (d : Command) : Type 0 where
+  pub few : length (elements_of m.read c d) ≤ elements_in d
   pub numbers : (n : ℕ) (x : Element) → slice_get (elements_of m.read c d) n ≡ Some x → x.number ≡ n
   pub earlier : (n : ℕ) (x y : Element) → slice_get (elements_of m.read c d) n ≡ Some x → present m.read c d ≡ Some y → n < y.number → is_finished m.done c x ≡ true
   pub later : (e k : ℕ) → length (elements_of m.read c d) ≤ e → is_done m.done c e k ≡ false

@@ -1,5 +1,5 @@
 -- What the code's parts stand for.
-use Rattle.std.specs.Prelude.{◌≡◌, ℕ, ◌≤◌, true, false, IsSomeAnd, IfSome, map, List, [], ◌∷◌, length, Option, Some, None, All, slice_get}
+use Rattle.std.specs.Prelude.{◌≡◌, ℕ, ◌≤◌, ◌<◌, true, false, IsSomeAnd, IfSome, map, List, [], ◌∷◌, length, Option, Some, None, All, slice_get}
 use Rattle.cell_base.specs.declared.steps.Step.{Step}
 use Rattle.cell_machine.specs.declared.commands.Commands.{Commands}
 use Rattle.cell_machine.specs.declared.memory.SharedMemory.{SharedMemory}
@@ -36,6 +36,12 @@ ShowsCommands c m = ShowsQueue c.queue c.lists m
 -- how far command c, which is d, has come, if it is a list
 abbrev pub IsListOf : Option ListState → Moves → ℕ → Command → Type 0
 IsListOf o m c d = (is_list d.kind ≡ true → IsSomeAnd o (λ s. StandsForReading s (reading m c d))) × (is_list d.kind ≡ false → o ≡ None)
+
+-- one more command may be issued
+pub record CanIssue (commands : Commands) : Type 0 where
+  pub moves : Moves
+  pub shows : ShowsCommands commands moves
+  pub few : length moves.issued < 1000000
 
 -- part k of command c may be marked
 pub record CanMark (commands : Commands) (c k : ℕ) : Type 0 where

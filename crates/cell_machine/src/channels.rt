@@ -7,7 +7,7 @@ ghost use Rattle.spu_exec.specs.Meaning.{meaning};
 ghost use Rattle.spu_exec.specs.Places.{RegisterFits};
 ghost use Rattle.cell_machine.specs.Spe.{Spe};
 ghost use Rattle.mfc_queue.specs.Calls.{Call, outstanding};
-ghost use Rattle.mfc_queue.specs.Stands.{StandsFor, HasNumber};
+ghost use Rattle.mfc_queue.specs.Stands.{StandsFor};
 ghost use Rattle.cell_machine.specs.Channels.{channel, count, is_atomic, may_write, given, went_on, read_inbound, read_status, read_atomic, read_stalls, acknowledged, commanded};
 ghost use Rattle.cell_machine.specs.Exec.{op_of};
 
@@ -52,7 +52,7 @@ fn is_param(ch: u8) -> bool
 }
 
 impl Processor {
-    ghost use Rattle.cell_machine.specs.Shows.{ShowsSpe, ShowsChannels};
+    ghost use Rattle.cell_machine.specs.Shows.{ShowsSpe, ShowsChannels, CanIssue};
 
     /// The count of a channel.
     fn count(&self, ch: u8) -> u32
@@ -84,7 +84,7 @@ impl Processor {
         ensures { (P : Spe) → ShowsSpe self.old P → ShowsSpe self.new (given P rt value) }
     {
         self.registers.set(rt, Quad::in_first_word(value));
-        self.pc = next_pc(self.pc);
+        self.go_on();
     }
 
     /// Reads a channel, and says whether that was allowed.
@@ -193,7 +193,7 @@ impl Processor {
 
     /// Writes a value to a channel, and says whether that was allowed.
     fn write_channel(&mut self, lines: u32, ch: u8, value: u32) -> bool
-        requires number { HasNumber self.old.commands.queue }
+        requires number { CanIssue self.old.commands }
         requires lines { lines ≤ 524288 }
         ensures made { (P : Spe) → ShowsSpe self.old P → MatchBool result (IsSomeAnd (channel lines P (ChannelOp.Write ch value)) (ShowsSpe self.new)) (channel lines P (ChannelOp.Write ch value) ≡ None) }
         ensures refused { OnFalse result (self.new ≡ self.old) }
@@ -226,7 +226,7 @@ impl Processor {
 
     /// Lets all lists of a tag that stall go on.
     fn acknowledge(&mut self, tag: u32)
-        requires { HasNumber self.old.commands.queue }
+        requires { CanIssue self.old.commands }
         ensures { (P : Spe) → ShowsSpe self.old P → ShowsSpe self.new (acknowledged P tag) }
     {
         self.commands.acknowledge(tag);
@@ -258,7 +258,7 @@ impl Processor {
 
     /// Asks for a command, if that is allowed.
     fn write_command(&mut self, lines: u32, op: u32) -> bool
-        requires number { HasNumber self.old.commands.queue }
+        requires number { CanIssue self.old.commands }
         requires lines { lines ≤ 524288 }
         ensures made { (P : Spe) → ShowsSpe self.old P → MatchBool result (IsSomeAnd (channel lines P (ChannelOp.Write 21 op)) (ShowsSpe self.new)) (channel lines P (ChannelOp.Write 21 op) ≡ None) }
         ensures refused { OnFalse result (self.new ≡ self.old) }
@@ -273,7 +273,7 @@ impl Processor {
     /// Issues the command that is asked for and goes on, or comes to a fault.
     #[tactic(auto, unfolding(crate::specs::Channels::commanded))]
     fn command(&mut self, lines: u32, op: u32)
-        requires number { HasNumber self.old.commands.queue }
+        requires number { CanIssue self.old.commands }
         requires lines { lines ≤ 524288 }
         requires free { is_atomic op ≡ false → (calls : List Call) → StandsFor self.old.commands.queue calls → length (outstanding calls) < 16 }
         requires slot { is_atomic op ≡ true → self.old.channels.slot ≡ None }
@@ -318,7 +318,7 @@ impl Processor {
         if self.outbound.put(value).is_err() {
             return false;
         }
-        self.pc = next_pc(self.pc);
+        self.go_on();
         true
     }
 
@@ -330,14 +330,14 @@ impl Processor {
         if self.interrupt.put(value).is_err() {
             return false;
         }
-        self.pc = next_pc(self.pc);
+        self.go_on();
         true
     }
 
     /// Does a channel operation, and says whether it was allowed. Where it wasn't, nothing changes.
     pub(crate) fn channel(&mut self, lines: u32, op: ChannelOp) -> bool
         requires register { RegisterFits op }
-        requires number { HasNumber self.old.commands.queue }
+        requires number { CanIssue self.old.commands }
         requires lines { lines ≤ 524288 }
         ensures made { (P : Spe) → ShowsSpe self.old P → MatchBool result (IsSomeAnd (channel lines P op) (ShowsSpe self.new)) (channel lines P op ≡ None) }
         ensures refused { OnFalse result (self.new ≡ self.old) }

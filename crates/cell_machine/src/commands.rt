@@ -1,6 +1,6 @@
 //! The queued commands of a processor, and how far its lists have come.
 
-ghost use Rattle.std.specs.Prelude.{◌≡◌, ◌≢◌, ℕ, ◌+◌, ◌<◌, ◌≤◌, [], ◌∷◌, length, is_some, true, false, None, Some, List, IfSome, IfNone, IsSome, slice_get, slice_set, filter_map};
+ghost use Rattle.std.specs.Prelude.{◌≡◌, ◌≢◌, ℕ, ◌+◌, ◌<◌, ◌≤◌, [], ◌∷◌, length, is_some, true, false, None, Some, List, IfSome, IfNone, IsSome, slice_get, filter_map};
 ghost use Rattle.std.specs.Bool.{OnTrue};
 ghost use Rattle.mfc_command.specs.declared.command.Command.{Command};
 ghost use Rattle.mfc_command.specs.declared.command.Order.TheVariants.{Queued};
@@ -9,7 +9,7 @@ ghost use Rattle.mfc_command.specs.Order.{is_list};
 ghost use Rattle.mfc_lists.specs.declared.Element.{Element};
 ghost use Rattle.mfc_lists.specs.Readings.{Reading, StandsFor as StandsForReading, current, finished, with_element, current_of, has_next};
 ghost use Rattle.mfc_queue.specs.Calls.{Call, outstanding};
-ghost use Rattle.mfc_queue.specs.Stands.{StandsFor, IsOneOf, HasNumber, place_in};
+ghost use Rattle.mfc_queue.specs.Stands.{StandsFor, IsOneOf};
 ghost use Rattle.cell_machine.specs.Spe.{Moves};
 ghost use Rattle.mfc_lists.specs.Elements.{ElementFits};
 ghost use Rattle.cell_machine.specs.Moves.{is_moved, read_of, whole, present, is_stalled, stall_of_tag, stalls_of_tag};
@@ -90,8 +90,8 @@ fn parts_begun(command: &Command) -> u32
 
 impl Commands {
     ghost use Rattle.cell_machine.specs.Opening.{no_moves};
-    ghost use Rattle.cell_machine.specs.MovesShown.{ShowsQueueBut};
-    ghost use Rattle.cell_machine.specs.Shows.{ShowsCommands, IsListOf, CanMark, HasRead};
+    ghost use Rattle.cell_machine.specs.MovesShown.{ShowsLists, ShowsOtherLists, ShowsQueueBut};
+    ghost use Rattle.cell_machine.specs.Shows.{ShowsCommands, CanIssue, IsListOf, CanMark, HasRead};
 
     /// No commands.
     pub(crate) fn new() -> Commands
@@ -105,7 +105,7 @@ impl Commands {
 
     /// Issues a command, where the queue has a free place.
     pub(crate) fn issue(&mut self, lines: u32, command: Command)
-        requires number { HasNumber self.old.queue }
+        requires number { CanIssue self.old }
         requires lines { lines ≤ 524288 }
         requires fits { OrderFits lines (Queued command) }
         requires free { (calls : List Call) → StandsFor self.old.queue calls → length (outstanding calls) < 16 }
@@ -152,7 +152,7 @@ impl Commands {
     }
 
     /// The element that part `k` of element `elem` of a command is of, where that part may be copied.
-    pub(crate) fn part_left(&self, cmd: u32, elem: u16, k: u16) -> Option<Element>
+    pub(crate) fn part_left(&self, cmd: u32, elem: u16, k: u32) -> Option<Element>
         requires { IsKept self.now.queue }
         ensures may { (m : Moves) → ShowsCommands self.now m → is_some result ≡ begins m cmd (has_part m cmd elem k) }
         ensures some { IfSome result (λ x. (m : Moves) (d : Command) → ShowsCommands self.now m → slice_get m.issued cmd ≡ Some d → present m.read cmd d ≡ Some x) }
@@ -165,10 +165,10 @@ impl Commands {
         if x.number != elem {
             return None;
         }
-        if u32::from(k) >= self.queue.parts(cmd) {
+        if k >= self.queue.parts(cmd) {
             return None;
         }
-        if self.queue.done(cmd, u32::from(k)) {
+        if self.queue.done(cmd, k) {
             return None;
         }
         if !self.queue.may_start(cmd) {
@@ -188,7 +188,9 @@ impl Commands {
         if self.queue.place(cmd).is_none() {
             return None;
         }
-        let list = self.list(cmd)?;
+        let Some(list) = self.list(cmd) else {
+            return None;
+        };
         if list.next_at().is_none() {
             return None;
         }
@@ -219,7 +221,7 @@ impl Commands {
     fn set_list(&mut self, cmd: u32, list: ListState)
         requires { IsOneOf self.old.queue cmd }
         ensures queue { self.new.queue ≡ self.old.queue }
-        ensures list { (place : ℕ) → place_in self.old.queue cmd ≡ Some place → self.new.lists ≡ slice_set self.old.lists place (Some list) }
+        ensures lists { (m : Moves) (d : Command) → ShowsOtherLists self.old.queue self.old.lists m cmd → slice_get m.issued cmd ≡ Some d → StandsForReading list (reading m cmd d) → ShowsLists self.old.queue self.new.lists m }
     {
         match self.queue.place(cmd) {
             Some(place) => self.lists[place as usize] = Some(list),
@@ -242,7 +244,7 @@ impl Commands {
     fn finish(&mut self, cmd: u32, list: ListState) -> bool
         requires one { IsOneOf self.old.queue cmd }
         requires progress { IsSome (current_of list) }
-        ensures ended { (m : Moves) (d : Command) (r : Reading) (x : Element) → ShowsQueueBut self.old.queue self.old.lists m cmd → slice_get m.issued cmd ≡ Some d → is_list d.kind ≡ true → d.size ≢ 0 → StandsForReading list r → current r ≡ Some x → reading m cmd d ≡ finished r x → ShowsCommands self.new m × (result ≡ is_stalled m cmd d) }
+        ensures { (m : Moves) (d : Command) (r : Reading) (x : Element) → ShowsQueueBut self.old.queue self.old.lists m cmd → slice_get m.issued cmd ≡ Some d → is_list d.kind ≡ true → d.size ≢ 0 → StandsForReading list r → current r ≡ Some x → reading m cmd d ≡ finished r x → ShowsCommands self.new m × (result ≡ is_stalled m cmd d) }
     {
         let mut ended = list;
         let stalls = ended.finish();
@@ -315,7 +317,7 @@ impl Commands {
 
     /// Lets all commands of a tag that stall go on.
     pub(crate) fn acknowledge(&mut self, tag: u32)
-        requires { IsKept self.old.queue }
+        requires { CanIssue self.old }
         ensures { (m : Moves) → ShowsCommands self.old m → ShowsCommands self.new (with_resumed m (stalls_of_tag m tag)) }
     {
         let mut next = 0;

@@ -271,9 +271,10 @@ impl Machine {
     }
 
     /// The steps made so far, which are a run from its setup. Each step of a queued command comes after the commands that go
-    /// before it are complete (CBEA, "Command ordering"), and what is complete stays complete. The elements of a list are read
-    /// in their order, each after the one before it was copied and, where it stalls, acknowledged. A PUTLLC stores exactly where
-    /// its processor's latest GETLLAR or PUTLLC was a GETLLAR of that line and no store has touched the line since.
+    /// before it are complete (CBEA, "Command ordering"), what is complete stays complete, and a command keeps its number.
+    /// The elements of a list are read in their order, each after the one before it was copied and, where the list stalls behind
+    /// it, that was acknowledged. A PUTLLC stores exactly where its processor's latest GETLLAR or PUTLLC was a GETLLAR of that line
+    /// and no store has touched the line since.
     pub fn steps(&self) -> &[Step]
         ensures steps { result.now ≡ self.now.steps }
         ensures run { IsRun self.now.setup self.now.steps }

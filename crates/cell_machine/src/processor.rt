@@ -4,7 +4,6 @@ ghost use Rattle.std.specs.Prelude.{◌≡◌, ℕ, ◌+◌, ◌≤◌, List, le
 ghost use Rattle.std.specs.Bool.{OnFalse};
 ghost use Rattle.spu_exec.specs.Places.{IsPlace, LeadsToPlace, RegisterFits};
 ghost use Rattle.cell_base.specs.declared.steps.ChannelOp.{ChannelOp};
-ghost use Rattle.mfc_queue.specs.Stands.{HasNumber};
 ghost use Rattle.cell_machine.specs.Spe.{Spe, is_running};
 ghost use Rattle.cell_machine.specs.Moves.{outstanding};
 ghost use Rattle.cell_machine.specs.Tags.{settled};
@@ -60,7 +59,7 @@ fn place_bytes(store: &mut LocalStore, spe: u8, placed: &[PlacedBytes])
 
 impl Processor {
     ghost use Rattle.cell_machine.specs.Opening.{Opening, opening_spe};
-    ghost use Rattle.cell_machine.specs.Shows.{ShowsSpe};
+    ghost use Rattle.cell_machine.specs.Shows.{ShowsSpe, CanIssue};
     ghost use Rattle.cell_machine.specs.Run.{is_quiet_spe};
 
     /// A processor at its start.
@@ -100,7 +99,7 @@ impl Processor {
     /// Goes where an instruction leads, and says whether that was allowed.
     fn follow(&mut self, lines: u32, flow: Flow) -> bool
         requires leads { LeadsToPlace flow }
-        requires number { HasNumber self.old.commands.queue }
+        requires number { CanIssue self.old.commands }
         requires lines { lines ≤ 524288 }
         requires channel { (op : ChannelOp) → flow ≡ Flow.Channel op → RegisterFits op }
         ensures made { (P : Spe) → ShowsSpe self.old P → MatchBool result (IsSomeAnd (followed lines P flow) (ShowsSpe self.new)) (followed lines P flow ≡ None) }
@@ -128,7 +127,7 @@ impl Processor {
 
     /// Makes the next instruction, and says whether it was allowed. Where it wasn't, nothing changes.
     fn exec(&mut self, lines: u32) -> bool
-        requires number { HasNumber self.old.commands.queue }
+        requires number { CanIssue self.old.commands }
         requires lines { lines ≤ 524288 }
         ensures made { (P : Spe) → ShowsSpe self.old P → MatchBool result (IsSomeAnd (exec lines P) (ShowsSpe self.new)) (exec lines P ≡ None) }
         ensures refused { OnFalse result (self.new ≡ self.old) }
@@ -146,7 +145,7 @@ impl Processor {
 
     /// Makes the next instruction and settles, or leaves all as it is where the instruction isn't allowed.
     pub(crate) fn exec_step(&mut self, lines: u32) -> bool
-        requires number { HasNumber self.old.commands.queue }
+        requires number { CanIssue self.old.commands }
         requires lines { lines ≤ 524288 }
         ensures made { (P : Spe) → ShowsSpe self.old P → MatchBool result (IsSomeAnd (exec lines P) (λ Q. ShowsSpe self.new (settled Q))) (exec lines P ≡ None) }
         ensures refused { OnFalse result (self.new ≡ self.old) }

@@ -1,6 +1,6 @@
 //! What a machine begins with.
 
-ghost use Rattle.std.specs.Prelude.{All, ◌≡◌, ℕ, ◌+◌, ◌*◌, ◌%◌, ◌<◌, ◌≤◌, ◌≢◌, ◌↔◌, [], ◌∷◌, ◌++◌, length, slice_set, IfOk, IsTrue, OnErr, OnOk};
+ghost use Rattle.std.specs.Prelude.{All, ◌≡◌, ℕ, ◌+◌, ◌*◌, ◌%◌, ◌<◌, ◌≤◌, ◌↔◌, [], ◌∷◌, ◌++◌, length, slice_set, IfOk, IsTrue, OnErr, OnOk};
 ghost use Rattle.spu_exec.specs.Places.{IsPlace};
 ghost use Rattle.cell_machine.specs.Limits.{AreMachineLimits, FitsShow, MayShow, FitsAction, MayAct};
 
@@ -82,11 +82,12 @@ pub enum SetupError {
 }
 
 impl Setup {
-    /// A setup with no processor, of 1 to 32,768 lines and with a budget of 1 to 1,000,000 steps; `Limit` outside of these.
+    /// A setup with no processor, of 1 to 32,768 lines and with a budget of 1 to 1,000,000 steps; `Limit` exactly outside of these.
+    /// It takes no memory.
     pub fn new(alloc: Global, lines: u32, budget: u32) -> Result<Setup, SetupError>
         ensures made { IfOk result (λ s. s ≡ record { lines = lines; budget = budget; entries = []; placed = []; memory = []; actions = []; shows = [] }) }
         ensures limits { OnOk result (AreMachineLimits lines budget) }
-        ensures refused { AreMachineLimits lines budget → result ≢ Err SetupError.Limit }
+        ensures refused { OnErr result ((result ≡ Err SetupError.Limit) × (AreMachineLimits lines budget → ⊥)) }
     {
         if lines == 0 || lines > MOST_LINES || budget == 0 || budget > MOST_STEPS {
             return Err(SetupError::Limit);

@@ -114,7 +114,7 @@ impl Processor {
         if self.is_faulted() {
             return false;
         }
-        let Some(x) = self.commands.part_left(cmd, elem, k) else {
+        let Some(x) = self.commands.part_left(cmd, elem, k as u32) else {
             return false;
         };
         let command = self.commands.queue.command(cmd);
@@ -123,9 +123,9 @@ impl Processor {
             memory,
             is_put(command.kind),
             x,
-            u32::from(k),
+            k as u32,
         );
-        let stalls = self.commands.mark(cmd, u32::from(k));
+        let stalls = self.commands.mark(cmd, k as u32);
         self.tell(stalls, command.tag);
         true
     }

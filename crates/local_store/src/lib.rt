@@ -45,14 +45,14 @@ impl LocalStore {
     pub fn new(alloc: Global) -> Result<LocalStore, StoreError>
         ensures { IfOk result (λ s. s ≡ zeros 262144) }
     {
-        let bytes = vec![in alloc; 0u8; 262_144]?;
+        let bytes = vec![in alloc; 0u8; STORE_BYTES]?;
         Ok(LocalStore { bytes })
     }
 
     /// All bytes, from address 0 on.
     pub fn bytes(&self) -> &[u8]
         ensures all { result.now ≡ self.now }
-        ensures count { length self.now ≡ 262144 }
+        ensures count { length self.now ≡ STORE_BYTES }
     {
         self.bytes.as_slice()
     }

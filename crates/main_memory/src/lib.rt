@@ -10,9 +10,6 @@ use std::marker::Model;
 /// How many bytes a line has.
 pub const LINE_BYTES: u32 = 128;
 
-/// The most lines that a memory can have.
-pub const MAX_LINES: u32 = 524_288;
-
 /// There was no room for the memory.
 #[derive(Clone, Copy, Debug, PartialEq, Eq)]
 pub enum MemoryError {
@@ -56,7 +53,7 @@ impl Memory {
 
     /// How many lines of 128 bytes there are.
     pub fn lines(&self) -> u32
-        ensures count { 128 * result ≡ length self.now }
+        ensures count { LINE_BYTES * result ≡ length self.now }
         ensures few { result ≤ 524288 }
     {
         self.lines
@@ -118,7 +115,7 @@ mod tests {
     /// The greatest memory.
     #[test]
     fn has_room_for_all_lines(rt: HostRuntime) -> Result<(), MemoryError> {
-        let memory = Memory::new(rt.alloc(), MAX_LINES)?;
+        let memory = Memory::new(rt.alloc(), 524_288)?;
         assert_eq!(rt; memory.bytes().len(), 67_108_864);
         Ok(())
     }

@@ -1,7 +1,8 @@
 -- What a queue holds after one more call.
 use Rattle.std.proofs.Common.{◌≡◌, ◌≢◌, ℕ, zero, suc, ◌+◌, ◌*◌, ◌%◌, ◌<◌, ◌≤◌, ◌==◌, ◌||◌, ◌&&◌, not, Bool, true, false, List, [], ◌∷◌, ◌++◌, length, map, slice_index_or, slice_set, arith, refl, sym, ◌∙◌, ap, subst, length-append, append-nil, true≢false}
-use Rattle.std.specs.Prelude.{bit_or, ◌^◌, Option, Some, None, is_some, nat_lt, fold, filter, cond, All, slice_get, IfSome, IfNone}
+use Rattle.std.specs.Prelude.{bit_or, ◌^◌, find, Option, Some, None, is_some, nat_lt, fold, filter, cond, All, slice_get, IfSome, IfNone}
 use Rattle.std.specs.List.{list_any, list_all, range_with_len}
+use Rattle.std.specs.Option.{option_map}
 use Rattle.std.proofs.lemmas.Bool.Decides.{nat_tests}
 use mathlib.Core.Path.{fun_ext}
 use Rattle.std.proofs.Math.Pow.{pow-lt}
@@ -11,7 +12,7 @@ use Rattle.mfc_queue.specs.declared.Held.{Held}
 use Rattle.mfc_queue.specs.declared.Queue.{Queue}
 use Rattle.mfc_queue.specs.Sets.{has_part}
 use Rattle.mfc_queue.specs.Calls.{Call, Issue, SetParts, Mark, Retire, issued, is_retired, is_outstanding, outstanding, parts, is_marked, left, all_marked, may_begin, is_of_tag}
-use Rattle.mfc_queue.specs.Stands.{StandsFor, Holds, IsUnknown, IsOneOf, HasPart, Entry, entry, KnowsBefore}
+use Rattle.mfc_queue.specs.Stands.{StandsFor, place_in, Holds, IsUnknown, IsOneOf, HasPart, Entry, entry, KnowsBefore}
 use Rattle.std.proofs.lemmas.List.{get_or-set_same, get_or-set_other, length-set}
 use Rattle.std.proofs.lemmas.List.Elements.{All-append, All-filter, filter-append}
 use Rattle.std.proofs.Math.Seq.{map-set_same}
@@ -76,6 +77,19 @@ held-not q calls cmd stands is =
     ap (list_any (λ n. n == cmd)) (sym stands.numbers)
     ∙ any-out (λ c. not (is_retired calls c)) 0 (length (issued calls)) cmd
     (λ low high p. let l : nat_lt cmd (length (issued calls)) ≡ true = grind (arith, nat_tests) in true≢false (sym (rw (l, p) refl) ∙ is))
+
+-- a command that isn't outstanding has no place
+pub no-place : (q : Queue) (calls : List Call) (cmd : ℕ) → StandsFor q calls → is_outstanding calls cmd ≡ false → place_in q cmd ≡ None
+no-place q calls cmd stands closed = ap (option_map (λ (h : Held). h.place)) (none-found q.held.items (held-not q calls cmd stands closed))
+  where
+    none-found : (xs : List Held) → list_any (λ n. n == cmd) (map (λ (h : Held). h.cmd) xs) ≡ false → find (λ (h : Held). h.cmd == cmd) xs ≡ None
+    none-found [] h = refl
+    none-found (x ∷ xs) h = on (x.cmd == cmd) h (none-found xs)
+      where
+        on : (b : Bool) → (b || list_any (λ n. n == cmd) (map (λ (h : Held). h.cmd) xs)) ≡ false → (list_any (λ n. n == cmd) (map (λ (h : Held). h.cmd) xs) ≡ false → find (λ (h : Held). h.cmd == cmd) xs ≡ None)
+            → cond b (Some x) (find (λ (h : Held). h.cmd == cmd) xs) ≡ None
+        on true g k = absurd (true≢false g)
+        on false g k = k g
 
 pub any-at : (held : List Held) (i cmd : ℕ) → i < length held → ((d : Held) → (slice_index_or held i d).cmd ≡ cmd) → list_any (λ n. n == cmd) (map (λ h. h.cmd) held) ≡ true
 any-at [] i cmd within at = absurd (omega arith)

@@ -2,6 +2,7 @@ pub mod CallLaws
 pub mod AtLemmas
 mod Walks
 mod SetLemmas
-mod Holding
+pub mod Holding
 mod PlaceLemmas
 mod Before
+mod Groups

@@ -19,7 +19,7 @@ use arrayvec::ArrayVec;
 use mfc_command::{Command, Kind, Mark as OrderMark, precedes};
 
 /// How many places a queue has.
-pub const PLACES: usize = 16;
+const PLACES: usize = 16;
 
 /// Sixteen commands are outstanding.
 #[derive(Clone, Copy, Debug, PartialEq, Eq)]
@@ -350,7 +350,8 @@ impl Queue {
 
     /// The tag groups with a command outstanding, as bits: group t is bit value 2^t.
     pub fn busy(&self) -> u32
-        ensures { (calls : List Call) → StandsFor self.now calls → result ≡ busy calls }
+        ensures bits { (calls : List Call) → StandsFor self.now calls → result ≡ busy calls }
+        ensures groups { (calls : List Call) (tag : ℕ) → StandsFor self.now calls → has_bit result tag ≡ has_outstanding calls tag }
     {
         let mut bits = 0;
         for i in 0..self.held.len() {

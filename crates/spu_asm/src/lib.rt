@@ -27,8 +27,6 @@ mod source;
 mod statements;
 mod strings;
 mod syntax;
-#[cfg(test)]
-mod tests;
 mod values;
 
 pub use error::{AsmError, AsmKind};

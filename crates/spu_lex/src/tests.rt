@@ -1,6 +1,6 @@
 ghost use Rattle.std.specs.Prelude.{◌≤◌, length};
 
-use crate::{LexError, Token, TokenKind, lex};
+use crate::{Token, TokenKind, lex};
 use std::test::Fail;
 
 const TEXT: &[u8] = b"a.1:\til $3,0x1F # c\r\n/* x */.ascii \"q\\\"#\\\\\"-12$";
@@ -42,30 +42,5 @@ fn tokens_have_kind_place_and_line(rt: HostRuntime) -> Result<(), Fail> {
     ];
     assert!(rt; has_tokens(&rt, TEXT, wanted.as_slice())?);
     assert!(rt; has_tokens(&rt, b"", &[])?);
-    Ok(())
-}
-
-fn is_refused(rt: &HostRuntime, text: &[u8], wanted: LexError) -> bool
-    requires { length text.now ≤ 4194304 }
-{
-    match lex(rt.alloc(), text) {
-        Ok(_) => false,
-        Err(fault) => fault == wanted,
-    }
-}
-
-#[test]
-fn the_earliest_faulty_byte_is_answered(rt: HostRuntime) -> Result<(), Fail> {
-    assert!(rt; is_refused(&rt, b"a \x80", LexError::BadChar { at: 2 }));
-    assert!(rt; is_refused(&rt, b"\"ab\nc", LexError::BadChar { at: 3 }));
-    assert!(rt; is_refused(&rt, b"\"ab", LexError::BadChar { at: 3 }));
-    assert!(rt; is_refused(&rt, b"\"a\\e\"", LexError::BadChar { at: 2 }));
-    assert!(rt; is_refused(&rt, b"\"a\\", LexError::BadChar { at: 2 }));
-    assert!(rt; is_refused(&rt, b"/* *\n/", LexError::BadChar { at: 4 }));
-    assert!(rt; is_refused(&rt, b"/*/", LexError::BadChar { at: 3 }));
-    assert!(rt; is_refused(&rt, b"a 012", LexError::BadNumber { at: 2 }));
-    assert!(rt; is_refused(&rt, b"1x \x80", LexError::BadNumber { at: 0 }));
-    assert!(rt; is_refused(&rt, b"0x", LexError::BadNumber { at: 0 }));
-    assert!(rt; is_refused(&rt, b"18446744073709551616", LexError::BadNumber { at: 0 }));
     Ok(())
 }

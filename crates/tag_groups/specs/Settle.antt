@@ -1,5 +1,6 @@
 -- Requests for the status of tag groups. Group t is bit value 2^t of a mask.
-use Rattle.std.specs.Prelude.{ℕ, ◌-◌, ◌==◌, ◌||◌, not, Bool, if◌then◌else◌, Option, Some, None, bit_and}
+use Rattle.std.specs.Prelude.{◌≡◌, ◌<◌, ◌↔◌, ℕ, ◌==◌, ◌||◌, not, Bool, if◌then◌else◌, Option, Some, None, bit_and}
+use Rattle.std.specs.Int.{bit_at, bit_not, w32}
 use Rattle.tag_groups.specs.declared.Tags.{Tags}
 use Rattle.tag_groups.specs.declared.Request.{Request}
 
@@ -12,7 +13,11 @@ requested t how = record { mask = t.mask; request = Some (record { how = how; ma
 
 -- the groups of the mask with nothing outstanding
 abbrev pub idle_groups : ℕ → ℕ → ℕ
-idle_groups busy mask = mask - bit_and mask busy
+idle_groups busy mask = bit_and mask (bit_not w32 busy)
+
+-- in words of groups: of the 32 these have exactly those that the mask has and that aren't busy
+abbrev pub AreIdle : ℕ → ℕ → ℕ → Type 0
+AreIdle busy mask groups = (t : ℕ) → t < 32 → (bit_at groups t ≡ 1) ↔ ((bit_at mask t ≡ 1) × (bit_at busy t ≡ 0))
 
 -- whether the request's condition holds: at once where it asks so or its mask is 0; where some group is idle; where all are
 abbrev pub is_met : ℕ → Request → Bool

@@ -1,8 +1,9 @@
 //! The tag groups of a processor: the mask, an update request, and the status that it comes to.
 #![tactic(auto)]
 
-ghost use Rattle.std.specs.Prelude.{◌≡◌, ◌≤◌, ◌<◌, ◌^◌, ◌↔◌, ℕ, Some, None, OnErr, IfOk, IfErr, IsTrue, IsSome, is_some, is_ok};
-ghost use Rattle.tag_groups.specs.Settle.{opening_tags, requested, settled_tags, is_met, idle_groups};
+ghost use Rattle.std.specs.Prelude.{◌≡◌, ◌≤◌, ◌<◌, ◌^◌, ◌↔◌, ℕ, Some, None, OnErr, IfOk, IfErr, IsTrue, IsSome, IsSomeAnd, is_some, is_ok};
+ghost use Rattle.tag_groups.specs.Settle.{opening_tags, requested, settled_tags, is_met, idle_groups, AreIdle};
+ghost use Rattle.tag_groups.specs.declared.Request.{Request};
 
 /// A tag status: the groups of the request's mask that had nothing outstanding, as bits, and how many commands the processor had issued when it was fixed.
 #[derive(Clone, Copy, Debug, PartialEq, Eq)]
@@ -15,8 +16,8 @@ pub struct TagStatus {
 #[derive(Clone, Copy, Debug, PartialEq, Eq)]
 pub struct Request {
     /// 0 asks at once, 1 for any group, every other number for all.
-    pub how: u32,
-    pub mask: u32,
+    how: u32,
+    mask: u32,
 }
 
 /// No status was fixed.
@@ -26,9 +27,9 @@ pub struct NotReady;
 /// The mask, a pending request and an unread status; group t is bit value 2^t.
 #[derive(Clone, Copy, Debug, PartialEq, Eq)]
 pub struct Tags {
-    pub mask: u32,
-    pub request: Option<Request>,
-    pub status: Option<TagStatus>,
+    mask: u32,
+    request: Option<Request>,
+    status: Option<TagStatus>,
 }
 
 impl Tags {
@@ -72,7 +73,8 @@ impl Tags {
     ///
     /// `busy` has the groups with a command outstanding, and `issued` is how many commands were issued by now.
     pub fn settle(&mut self, busy: u32, issued: u32)
-        ensures { self.new ≡ settled_tags busy issued self.old }
+        ensures settled { self.new ≡ settled_tags busy issued self.old }
+        ensures idle { (r : Request) → self.old.request ≡ Some r → self.new.request ≡ None → IsSomeAnd self.new.status (λ s. AreIdle busy r.mask s.groups) }
     {
         let Some(request) = self.request else {
             return;
@@ -118,7 +120,7 @@ fn is_met(request: &Request, busy: u32) -> bool
 fn idle_groups(mask: u32, busy: u32) -> u32
     ensures { result ≡ idle_groups busy mask }
 {
-    mask - (mask & busy)
+    mask & !busy
 }
 
 #[cfg(test)]

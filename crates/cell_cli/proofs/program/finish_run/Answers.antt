@@ -3,20 +3,20 @@ use Rattle.cell_cli.proofs.Puts.{took, took_part}
 use Rattle.cell_cli.proofs.Runs.{prints_own}
 use Rattle.cell_cli.proofs.program.finish_run.Goals as goal
 
-pub returns-in-Ok-put_both : goal.returns-in-Ok-put_both
-returns-in-Ok-put_both g c = (
+pub returns-in-Ok-put_both-clause-ends : goal.returns-in-Ok-put_both-clause-ends
+returns-in-Ok-put_both-clause-ends g c = (
   c.as_slice.result.now ++ c.as_slice-2.result.now,
-  prints_own c.in-Ok.machine c.args.setup _ _ _ _ _ c.in-Ok.ensures.setup c.in-Ok.ensures.ended c.steps.ensures.steps c.steps.ensures.run
+  prints_own c.in-Ok.machine c.args.setup _ _ _ _ _ c.in-Ok.ensures.setup c.in-Ok.ensures.ended c.steps.ensures.steps c.steps.ensures.run c.steps.ensures.order
       c.in-Ok-record_text.ensures c.in-Ok-states_text.ensures c.as_slice.ensures.value c.as_slice-2.ensures.value,
   took _ _ _ _ c.in-Ok-put_both.field-0 c.in-Ok-put_both.ensures.takes,
 )
 
-pub returns : goal.returns
-returns g c = (
+pub returns-clause-ends : goal.returns-clause-ends
+returns-clause-ends g c = (
   c.in-Err.ensures.cause.1,
   (
     c.as_slice.result.now ++ c.as_slice-2.result.now,
-    prints_own c.in-Ok.machine c.args.setup _ _ _ _ _ c.in-Ok.ensures.setup c.in-Ok.ensures.ended c.steps.ensures.steps c.steps.ensures.run
+    prints_own c.in-Ok.machine c.args.setup _ _ _ _ _ c.in-Ok.ensures.setup c.in-Ok.ensures.ended c.steps.ensures.steps c.steps.ensures.run c.steps.ensures.order
         c.in-Ok-record_text.ensures c.in-Ok-states_text.ensures c.as_slice.ensures.value c.as_slice-2.ensures.value,
     took_part _ _ _ _ c.in-Err.field-0 c.in-Err.ensures.takes,
   ),

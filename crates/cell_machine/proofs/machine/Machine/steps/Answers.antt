@@ -1,5 +1,9 @@
 use Rattle.cell_machine.proofs.Completion.{machine-in_order}
+use Rattle.cell_machine.proofs.ListOrder.{machine-lists_in_order}
 use Rattle.cell_machine.proofs.machine.Machine.steps.Goals as goal
 
 pub returns-clause-order : goal.returns-clause-order
 returns-clause-order c = machine-in_order _ _ _ _ _ _ _ c.self.invariant c.self.view_is
+
+pub returns-clause-lists : goal.returns-clause-lists
+returns-clause-lists c = machine-lists_in_order _ _ _ _ _ _ _ c.self.invariant c.self.view_is

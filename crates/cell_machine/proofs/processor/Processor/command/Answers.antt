@@ -1,28 +1,32 @@
 use Rattle.std.proofs.Common.{ap, sym, ◌∙◌}
 use Rattle.std.specs.Prelude.{Ok}
 use Rattle.mfc_command.specs.Check.{checked}
+use Rattle.cell_channels.specs.declared.channels.Channels.{Channels}
 use Rattle.cell_machine.specs.Channels.{with_issued}
-use Rattle.cell_machine.proofs.ChannelSteps.{commanded-other, commanded-queued, commanded-atomic, commanded-fault}
+use Rattle.cell_machine.proofs.ChannelSteps.{commanded-atomic, commanded-queued, commanded-line, commanded-fault}
 use Rattle.cell_machine.proofs.processor.Processor.command.Goals as goal
 
-pub returns-then-not-is_opcode : goal.returns-then-not-is_opcode
-returns-then-not-is_opcode c = λ P shows.
-    rw (commanded-other c.args.lines P c.args.op (sym c.is_opcode.ensures ∙ c.if-not-is_opcode.true)) (c.refuse.ensures P shows)
+pub returns-then-is_atomic : goal.returns-then-is_atomic
+returns-then-is_atomic c = λ P shows.
+    rw (commanded-atomic c.args.lines P c.args.op (sym c.is_atomic.ensures ∙ c.if-is_atomic.true)) (c.refuse.ensures P shows)
 
 pub returns-in-Ok-Queued : goal.returns-in-Ok-Queued
 returns-in-Ok-Queued c = λ P shows.
-    rw (commanded-queued c.args.lines P c.args.op c.in-Ok-Queued.command (sym c.is_opcode.ensures ∙ c.if-not-is_opcode.false)
-    (ap (λ p. checked p c.args.op c.args.lines) (shows.params ∙ sym c.params.ensures) ∙ sym c.check.ensures.checked ∙ c.in-Ok-Queued.is ∙ ap Ok c.in-Ok-Queued.field-0-is))
-    (c.go_on.ensures (record P { moves = with_issued P.moves c.in-Ok-Queued.command }) (c.issue.ensures P shows))
+    rw (commanded-queued c.args.lines P c.args.op c.in-Ok-Queued.command (sym c.is_atomic.ensures ∙ c.if-is_atomic.false)
+    (ap (λ p. checked p c.args.op c.args.lines) (ap (λ (s : Channels). s.params) shows.channels ∙ sym c.params.ensures) ∙ sym c.check.ensures.checked ∙ c.in-Ok-Queued.is ∙ ap Ok c.in-Ok-Queued.field-0-is))
+    (c.go_on.ensures (record P { moves = with_issued P.moves c.in-Ok-Queued.command }) (record {
+      status = shows.status; pc = shows.pc; registers = shows.registers; store = shows.store; inbound = shows.inbound; outbound = shows.outbound; interrupt = shows.interrupt; channels = shows.channels; tags = shows.tags;
+      queue = c.issue.ensures P.moves shows.queue;
+    }))
 
 pub returns-in-Ok-Atomic : goal.returns-in-Ok-Atomic
 returns-in-Ok-Atomic c = λ P shows.
-    rw (commanded-atomic c.args.lines P c.args.op _ (sym c.is_opcode.ensures ∙ c.if-not-is_opcode.false)
-    (ap (λ p. checked p c.args.op c.args.lines) (shows.params ∙ sym c.params.ensures) ∙ sym c.check.ensures.checked ∙ c.in-Ok-Atomic.is ∙ ap Ok c.in-Ok-Atomic.field-0-is))
+    rw (commanded-line c.args.lines P c.args.op _ (sym c.is_atomic.ensures ∙ c.if-is_atomic.false)
+    (ap (λ p. checked p c.args.op c.args.lines) (ap (λ (s : Channels). s.params) shows.channels ∙ sym c.params.ensures) ∙ sym c.check.ensures.checked ∙ c.in-Ok-Atomic.is ∙ ap Ok c.in-Ok-Atomic.field-0-is))
     (c.refuse-in-Ok-Atomic.ensures P shows)
 
 pub returns-in-Err : goal.returns-in-Err
 returns-in-Err c = λ P shows.
-    rw (commanded-fault c.args.lines P c.args.op c.in-Err.kind (sym c.is_opcode.ensures ∙ c.if-not-is_opcode.false)
-    (ap (λ p. checked p c.args.op c.args.lines) (shows.params ∙ sym c.params.ensures) ∙ sym c.check.ensures.checked ∙ c.in-Err.is))
+    rw (commanded-fault c.args.lines P c.args.op c.in-Err.kind (sym c.is_atomic.ensures ∙ c.if-is_atomic.false)
+    (ap (λ p. checked p c.args.op c.args.lines) (ap (λ (s : Channels). s.params) shows.channels ∙ sym c.params.ensures) ∙ sym c.check.ensures.checked ∙ c.in-Err.is))
     (c.refuse-in-Err.ensures P shows)

@@ -8,7 +8,7 @@ use Rattle.cell_machine.proofs.processor.Processor.count.Goals as goal
 
 pub returns-in-Ok : goal.returns-in-Ok
 returns-in-Ok c = λ P shows here.
-    count-ok P c.args.ch c.in-Ok.count _ _ c.new.ensures
+    count-ok P c.args.ch c.in-Ok.count _ _ shows.channels
     (counts-are P c.free.result c.len.result c.len-2.result c.len-3.result c.ready.result (c.free.ensures shows.queue.calls shows.queue.stands ∙ ap (λ xs. 16 - length xs) (outstanding-same shows.queue.calls P shows.queue.moves)) (c.ready.ensures ∙ ap (λ (t : Tags). is_some t.status) (sym shows.tags)) (c.len.ensures.count ∙ ap length (sym shows.inbound)) (c.len-2.ensures.count ∙ ap length (sym shows.outbound)) (c.len-3.ensures.count ∙ ap length (sym shows.interrupt)))
     (rw c.in-Ok.is at c.count.ensures.count)
 

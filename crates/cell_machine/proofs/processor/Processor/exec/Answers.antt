@@ -14,14 +14,14 @@ returns-in_default-clause-made c = λ P shows.
     let none : instr_of (word_at c.args.self.now.store c.args.self.now.pc) ≡ None =
     ap instr_of (sym c.word.ensures) ∙ sym c.decode.ensures.means ∙ none_there c.decode.result c.in_default.not-Some in
     let bad = exec-bad_word c.args.lines c.args.self.now P shows (sym c.is_running.ensures ∙ c.if-not-is_running.false) none in
-    rw bad (record { status = refl; pc = shows.pc; registers = shows.registers; store = shows.store; inbound = shows.inbound; outbound = shows.outbound; interrupt = shows.interrupt; params = shows.params; tags = shows.tags; queue = shows.queue })
+    rw bad (record { status = refl; pc = shows.pc; registers = shows.registers; store = shows.store; inbound = shows.inbound; outbound = shows.outbound; interrupt = shows.interrupt; channels = shows.channels; tags = shows.tags; queue = shows.queue })
 
 pub returns-clause-made : goal.returns-clause-made
 returns-clause-made c = λ P shows.
     exec-follows c.args.lines c.args.self.now P c.in-Some.instruction _ _ _ shows (sym c.is_running.ensures ∙ c.if-not-is_running.false)
     (ap instr_of (sym c.word.ensures) ∙ sym c.decode.ensures.means ∙ c.in-Some.is)
     c.exec-flow.ensures.means
-    (c.follow.ensures.made (record P { registers = c.exec-flow.new.regs; store = c.exec-flow.new.ls }) (record { status = shows.status; pc = shows.pc; registers = refl; store = refl; inbound = shows.inbound; outbound = shows.outbound; interrupt = shows.interrupt; params = shows.params; tags = shows.tags; queue = shows.queue }))
+    (c.follow.ensures.made (record P { registers = c.exec-flow.new.regs; store = c.exec-flow.new.ls }) (record { status = shows.status; pc = shows.pc; registers = refl; store = refl; inbound = shows.inbound; outbound = shows.outbound; interrupt = shows.interrupt; channels = shows.channels; tags = shows.tags; queue = shows.queue }))
 
 pub returns-clause-refused : goal.returns-clause-refused
 returns-clause-refused c =

@@ -1,11 +1,15 @@
 use Rattle.std.proofs.Common.{◌≢◌, length, sym, ap, ◌∙◌, arith}
-use Rattle.std.specs.Prelude.{is_some, nat_lt}
+use Rattle.std.specs.Prelude.{is_some, nat_lt, not, ◌==◌}
+use Rattle.cell_channels.specs.declared.channels.Channels.{Channels}
 use Rattle.tag_groups.specs.declared.Tags.{Tags}
-use Rattle.cell_machine.proofs.ChannelSteps.{status-ready, read-ready, read-always}
+use Rattle.cell_machine.proofs.ChannelSteps.{status-ready, stalls-ready, read-ready, read-always}
 use Rattle.cell_machine.proofs.processor.Processor.may_read.Goals as goal
 
 pub returns-in-24 : goal.returns-in-24
 returns-in-24 c = λ lines P rt shows. rw c.in-24.is (c.ready.ensures ∙ ap (λ (t : Tags). is_some t.status) (sym shows.tags) ∙ sym (status-ready lines P rt))
+
+pub returns-in-25 : goal.returns-in-25
+returns-in-25 c = λ lines P rt shows. rw c.in-25.is (c.has_stall.ensures ∙ ap (λ (s : Channels). not (s.stalls == 0)) (sym shows.channels) ∙ sym (stalls-ready lines P rt))
 
 pub returns-in-29 : goal.returns-in-29
 returns-in-29 c = λ lines P rt shows. rw c.in-29.is (ap (nat_lt 0) (c.len.ensures.count ∙ ap length (sym shows.inbound)) ∙ sym (read-ready lines P rt))
@@ -13,5 +17,6 @@ returns-in-29 c = λ lines P rt shows. rw c.in-29.is (ap (nat_lt 0) (c.len.ensur
 pub returns-in_default : goal.returns-in_default
 returns-in_default c = λ lines P rt shows.
     let a : c.args.ch ≢ 24 = omega arith in
+    let d : c.args.ch ≢ 25 = omega arith in
     let b : c.args.ch ≢ 29 = omega arith in
-    sym (read-always lines P rt c.args.ch a b)
+    sym (read-always lines P rt c.args.ch a d b)

@@ -18,7 +18,7 @@ returns c = λ S placed. record {
   inbound = sym c.new-3.ensures;
   outbound = sym c.new-4.ensures;
   interrupt = sym c.new-5.ensures;
-  params = sym (ap (λ (x : Channels). x.params) c.new-6.ensures);
+  channels = sym c.new-6.ensures;
   tags = sym c.new-7.ensures;
-  queue = record { calls = []; stands = c.new-8.ensures; moves = no_calls };
+  queue = c.new-8.ensures;
 }

@@ -1,59 +1,82 @@
-use Rattle.std.proofs.Common.{◌≡◌, arith, refl, sym, ◌∙◌, subst}
-use Rattle.std.specs.Prelude.{slice_get, Some}
-use Rattle.cell_machine.proofs.SpeShown.{piece-none, piece-made, parts-there}
+use Rattle.std.proofs.Common.{◌≡◌, ◌+◌, ◌*◌, ◌≤◌, length, arith, refl, sym, ◌∙◌, ap, subst}
+use Rattle.std.specs.Prelude.{is_some, Some}
+use Rattle.cell_machine.specs.Spe.{is_faulted}
+use Rattle.cell_machine.specs.Transfers.{with_done, after_part}
+use Rattle.cell_machine.specs.Shows.{ShowsSpe}
+use Rattle.cell_machine.proofs.SpeShown.{issued-at}
+use Rattle.cell_machine.proofs.Controllers.{begins-has, part-number, can-copy, kept-of, piece-may, piece-faulted, piece-off, piece-on, piece-made}
 use Rattle.cell_machine.proofs.processor.Processor.piece.Goals as goal
 
-pub returns-then-not-may_piece-clause-made : goal.returns-then-not-may_piece-clause-made
-returns-then-not-may_piece-clause-made c = λ P shows. piece-none _ P c.args.cmd c.args.elem c.args.k (sym (c.may_piece.ensures.may P shows) ∙ c.if-not-may_piece.true)
+pub returns-then-is_faulted-clause-made : goal.returns-then-is_faulted-clause-made
+returns-then-is_faulted-clause-made c = λ P shows. piece-off _ P c.args.cmd c.args.elem c.args.k (piece-faulted P c.args.cmd c.args.elem c.args.k (ap is_faulted shows.status ∙ sym c.is_faulted.ensures ∙ c.if-is_faulted.true))
+
+pub part_left-requires : goal.part_left-requires
+part_left-requires c = kept-of c.requires.can.0 c.args.self.now c.requires.can.2
+
+pub returns-in_default-clause-made : goal.returns-in_default-clause-made
+returns-in_default-clause-made c = λ P shows. piece-off _ P c.args.cmd c.args.elem c.args.k
+    (piece-may P c.args.cmd c.args.elem c.args.k (ap is_faulted shows.status ∙ sym c.is_faulted.ensures ∙ c.if-is_faulted.false) ∙ sym (c.part_left.ensures.may P.moves shows.queue) ∙ ap is_some c.in_default.is)
 
 pub command-command-requires : goal.command-command-requires
-command-command-requires c = let s = c.requires.kept in
-    record { calls = s.calls; stands = s.stands; outstanding = ((rw c.if-not-may_piece.false at c.may_piece.ensures.there) s.calls s.stands).0 }
+command-command-requires c = c.in-Some.ensures.there
 
 pub copy-requires-clause-few : goal.copy-requires-clause-few
 copy-requires-clause-few c =
-    let s = c.requires.kept in
-    let f = c.requires.fits.2 in
-    let there = (rw c.if-not-may_piece.false at c.may_piece.ensures.there) s.calls s.stands in
-    let t = parts-there c.command-command.result _ c.args.k (s.pieces c.args.cmd _ (c.command-command.ensures s.calls s.stands)) there.1 in
-    (f.fits c.args.cmd _ (c.command-command.ensures f.calls f.stands) t.0).size
+    let s = c.requires.can.2 in
+    let q = s.shows.queue in
+    let at = issued-at q.calls s.spe.moves c.args.cmd c.command-command.result q.moves (c.command-command.ensures.command q.calls q.stands) in
+    let can = can-copy c.requires.can.0 999999 s.spe c.args.cmd c.args.elem c.args.k c.command-command.result c.in-Some.x s.bounded at
+        (sym (c.part_left.ensures.may s.spe.moves q) ∙ ap is_some c.in-Some.is) (c.in-Some.ensures.some s.spe.moves c.command-command.result q at) in
+    can.fits.size
 
 pub copy-requires-clause-store : goal.copy-requires-clause-store
 copy-requires-clause-store c =
-    let s = c.requires.kept in
-    let f = c.requires.fits.2 in
-    let there = (rw c.if-not-may_piece.false at c.may_piece.ensures.there) s.calls s.stands in
-    let t = parts-there c.command-command.result _ c.args.k (s.pieces c.args.cmd _ (c.command-command.ensures s.calls s.stands)) there.1 in
-    (f.fits c.args.cmd _ (c.command-command.ensures f.calls f.stands) t.0).store
+    let s = c.requires.can.2 in
+    let q = s.shows.queue in
+    let at = issued-at q.calls s.spe.moves c.args.cmd c.command-command.result q.moves (c.command-command.ensures.command q.calls q.stands) in
+    let can = can-copy c.requires.can.0 999999 s.spe c.args.cmd c.args.elem c.args.k c.command-command.result c.in-Some.x s.bounded at
+        (sym (c.part_left.ensures.may s.spe.moves q) ∙ ap is_some c.in-Some.is) (c.in-Some.ensures.some s.spe.moves c.command-command.result q at) in
+    can.fits.store
 
 pub copy-requires-clause-memory : goal.copy-requires-clause-memory
 copy-requires-clause-memory c =
-    let s = c.requires.kept in
-    let f = c.requires.fits.2 in
-    let there = (rw c.if-not-may_piece.false at c.may_piece.ensures.there) s.calls s.stands in
-    let t = parts-there c.command-command.result _ c.args.k (s.pieces c.args.cmd _ (c.command-command.ensures s.calls s.stands)) there.1 in
-    let m = (f.fits c.args.cmd _ (c.command-command.ensures f.calls f.stands) t.0).memory in
-    let long = c.requires.fits.1 in
+    let s = c.requires.can.2 in
+    let q = s.shows.queue in
+    let at = issued-at q.calls s.spe.moves c.args.cmd c.command-command.result q.moves (c.command-command.ensures.command q.calls q.stands) in
+    let can = can-copy c.requires.can.0 999999 s.spe c.args.cmd c.args.elem c.args.k c.command-command.result c.in-Some.x s.bounded at
+        (sym (c.part_left.ensures.may s.spe.moves q) ∙ ap is_some c.in-Some.is) (c.in-Some.ensures.some s.spe.moves c.command-command.result q at) in
+    let fits = can.fits.memory in
+    let long = c.requires.can.1 in
     omega arith
 
 pub copy-requires-clause-there : goal.copy-requires-clause-there
 copy-requires-clause-there c =
-    let s = c.requires.kept in
-    let there = (rw c.if-not-may_piece.false at c.may_piece.ensures.there) s.calls s.stands in
-    (parts-there c.command-command.result _ c.args.k (s.pieces c.args.cmd _ (c.command-command.ensures s.calls s.stands)) there.1).1
+    let s = c.requires.can.2 in
+    let q = s.shows.queue in
+    let at = issued-at q.calls s.spe.moves c.args.cmd c.command-command.result q.moves (c.command-command.ensures.command q.calls q.stands) in
+    let can = can-copy c.requires.can.0 999999 s.spe c.args.cmd c.args.elem c.args.k c.command-command.result c.in-Some.x s.bounded at
+        (sym (c.part_left.ensures.may s.spe.moves q) ∙ ap is_some c.in-Some.is) (c.in-Some.ensures.some s.spe.moves c.command-command.result q at) in
+    can.within
 
-pub mark-requires : goal.mark-requires
-mark-requires c =
-    let s = c.requires.kept in
-    let there = (rw c.if-not-may_piece.false at c.may_piece.ensures.there) s.calls s.stands in
-    record { calls = s.calls; stands = s.stands; outstanding = there.0; within = there.1 }
+pub mark-stalls-requires : goal.mark-stalls-requires
+mark-stalls-requires c =
+    let s = c.requires.can.2 in
+    let q = s.shows.queue in
+    let at = issued-at q.calls s.spe.moves c.args.cmd c.command-command.result q.moves (c.command-command.ensures.command q.calls q.stands) in
+    let can = can-copy c.requires.can.0 999999 s.spe c.args.cmd c.args.elem c.args.k c.command-command.result c.in-Some.x s.bounded at
+        (sym (c.part_left.ensures.may s.spe.moves q) ∙ ap is_some c.in-Some.is) (c.in-Some.ensures.some s.spe.moves c.command-command.result q at) in
+    record { moves = s.spe.moves; command = c.command-command.result; elem = c.args.elem; shows = q; at = at; has = can.has }
 
 pub returns-clause-made : goal.returns-clause-made
 returns-clause-made c = λ P shows.
     let q = shows.queue in
-    piece-made _ c.mark.new.self P c.args.memory.now c.copy.new.memory c.args.self.now.store c.copy.new.store c.args.cmd c.args.elem c.args.k c.command-command.result
-    (sym (c.may_piece.ensures.may P shows) ∙ c.if-not-may_piece.false)
-    (subst (λ xs. slice_get xs c.args.cmd ≡ Some c.command-command.result) q.moves.issued (c.command-command.ensures q.calls q.stands)) shows.store
-    (λ Q same. c.copy.ensures.copied Q same)
-    (record { status = shows.status; pc = shows.pc; registers = shows.registers; store = refl; inbound = shows.inbound; outbound = shows.outbound; interrupt = shows.interrupt; params = shows.params; tags = shows.tags; queue = shows.queue })
-    (λ Q shows2 has. c.mark.ensures Q shows2 has)
+    let d = c.command-command.result in
+    let at = issued-at q.calls P.moves c.args.cmd d q.moves (c.command-command.ensures.command q.calls q.stands) in
+    let begun = sym (c.part_left.ensures.may P.moves q) ∙ ap is_some c.in-Some.is in
+    let may = piece-may P c.args.cmd c.args.elem c.args.k (ap is_faulted shows.status ∙ sym c.is_faulted.ensures ∙ c.if-is_faulted.false) ∙ begun in
+    let has = begins-has P.moves c.args.cmd d _ at begun in
+    let marked = c.mark-stalls.ensures P.moves d c.args.elem q at has in
+    piece-made c.tell.new.self P c.args.memory.now c.copy.new.memory c.args.self.now.store c.copy.new.store c.args.cmd c.args.elem c.args.k c.mark-stalls.result c.is_put.result d c.in-Some.x may at
+    (c.in-Some.ensures.some P.moves d q at) (part-number P.moves c.args.cmd c.args.elem c.args.k d c.in-Some.x has (c.in-Some.ensures.some P.moves d q at)) shows.store marked.1 c.is_put.ensures c.copy.ensures.copied
+    (c.tell.ensures (record P { store = c.copy.new.store; moves = with_done P.moves c.args.cmd c.args.elem c.args.k })
+    (record { status = shows.status; pc = shows.pc; registers = shows.registers; store = refl; inbound = shows.inbound; outbound = shows.outbound; interrupt = shows.interrupt; channels = shows.channels; tags = shows.tags; queue = marked.0 }))

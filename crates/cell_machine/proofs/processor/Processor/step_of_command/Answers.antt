@@ -1,29 +1,28 @@
-use Rattle.std.proofs.Common.{◌≡◌, ◌≢◌, ◌+◌, ◌==◌, arith, refl, sym, ◌∙◌, ap, subst}
-use Rattle.std.specs.Prelude.{Err}
+use Rattle.std.proofs.Common.{◌≡◌, [], ◌∷◌, sym, subst}
+use Rattle.std.specs.Prelude.{Ok, Err, if◌then◌else◌}
+use Rattle.cell_base.specs.declared.steps.Step.TheVariants.{Elem, Retire}
 use Rattle.mfc_queue.specs.At.{IsAt}
-use Rattle.cell_machine.proofs.MovesShown.{eq_off}
-use Rattle.cell_machine.proofs.SpeShown.{retire-not_left, left-of}
-use Rattle.cell_machine.proofs.Places.{number-retire, number-pieces, number-none}
+use Rattle.mfc_queue.proofs.AtLemmas.{at-here, at-behind, behind-of}
+use Rattle.cell_machine.proofs.Places.{number-cut}
 use Rattle.cell_machine.proofs.processor.Processor.step_of_command.Goals as goal
 
-pub returns-then-parts-gt0 : goal.returns-then-parts-gt0
-returns-then-parts-gt0 c = λ P shows open_yet.
-    let q = shows.queue in
-    let some : c.parts.result ≢ 0 = omega arith in
-    let kept = retire-not_left P c.args.cmd (left-of q.calls P.moves c.args.cmd q.moves open_yet ∙ ap (λ n. n == 0) (sym (c.parts.ensures q.calls q.stands)) ∙ eq_off c.parts.result 0 some) in
-    subst (IsAt c.piece_at.result c.args.n) (sym (number-pieces q.calls c.args.spe P c.args.cmd q.moves open_yet kept)) (c.piece_at.ensures P shows open_yet)
+pub returns-in-Ok : goal.returns-in-Ok
+returns-in-Ok c = λ P d shows at.
+    let first = subst (λ b. IsAt c.alone.result c.args.n (if b then Elem c.args.spe c.args.cmd ∷ [] else [])) (c.may_elem.ensures P shows) c.alone.ensures in
+    subst (IsAt (Ok c.in-Ok.step) c.args.n) (sym (number-cut c.args.spe P c.args.cmd d at)) (at-here c.alone.result c.args.n _ _ c.in-Ok.step c.in-Ok.is first)
 
-pub returns-then-not-may_retire : goal.returns-then-not-may_retire
-returns-then-not-may_retire c = λ P shows open_yet.
-    let q = shows.queue in
-    let none = c.parts.ensures q.calls q.stands in
-    subst (IsAt (Err c.args.n) c.args.n) (sym (number-none q.calls c.args.spe P c.args.cmd q.moves open_yet (sym (c.may_retire.ensures.may P shows) ∙ c.if-not-may_retire.true) (omega arith))) (let e : c.args.n ≡ 0 + c.args.n = omega arith in e)
+pub returns-in-Ok-alone : goal.returns-in-Ok-alone
+returns-in-Ok-alone c = λ P d shows at.
+    let first = subst (λ b. IsAt c.alone.result c.args.n (if b then Elem c.args.spe c.args.cmd ∷ [] else [])) (c.may_elem.ensures P shows) c.alone.ensures in
+    let second = subst (λ b. IsAt c.alone-2.result c.in-Err.behind (if b then Retire c.args.spe c.args.cmd ∷ [] else [])) (c.may_retire.ensures.may P shows) c.alone-2.ensures in
+    subst (IsAt (Ok c.in-Ok-alone.step) c.args.n) (sym (number-cut c.args.spe P c.args.cmd d at))
+    (at-behind (Ok c.in-Ok-alone.step) c.args.n c.in-Err.behind _ _ (behind-of c.alone.result c.args.n c.in-Err.behind _ c.in-Err.is first)
+    (at-here c.alone-2.result c.in-Err.behind _ _ c.in-Ok-alone.step c.in-Ok-alone.is second))
 
-pub returns-then-n-gt0 : goal.returns-then-n-gt0
-returns-then-n-gt0 c = λ P shows open_yet.
-    rw (number-retire c.args.spe P c.args.cmd (sym (c.may_retire.ensures.may P shows) ∙ c.if-not-may_retire.false)) (omega arith)
-
-pub returns : goal.returns
-returns c = λ P shows open_yet.
-    let z : c.args.n ≡ 0 = omega arith in
-    rw (number-retire c.args.spe P c.args.cmd (sym (c.may_retire.ensures.may P shows) ∙ c.if-not-may_retire.false), z) refl
+pub returns-in-Err-alone : goal.returns-in-Err-alone
+returns-in-Err-alone c = λ P d shows at.
+    let first = subst (λ b. IsAt c.alone.result c.args.n (if b then Elem c.args.spe c.args.cmd ∷ [] else [])) (c.may_elem.ensures P shows) c.alone.ensures in
+    let second = subst (λ b. IsAt c.alone-2.result c.in-Err.behind (if b then Retire c.args.spe c.args.cmd ∷ [] else [])) (c.may_retire.ensures.may P shows) c.alone-2.ensures in
+    subst (IsAt c.piece_at.result c.args.n) (sym (number-cut c.args.spe P c.args.cmd d at))
+    (at-behind c.piece_at.result c.args.n c.in-Err.behind _ _ (behind-of c.alone.result c.args.n c.in-Err.behind _ c.in-Err.is first)
+    (at-behind c.piece_at.result c.in-Err.behind c.in-Err-alone.behind _ _ (behind-of c.alone-2.result c.in-Err.behind c.in-Err-alone.behind _ c.in-Err-alone.is second) (c.piece_at.ensures P d shows at)))

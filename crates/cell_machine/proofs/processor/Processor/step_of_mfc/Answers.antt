@@ -2,6 +2,7 @@ use Rattle.std.proofs.Common.{◌≡◌, ◌+◌, arith, sym, ◌∙◌, subst}
 use Rattle.std.specs.Prelude.{Ok, Err}
 use Rattle.mfc_queue.specs.At.{IsAt}
 use Rattle.mfc_queue.proofs.AtLemmas.{at-here, at-behind, behind-of}
+use Rattle.cell_machine.proofs.SpeShown.{issued-is}
 use Rattle.cell_machine.proofs.Places.{from-start, from-none, from-next, found-is, found-outstanding}
 use Rattle.cell_machine.proofs.processor.Processor.step_of_mfc.Goals as goal
 
@@ -19,7 +20,7 @@ returns-in-Ok c = λ P shows.
     let found = found-outstanding q.calls c.loop-cmd.next c.in-Some.cmd _ (c.outstanding_from.ensures q.calls q.stands) c.in-Some.is in
     c.loop-cmd.invariant P (Ok c.in-Ok.step) shows
     (subst (IsAt (Ok c.in-Ok.step) c.loop-cmd.rest) (sym (from-next c.args.spe P c.loop-cmd.next c.in-Some.cmd (found-is q.calls P c.loop-cmd.next _ q.moves (c.outstanding_from.ensures q.calls q.stands) ∙ c.in-Some.is)))
-    (at-here c.step_of_command.result c.loop-cmd.rest _ _ c.in-Ok.step c.in-Ok.is (c.step_of_command.ensures P shows found.0)))
+    (at-here c.step_of_command.result c.loop-cmd.rest _ _ c.in-Ok.step c.in-Ok.is (c.step_of_command.ensures P (issued-is q.calls P.moves c.in-Some.cmd q.moves found.0).0 shows (issued-is q.calls P.moves c.in-Some.cmd q.moves found.0).1)))
 
 pub overflow_add-next : goal.overflow_add-next
 overflow_add-next c =
@@ -39,7 +40,7 @@ loop-cmd-preserved c = λ P r shows h.
     let found = found-outstanding q.calls c.loop-cmd.next c.in-Some.cmd _ (c.outstanding_from.ensures q.calls q.stands) c.in-Some.is in
     c.loop-cmd.invariant P r shows
     (subst (IsAt r c.loop-cmd.rest) (sym (from-next c.args.spe P c.loop-cmd.next c.in-Some.cmd (found-is q.calls P c.loop-cmd.next _ q.moves (c.outstanding_from.ensures q.calls q.stands) ∙ c.in-Some.is)))
-    (at-behind r c.loop-cmd.rest c.in-Err.behind _ _ (behind-of c.step_of_command.result c.loop-cmd.rest c.in-Err.behind _ c.in-Err.is (c.step_of_command.ensures P shows found.0)) h))
+    (at-behind r c.loop-cmd.rest c.in-Err.behind _ _ (behind-of c.step_of_command.result c.loop-cmd.rest c.in-Err.behind _ c.in-Err.is (c.step_of_command.ensures P (issued-is q.calls P.moves c.in-Some.cmd q.moves found.0).0 shows (issued-is q.calls P.moves c.in-Some.cmd q.moves found.0).1)) h))
 
 pub returns : goal.returns
 returns c = λ P shows.

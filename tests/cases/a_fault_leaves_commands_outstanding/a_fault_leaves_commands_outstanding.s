@@ -1,0 +1,10 @@
+il $3,257
+il $4,256
+wrch $ch16,$4
+wrch $ch19,$4
+il $5,0x40
+wrch $ch21,$5
+wrch $ch21,$5
+wrch $ch19,$3
+wrch $ch21,$5
+stop 0

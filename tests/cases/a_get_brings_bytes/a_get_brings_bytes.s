@@ -1,0 +1,16 @@
+ila $3,0x100
+wrch $ch16,$3
+il $4,0x80
+wrch $ch18,$4
+il $5,32
+wrch $ch19,$5
+il $6,5
+wrch $ch20,$6
+il $7,0x40
+wrch $ch21,$7
+wrch $ch22,$5
+il $8,2
+wrch $ch23,$8
+rdch $9,$ch24
+lqd $10,16($3)
+stop 0

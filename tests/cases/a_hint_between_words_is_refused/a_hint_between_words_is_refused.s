@@ -1,0 +1,3 @@
+.data
+.byte 1
+hbr x,$3

@@ -1,0 +1,3 @@
+br y
+x:
+x: nop

@@ -1,0 +1,2 @@
+br nowhere
+foo $1

@@ -1,0 +1,2 @@
+nop
+.long 0x

@@ -1,0 +1,10 @@
+ila $3,0x110
+wrch $ch16,$3
+il $4,0x70
+wrch $ch18,$4
+il $5,48
+wrch $ch19,$5
+ilhu $6,0xabcd
+iohl $6,0x20
+wrch $ch21,$6
+stop 0

@@ -1,0 +1,1 @@
+.skip 0xfffffffffffffffc

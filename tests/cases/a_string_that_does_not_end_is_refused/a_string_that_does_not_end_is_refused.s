@@ -1,0 +1,3 @@
+nop
+.data
+.ascii "ab

@@ -1,0 +1,5 @@
+.org 262140
+nop
+_start:
+.data
+.align 12

@@ -1,0 +1,2 @@
+nop
+_start: lnop

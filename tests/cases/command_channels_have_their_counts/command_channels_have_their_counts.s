@@ -1,0 +1,17 @@
+rchcnt $3,$ch12
+rchcnt $4,$ch16
+rchcnt $5,$ch20
+rchcnt $6,$ch21
+rchcnt $7,$ch22
+rchcnt $8,$ch23
+rchcnt $9,$ch24
+il $10,-2
+wrch $ch22,$10
+rdch $11,$ch12
+il $12,512
+wrch $ch16,$12
+wrch $ch19,$12
+il $13,0x40
+wrch $ch21,$13
+rchcnt $14,$ch21
+rdch $15,$ch21

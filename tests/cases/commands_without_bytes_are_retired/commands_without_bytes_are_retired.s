@@ -1,0 +1,12 @@
+ila $3,0x3ffff
+ai $3,$3,1
+wrch $ch16,$3
+il $4,127
+wrch $ch18,$4
+il $5,0x20
+wrch $ch21,$5
+wrch $ch17,$4
+wrch $ch19,$4
+il $6,0xc0
+wrch $ch21,$6
+stop 0

@@ -1,0 +1,3 @@
+nop
+.data
+.org 0x7f

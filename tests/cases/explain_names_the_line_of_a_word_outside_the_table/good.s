@@ -1,0 +1,3 @@
+	lnop
+	lnop
+	stop 1

@@ -1,0 +1,2 @@
+	lnop
+	br nowhere

@@ -1,0 +1,5 @@
+	il	$3
+	.skip	262140
+	lnop
+	lnop
+	lnop

@@ -1,0 +1,41 @@
+	fa	$3,$4,$5
+	lnop
+	.macro	twice
+	.byte	1
+	il	$3,x+y
+	il	$3,x*2
+	il	$3,1/0
+	br	1b
+	a	$3,$4
+	il	$3,(1
+	.align	x
+	.popsection
+	.comm	x,4,3
+	il	$3,later
+later = nowhere-4
+	.byte	'a
+	.set	a,b
+	.set	b,a
+	il	$3,a
+	.data
+	.float	1.0
+	.ascii	x
+g:	.balign	512
+	.long	f-g
+	.long	09
+f:
+	.space	8192,1
+	.skip	-1
+	.text
+	a	3,$4,$5
+	lqd	$3,$4
+	il	$3,1_000
+	il	$3,'
+	il	$3,1 2
+	.align	13
+	.text	1
+	a	$3,$4,$128
+	rdch	$3,$SPU_RdEventStat
+	lqd	$3,0($x)
+	.end
+	nonsense

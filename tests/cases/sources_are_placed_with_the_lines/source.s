@@ -1,0 +1,4 @@
+nop
+_start: lnop
+.data
+.long 0x01020304

@@ -1,0 +1,4 @@
+.data
+.org 1
+.text
+.space 6

@@ -1,0 +1,2 @@
+.data
+.ascii "a","b"
