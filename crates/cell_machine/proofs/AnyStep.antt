@@ -6,6 +6,7 @@ use Rattle.cell_base.specs.declared.steps.Actor.{Actor}
 use Rattle.cell_base.specs.declared.steps.Step.{Step}
 use Rattle.cell_machine.specs.declared.processor.Processor.{Processor}
 use Rattle.cell_host.specs.Script.{Progress}
+use Rattle.cell_machine.specs.declared.memory.SharedMemory.{SharedMemory}
 use Rattle.cell_machine.specs.State.{State}
 use Rattle.cell_machine.specs.Next.{next}
 use Rattle.cell_machine.specs.Opening.{Opening}
@@ -13,7 +14,7 @@ use Rattle.cell_machine.specs.Run.{Ran, state_of, next_of, steps_of, allowed, pi
 use Rattle.cell_machine.specs.Shows.{Shows, IsMachine}
 use Rattle.cell_machine.proofs.Choices.{has_ended, first_allowed-allowed}
 
-pub machine-replayed : {memory : List ℕ} {host : Progress} (setup : Opening) (steps : List Step) (capacity : ℕ) (processors : List Processor) (m : Ran)
+pub machine-replayed : {memory : SharedMemory} {host : Progress} (setup : Opening) (steps : List Step) (capacity : ℕ) (processors : List Processor) (m : Ran)
     → (is : IsMachine setup steps capacity processors memory host) → record { setup = setup; steps = steps } ≡ m → state_of m ≡ Some is.state
 machine-replayed setup steps capacity processors m is view = subst (λ n. state_of n ≡ Some is.state) view is.replayed
 
@@ -25,7 +26,7 @@ pub any-allowed : (o : Option Step) (m : Ran) (M : State) → state_of m ≡ Som
 any-allowed None m M stands within first = tt
 any-allowed (Some s) m M stands within first = ap is_some (next_of-within m M s stands within) ∙ first_allowed-allowed M s (sym first)
 
-pub any-none : {memory : List ℕ} {host : Progress} (o : Option Step) (processors : List Processor) (m : Ran) (M : State) → Shows processors memory host M → state_of m ≡ Some M → length m.steps < m.setup.budget → o ≡ first_allowed M → IfNone o ((s : Step) → next_of m s ≡ None)
+pub any-none : {memory : SharedMemory} {host : Progress} (o : Option Step) (processors : List Processor) (m : Ran) (M : State) → Shows processors memory host M → state_of m ≡ Some M → length m.steps < m.setup.budget → o ≡ first_allowed M → IfNone o ((s : Step) → next_of m s ≡ None)
 any-none None processors m M shows stands within first = λ s. next_of-within m M s stands within ∙ has_ended processors M shows (sym first) s
 any-none (Some s) processors m M shows stands within first = tt
 

@@ -5,6 +5,7 @@ use Rattle.std.specs.Option.{option_map_or}
 use Rattle.std.proofs.lemmas.Bool.Decides.{nat_tests}
 use Rattle.std.proofs.lemmas.List.{map-set, length-set, length-map}
 use Rattle.std.proofs.lemmas.List.Elements.{All-append}
+use Rattle.mfc_command.specs.declared.command.AtomicOp.{AtomicOp}
 use Rattle.mfc_command.specs.declared.command.Command.{Command}
 use Rattle.mfc_command.specs.declared.command.Kind.{Kind}
 use Rattle.mfc_command.specs.declared.command.Kind.TheVariants.{Put, Get, PutList, GetList, Barrier}
@@ -25,6 +26,7 @@ use Rattle.spu_exec.specs.declared.flow.Flow.{Flow}
 use Rattle.spu_exec.specs.declared.flow.Flow.TheVariants.{Next, Stop, Halt, Channel}
 use Rattle.spu_exec.specs.Meaning.{meaning}
 use Rattle.local_store.specs.Store.{word_at}
+use Rattle.cell_channels.specs.Table.{way_of}
 use Rattle.cell_base.specs.declared.steps.ChannelOp.{ChannelOp}
 use Rattle.cell_base.specs.declared.steps.ChannelOp.TheVariants.{Read, Count, Write}
 use Rattle.cell_base.specs.declared.steps.Step.{Step}
@@ -33,20 +35,22 @@ use Rattle.cell_host.specs.declared.HostAction.{HostAction}
 use Rattle.cell_host.specs.declared.HostAction.TheVariants.{Send, Take, TakeIntr, Store, Await}
 use Rattle.cell_host.specs.Script.{Progress}
 use Rattle.cell_machine.specs.declared.processor.Processor.{Processor}
+use Rattle.cell_machine.specs.declared.memory.SharedMemory.{SharedMemory}
 use Rattle.cell_machine.specs.declared.status.Status.{Status}
 use Rattle.cell_machine.specs.declared.status.Status.TheVariants.{Running, Stopped, Halted, BadWord, BadChannel, DmaFault}
 use Rattle.cell_machine.specs.Spe.{Spe, Moves, ElementRead, is_running, is_faulted}
 use Rattle.cell_machine.specs.State.{State, with_spe}
 use Rattle.cell_machine.specs.Moves.{busy, read_of, present, is_stalled, are_all_there, stalls_of_tag, may_begin}
 use Rattle.cell_machine.specs.Tags.{settled}
-use Rattle.cell_machine.specs.Channels.{given as with_value, bad_channel, listed, is_read, is_write, is_atomic, count, channel, read_by, read_inbound, read_status, issued_by, commanded, acknowledged, written, with_issued, with_resumed}
+use Rattle.cell_machine.specs.Channels.{given as with_value, went_on, bad_channel, is_read, is_write, count, may_read, may_write, channel, read_by, read_inbound, read_status, read_atomic, issued_by, commanded, acknowledged, written, with_issued, with_resumed}
 use Rattle.cell_machine.specs.Exec.{exec, exec_instr, followed, asks, asked_by, op_of}
 use Rattle.cell_machine.specs.Transfers.{piece, piece_of, after_part, part_in, elem, after_element, next_element, retire, copied, told, is_put, may_of, begins, may_piece, may_elem, may_retire, has_part, has_element, is_left, next_at, with_done, with_read, with_retired}
-use Rattle.cell_machine.specs.Atomic.{atomic}
+use Rattle.cell_machine.specs.Atomic.{Fate, fate, answered, moved, line_part, after_atomic, may_atomic, atomic}
 use Rattle.cell_machine.specs.Hosts.{Given, Acted, taken_of, taken_interrupt_of, given, at_spe, acted, after_action, host as host_step}
-use Rattle.cell_machine.specs.Next.{act, act_in, own, lines_of, left, with_left, settled_in}
+use Rattle.cell_machine.specs.Memory.{MainMemory, lines_of}
+use Rattle.cell_machine.specs.Next.{act, act_in, own, left, with_left, settled_in}
 use Rattle.cell_machine.specs.Kept.{MovesFit}
-use Rattle.cell_machine.specs.Shows.{Shows, ShowsSpe, AllTwo, AreSettled, IsBounded, AreBounded}
+use Rattle.cell_machine.specs.Shows.{Shows, ShowsSpe, AllTwo, AreSettled, IsBounded, AreBounded, ShowsMemory, reservations}
 use Rattle.cell_machine.proofs.MovesShown.{get-cases}
 use Rattle.cell_machine.proofs.Staying.{Keeps, both, keeps-same, issued-keeps, done-keeps, read-keeps, resumed-keeps, retired-keeps}
 use Rattle.cell_machine.proofs.Elements.{part-is, element-is}
@@ -93,12 +97,19 @@ pub data Moved (lines : ℕ) (s : Step) (p : ℕ) (P Q : Spe) : Type 0 where
       → next_element lines P c d ≡ Ok x → Q.moves ≡ with_read P.moves c x → Moved lines s p P Q
   refuses : (c : ℕ) → s ≡ Elem p c → is_faulted Q.status ≡ true → Q.moves ≡ P.moves → Moved lines s p P Q
   retires : (c : ℕ) (d : Command) → s ≡ Retire p c → slice_get P.moves.issued c ≡ Some d → is_left P.moves c d ≡ true → Q.moves ≡ with_retired P.moves c → Moved lines s p P Q
+  locks : s ≡ Atomic p → Q.moves ≡ P.moves → Moved lines s p P Q
   acts : s ≡ Host → Q.moves ≡ P.moves → Moved lines s p P Q
 
--- and a fault stays
+-- the command in the slot fits
+abbrev pub SlotFits : ℕ → Spe → Type 0
+SlotFits lines P = IfSome P.channels.slot (λ a. OrderFits lines (AtomicOrder a))
+
+-- and a fault stays, what is in the slot fits still, and none but an atomic command changes what is reserved
 pub record Goes (lines : ℕ) (s : Step) (p : ℕ) (P Q : Spe) : Type 0 where
   pub moved : Moved lines s p P Q
   pub faulted : is_faulted P.status ≡ true → is_faulted Q.status ≡ true
+  pub slot : SlotFits lines P → SlotFits lines Q
+  pub reserved : (s ≡ Atomic p → ⊥) → Q.reserved ≡ P.reserved
 
 -- a command's size, and its end in the memory or in the store
 pub kind-small : (lines : ℕ) (d : Command) (k : Kind) → KindFits lines d k → (d.size ≤ 16384) × (d.ea < 4294967296 → lines ≤ 524288 → d.ea + d.size < 4294967296)
@@ -110,23 +121,31 @@ kind-small lines d Barrier fits = let z : d.size ≡ 0 = fits in (omega arith, �
 
 -- ---- instructions
 
-issued_does : (lines : ℕ) (a : Option ChannelOp) (P : Spe) (r : Result Order Fault) → ((d : Command) → r ≡ Ok (Queued d) → KindFits lines d d.kind) → Does lines a P.moves (issued_by P r).moves
-issued_does lines a P (Ok (Queued d)) fits = issues d (fits d refl) refl
-issued_does lines a P (Ok (AtomicOrder o)) fits = stays refl
-issued_does lines a P (Err kind) fits = stays refl
+-- an instruction leaves what is reserved
+record Does_to (lines : ℕ) (asked : Option ChannelOp) (P Q : Spe) : Type 0 where
+  does : Does lines asked P.moves Q.moves
+  slot : SlotFits lines P → SlotFits lines Q
+  reserved : Q.reserved ≡ P.reserved
 
-order-fits : (lines : ℕ) (d : Command) → OrderFits lines (Queued d) → KindFits lines d d.kind
-order-fits lines d fits = fits.1
+slot_same : (lines : ℕ) (P Q : Spe) → Q.channels.slot ≡ P.channels.slot → SlotFits lines P → SlotFits lines Q
+slot_same lines P Q same = subst (λ (o : Option AtomicOp). IfSome o (λ a. OrderFits lines (AtomicOrder a))) (sym same)
 
-commanded_does : (lines : ℕ) (a : Option ChannelOp) (P : Spe) (op : ℕ) → Does lines a P.moves (commanded lines P op).moves
+-- and this one leaves the commands and the slot
+alone : (lines : ℕ) (a : Option ChannelOp) (P Q : Spe) → Q.moves ≡ P.moves → Q.channels.slot ≡ P.channels.slot → Q.reserved ≡ P.reserved → Does_to lines a P Q
+alone lines a P Q moves slot reserved = record { does = stays moves; slot = slot_same lines P Q slot; reserved = reserved }
+
+issued_does : (lines : ℕ) (a : Option ChannelOp) (P : Spe) (r : Result Order Fault) → ((o : Order) → r ≡ Ok o → OrderFits lines o) → Does_to lines a P (issued_by P r)
+issued_does lines a P (Ok (Queued d)) fits = let fit = fits (Queued d) refl in record { does = issues d fit.1 refl; slot = λ h. h; reserved = refl }
+issued_does lines a P (Ok (AtomicOrder o)) fits = record { does = stays refl; slot = λ h. fits (AtomicOrder o) refl; reserved = refl }
+issued_does lines a P (Err kind) fits = alone lines a P _ refl refl refl
+
+commanded_does : (lines : ℕ) (a : Option ChannelOp) (P : Spe) (op : ℕ) → Does_to lines a P (commanded lines P op)
 unfolding commanded
-commanded_does lines a P op =
-    on_cond (is_atomic op) _ _ (λ (Q : Spe). Does lines a P.moves Q.moves) (stays refl)
-    (issued_does lines a P (checked P.channels.params op lines) (λ d e. order-fits lines d (checked-fits P.channels.params op lines (Queued d) e)))
+commanded_does lines a P op = issued_does lines a P (checked P.channels.params op lines) (λ o e. checked-fits P.channels.params op lines o e)
 
-acknowledged_does : (lines ch value : ℕ) (P : Spe) → ch ≡ 26 → Does lines (Some (Write ch value)) P.moves (acknowledged P value).moves
+acknowledged_does : (lines ch value : ℕ) (P : Spe) → ch ≡ 26 → Does_to lines (Some (Write ch value)) P (acknowledged P value)
 unfolding acknowledged
-acknowledged_does lines ch value P e = resumes value (ap (λ c. Some (Write c value)) e) refl
+acknowledged_does lines ch value P e = record { does = resumes value (ap (λ c. Some (Write c value)) e) refl; slot = λ h. h; reserved = refl }
 
 -- what holds of each of two outcomes, where the first comes by an equation
 on_eq : (n k : ℕ) (x y : Spe) (R : Spe → Type 0) → (n ≡ k → R x) → R y → R (cond (n == k) x y)
@@ -136,49 +155,65 @@ on_eq n k x y R h g = on (n == k) refl
     on true e = h (grind (arith, nat_tests, e))
     on false e = g
 
-written_does : (lines : ℕ) (P : Spe) (ch value : ℕ) → Does lines (Some (Write ch value)) P.moves (written lines P ch value).moves
+went : (lines : ℕ) (a : Option ChannelOp) (P Q : Spe) → Does_to lines a P Q → Does_to lines a P (went_on Q)
+went lines a P Q d = record { does = d.does; slot = d.slot; reserved = d.reserved }
+
+written_does : (lines : ℕ) (P : Spe) (ch value : ℕ) → Does_to lines (Some (Write ch value)) P (written lines P ch value)
 unfolding written
 written_does lines P ch value =
-    let R : Spe → Type 0 = λ Q. Does lines (Some (Write ch value)) P.moves Q.moves in
-    on_cond (ch == 21) _ _ R (commanded_does lines (Some (Write ch value)) P value)
-    (on_cond (ch == 22) _ _ R (stays refl) (on_cond (ch == 23) _ _ R (stays refl)
-    (on_eq ch 26 _ _ R (acknowledged_does lines ch value P)
-    (on_cond (ch == 28) _ _ R (stays refl) (on_cond (ch == 30) _ _ R (stays refl) (stays refl))))))
+    let a : Option ChannelOp = Some (Write ch value) in
+    let R : Spe → Type 0 = Does_to lines a P in
+    on_cond (ch == 21) _ _ R (commanded_does lines a P value)
+    (on_cond (ch == 22) _ _ R (alone lines a P _ refl refl refl) (on_cond (ch == 23) _ _ R (alone lines a P _ refl refl refl)
+    (on_eq ch 26 _ _ R (λ e. went lines a P (acknowledged P value) (acknowledged_does lines ch value P e))
+    (on_cond (ch == 28) _ _ R (alone lines a P _ refl refl refl) (on_cond (ch == 30) _ _ R (alone lines a P _ refl refl refl) (alone lines a P _ refl refl refl))))))
 
-status_does : (lines : ℕ) (a : Option ChannelOp) (P : Spe) (rt : ℕ) (o : Option TagStatus) → IfSome (read_status P rt o) (λ Q. Does lines a P.moves Q.moves)
+status_does : (lines : ℕ) (a : Option ChannelOp) (P : Spe) (rt : ℕ) (o : Option TagStatus) → IfSome (read_status P rt o) (Does_to lines a P)
 status_does lines a P rt None = tt
-status_does lines a P rt (Some status) = stays refl
+status_does lines a P rt (Some status) = alone lines a P _ refl refl refl
 
-inbound_does : (lines : ℕ) (a : Option ChannelOp) (P : Spe) (rt : ℕ) (xs : List ℕ) → IfSome (read_inbound P rt xs) (λ Q. Does lines a P.moves Q.moves)
+inbound_does : (lines : ℕ) (a : Option ChannelOp) (P : Spe) (rt : ℕ) (xs : List ℕ) → IfSome (read_inbound P rt xs) (Does_to lines a P)
 inbound_does lines a P rt [] = tt
-inbound_does lines a P rt (x ∷ xs) = stays refl
+inbound_does lines a P rt (x ∷ xs) = alone lines a P _ refl refl refl
 
-read_does : (lines : ℕ) (a : Option ChannelOp) (P : Spe) (rt ch : ℕ) → IfSome (read_by P rt ch) (λ Q. Does lines a P.moves Q.moves)
+atomic_does : (lines : ℕ) (a : Option ChannelOp) (P : Spe) (rt : ℕ) (o : Option ℕ) → IfSome (read_atomic P rt o) (Does_to lines a P)
+atomic_does lines a P rt None = tt
+atomic_does lines a P rt (Some status) = alone lines a P _ refl refl refl
+
+read_does : (lines : ℕ) (a : Option ChannelOp) (P : Spe) (rt ch : ℕ) → IfSome (read_by P rt ch) (Does_to lines a P)
 unfolding read_by
 read_does lines a P rt ch =
-    let R : Spe → Type 0 = λ Q. Does lines a P.moves Q.moves in
-    if_cond (ch == 12) _ _ R (stays refl) (if_cond (ch == 24) _ _ R (status_does lines a P rt P.tags.status)
-    (if_cond (ch == 25) _ _ R (stays refl) (if_cond (ch == 29) _ _ R (inbound_does lines a P rt P.inbound) tt)))
+    let R : Spe → Type 0 = Does_to lines a P in
+    if_cond (ch == 12) _ _ R (alone lines a P _ refl refl refl) (if_cond (ch == 24) _ _ R (status_does lines a P rt P.tags.status)
+    (if_cond (ch == 25) _ _ R (alone lines a P _ refl refl refl) (if_cond (ch == 27) _ _ R (atomic_does lines a P rt P.channels.atomic)
+    (if_cond (ch == 29) _ _ R (inbound_does lines a P rt P.inbound) tt))))
 
-channel_does : (lines : ℕ) (P : Spe) (op : ChannelOp) → IfSome (channel lines P op) (λ Q. Does lines (Some op) P.moves Q.moves)
+channel_does : (lines : ℕ) (P : Spe) (op : ChannelOp) → IfSome (channel lines P op) (Does_to lines (Some op) P)
 unfolding channel
 channel_does lines P (Read rt ch) =
-    let R : Spe → Type 0 = λ Q. Does lines (Some (Read rt ch)) P.moves Q.moves in
-    if_cond (is_read (listed ch)) _ _ R (if_cond (nat_lt 0 (count P ch)) _ _ R (read_does lines (Some (Read rt ch)) P rt ch) tt) (stays refl)
-channel_does lines P (Count rt ch) = if_cond (is_some (listed ch)) (Some (with_value P rt (count P ch))) (Some (bad_channel P)) (λ Q. Does lines (Some (Count rt ch)) P.moves Q.moves) (stays refl) (stays refl)
+    let a : Option ChannelOp = Some (Read rt ch) in
+    let R : Spe → Type 0 = Does_to lines a P in
+    if_cond (is_read (way_of ch)) _ _ R (if_cond (may_read P ch) _ _ R (read_does lines a P rt ch) tt) (alone lines a P _ refl refl refl)
+channel_does lines P (Count rt ch) =
+    let a : Option ChannelOp = Some (Count rt ch) in
+    if_cond (is_some (way_of ch)) (Some (with_value P rt (count P ch))) (Some (bad_channel P)) (Does_to lines a P) (alone lines a P _ refl refl refl) (alone lines a P _ refl refl refl)
 channel_does lines P (Write ch value) =
-    let R : Spe → Type 0 = λ Q. Does lines (Some (Write ch value)) P.moves Q.moves in
-    if_cond (is_write (listed ch)) _ _ R (if_cond (nat_lt 0 (count P ch)) _ _ R (written_does lines P ch value) tt) (stays refl)
+    let a : Option ChannelOp = Some (Write ch value) in
+    let R : Spe → Type 0 = Does_to lines a P in
+    if_cond (is_write (way_of ch)) _ _ R (if_cond (may_write P ch value) _ _ R (written_does lines P ch value) tt) (alone lines a P _ refl refl refl)
 
-followed_does : (lines : ℕ) (P : Spe) (flow : Flow) → IfSome (followed lines P flow) (λ Q. Does lines (op_of flow) P.moves Q.moves)
-followed_does lines P (Next pc) = stays refl
-followed_does lines P (Stop code next) = stays refl
-followed_does lines P (Halt next) = stays refl
+followed_does : (lines : ℕ) (P : Spe) (flow : Flow) → IfSome (followed lines P flow) (Does_to lines (op_of flow) P)
+followed_does lines P (Next pc) = alone lines _ P _ refl refl refl
+followed_does lines P (Stop code next) = alone lines _ P _ refl refl refl
+followed_does lines P (Halt next) = alone lines _ P _ refl refl refl
 followed_does lines P (Channel op) = channel_does lines P op
 
-instr_does : (lines : ℕ) (P : Spe) (o : Option Instr) → IfSome (exec_instr lines P o) (λ Q. Does lines (asked_by P o) P.moves Q.moves)
-instr_does lines P None = stays refl
-instr_does lines P (Some i) = let o = meaning i P.pc P.registers P.store in followed_does lines (record P { registers = o.regs; store = o.store }) o.flow
+instr_does : (lines : ℕ) (P : Spe) (o : Option Instr) → IfSome (exec_instr lines P o) (Does_to lines (asked_by P o) P)
+instr_does lines P None = alone lines _ P _ refl refl refl
+instr_does lines P (Some i) =
+    let o = meaning i P.pc P.registers P.store in
+    if_on (followed lines (record P { registers = o.regs; store = o.store }) o.flow) (Does_to lines (op_of o.flow) (record P { registers = o.regs; store = o.store })) (Does_to lines (op_of o.flow) P)
+    (λ Q d. record { does = d.does; slot = d.slot; reserved = d.reserved }) (followed_does lines (record P { registers = o.regs; store = o.store }) o.flow)
 
 running-not : (s : Status) → is_running s ≡ true → is_faulted s ≡ true → ⊥
 running-not Running h k = true≢false (sym k)
@@ -191,8 +226,8 @@ running-not (DmaFault kind) h k = true≢false (sym h)
 exec_goes : (lines p : ℕ) (P : Spe) → IfSome (exec lines P) (Goes lines (Exec p) p P)
 unfolding exec asks
 exec_goes lines p P = if_so (is_running P.status) _ (Goes lines (Exec p) p P)
-    (λ runs. if_on (exec_instr lines P (instr_of (word_at P.store P.pc))) (λ Q. Does lines (asks P) P.moves Q.moves) (Goes lines (Exec p) p P)
-    (λ Q does. record { moved = executes refl does; faulted = λ k. absurd (running-not P.status runs k) }) (instr_does lines P (instr_of (word_at P.store P.pc))))
+    (λ runs. if_on (exec_instr lines P (instr_of (word_at P.store P.pc))) (Does_to lines (asks P) P) (Goes lines (Exec p) p P)
+    (λ Q d. record { moved = executes refl d.does; faulted = λ k. absurd (running-not P.status runs k); slot = d.slot; reserved = λ n. d.reserved }) (instr_does lines P (instr_of (word_at P.store P.pc))))
 
 -- ---- steps of the flow controller
 
@@ -217,23 +252,21 @@ passes P c f d h at = let is = may-is P c f h in let same : is.0 ≡ d = some_sa
     some_same : (x y : Command) → Some x ≡ Some y → x ≡ y
     some_same x y e = cc
 
-told_moves : (b : Bool) (P : Spe) (tag : ℕ) → (cond b (told P tag) P).moves ≡ P.moves
-told_moves true P tag = refl
-told_moves false P tag = refl
+-- neither a copy nor what is told of a stall changes these
+record Like (P Q : Spe) : Type 0 where
+  moves : Q.moves ≡ P.moves
+  status : Q.status ≡ P.status
+  slot : Q.channels.slot ≡ P.channels.slot
+  reserved : Q.reserved ≡ P.reserved
 
-told_status : (b : Bool) (P : Spe) (tag : ℕ) → (cond b (told P tag) P).status ≡ P.status
-told_status true P tag = refl
-told_status false P tag = refl
+told_like : (b : Bool) (P : Spe) (tag : ℕ) → Like P (cond b (told P tag) P)
+told_like true P tag = record { moves = refl; status = refl; slot = refl; reserved = refl }
+told_like false P tag = record { moves = refl; status = refl; slot = refl; reserved = refl }
 
-copied_moves : (memory : List ℕ) (P : Spe) (b : Bool) (x : Part) → (copied memory P b x).spe.moves ≡ P.moves
+copied_like : (memory : MainMemory) (P : Spe) (b : Bool) (x : Part) → Like P (copied memory P b x).spe
 unfolding copied
-copied_moves memory P true x = refl
-copied_moves memory P false x = refl
-
-copied_status : (memory : List ℕ) (P : Spe) (b : Bool) (x : Part) → (copied memory P b x).spe.status ≡ P.status
-unfolding copied
-copied_status memory P true x = refl
-copied_status memory P false x = refl
+copied_like memory P true x = record { moves = refl; status = refl; slot = refl; reserved = refl }
+copied_like memory P false x = record { moves = refl; status = refl; slot = refl; reserved = refl }
 
 -- of each command and of each element there is
 each_of : {X Y : Type 0} (o : Option X) (f : X → Option Y) (R : Y → Type 0) → ((x : X) → o ≡ Some x → IfSome (f x) R) → IfSome (option_and_then f o) R
@@ -244,7 +277,7 @@ each_map : {X Y : Type 0} (o : Option X) (f : X → Y) (R : Y → Type 0) → ((
 each_map None f R h = tt
 each_map (Some x) f R h = h x refl
 
-piece_goes : (lines p : ℕ) (memory : List ℕ) (P : Spe) (c e k : ℕ) → IfSome (piece memory P c e k) (λ x. Goes lines (Piece p c e k) p P x.spe)
+piece_goes : (lines p : ℕ) (memory : MainMemory) (P : Spe) (c e k : ℕ) → IfSome (piece memory P c e k) (λ x. Goes lines (Piece p c e k) p P x.spe)
 unfolding piece may_piece
 piece_goes lines p memory P c e k = if_so (may_of P c (has_part P.moves c e k)) _ (λ x. Goes lines (Piece p c e k) p P x.spe) (λ may.
     each_of (slice_get P.moves.issued c) _ (λ x. Goes lines (Piece p c e k) p P x.spe) (λ d at.
@@ -253,12 +286,13 @@ piece_goes lines p memory P c e k = if_so (may_of P c (has_part P.moves c e k)) 
     let of = part-is P.moves c e k d has in
     let same : of.element ≡ x = some_same of.element x (sym of.there ∙ there) in
     let number : x.number ≡ e = sym (ap (λ (y : Element). y.number) same) ∙ of.number in
+    let copy = copied_like memory (after_part P c x.number k d) (is_put d.kind) (part_in x k) in
+    let tell = told_like (is_stalled (with_done P.moves c x.number k) c d) (record P { moves = with_done P.moves c x.number k }) d.tag in
     record {
-      moved = copies c e k d refl at has
-          (copied_moves memory (after_part P c x.number k d) (is_put d.kind) (part_in x k)
-          ∙ told_moves (is_stalled (with_done P.moves c x.number k) c d) (record P { moves = with_done P.moves c x.number k }) d.tag
-          ∙ ap (λ n. with_done P.moves c n k) number);
+      moved = copies c e k d refl at has (copy.moves ∙ tell.moves ∙ ap (λ n. with_done P.moves c n k) number);
       faulted = λ f. absurd (not-faulted P c (has_part P.moves c e k) may f);
+      slot = slot_same lines P (piece_of memory P c k d x).spe (copy.slot ∙ tell.slot);
+      reserved = λ n. copy.reserved ∙ tell.reserved;
     })))
   where
     some_same : (a b : Element) → Some a ≡ Some b → a ≡ b
@@ -272,23 +306,40 @@ elem_goes lines p P c = if_so (may_of P c (has_element P.moves c)) _ (Goes lines
   where
     after : may_of P c (has_element P.moves c) ≡ true → (d : Command) → slice_get P.moves.issued c ≡ Some d → (r : Result Element Fault) → next_element lines P c d ≡ r
         → Goes lines (Elem p c) p P (after_element P c d r)
-    after may d at (Ok x) is = record {
-      moved = reads c d x refl at (passes P c (has_element P.moves c) d may at) is (told_moves (is_stalled (with_read P.moves c x) c d) (record P { moves = with_read P.moves c x }) d.tag);
-      faulted = λ f. absurd (not-faulted P c (has_element P.moves c) may f);
-    }
-    after may d at (Err kind) is = record { moved = refuses c refl refl refl; faulted = λ f. refl }
+    after may d at (Ok x) is =
+        let tell = told_like (is_stalled (with_read P.moves c x) c d) (record P { moves = with_read P.moves c x }) d.tag in
+        record {
+          moved = reads c d x refl at (passes P c (has_element P.moves c) d may at) is tell.moves;
+          faulted = λ f. absurd (not-faulted P c (has_element P.moves c) may f);
+          slot = slot_same lines P (after_element P c d (Ok x)) tell.slot;
+          reserved = λ n. tell.reserved;
+        }
+    after may d at (Err kind) is = record { moved = refuses c refl refl refl; faulted = λ f. refl; slot = λ h. h; reserved = λ n. refl }
 
 retire_goes : (lines p : ℕ) (P : Spe) (c : ℕ) → IfSome (retire P c) (Goes lines (Retire p c) p P)
 unfolding retire may_retire
 retire_goes lines p P c = if_so (may_of P c (is_left P.moves c)) _ (Goes lines (Retire p c) p P) (λ may.
     let is = may-is P c (is_left P.moves c) may in
-    record { moved = retires c is.0 refl is.1 is.2 refl; faulted = λ f. absurd (not-faulted P c (is_left P.moves c) may f) })
+    record { moved = retires c is.0 refl is.1 is.2 refl; faulted = λ f. absurd (not-faulted P c (is_left P.moves c) may f); slot = λ h. h; reserved = λ n. refl })
 
-atomic_goes : (lines p : ℕ) (P : Spe) → IfSome (atomic P) (Goes lines (Atomic p) p P)
-unfolding atomic
-atomic_goes lines p P = tt
+moved_like : (memory : MainMemory) (P : Spe) (a : AtomicOp) (f : Fate) → Like P (moved memory P a f).spe
+moved_like memory P a Fate.Got = copied_like memory P false (line_part a)
+moved_like memory P a Fate.Stored = copied_like memory P true (line_part a)
+moved_like memory P a Fate.Lost = record { moves = refl; status = refl; slot = refl; reserved = refl }
 
-left_goes : (memory : List ℕ) (s : Step) (p : ℕ) (P : Spe) (o : Option Spe) → IfSome o (Goes (lines_of memory) s p P) → IfSome (option_map (left memory) o) (λ x. Goes (lines_of memory) s p P x.spe)
+atomic_goes : (lines p : ℕ) (memory : MainMemory) (P : Spe) → IfSome (atomic memory P) (λ x. Goes lines (Atomic p) p P x.spe)
+unfolding atomic may_atomic
+atomic_goes lines p memory P = if_so (may_atomic P) _ (λ x. Goes lines (Atomic p) p P x.spe) (λ may.
+    each_map P.channels.slot (after_atomic memory P) (λ x. Goes lines (Atomic p) p P x.spe) (λ a at.
+    let like = moved_like memory (answered memory P a) a (fate memory P a) in
+    record {
+      moved = locks refl like.moves;
+      faulted = λ f. ap is_faulted like.status ∙ f;
+      slot = λ h. subst (λ (o : Option AtomicOp). IfSome o (λ b. OrderFits lines (AtomicOrder b))) (sym like.slot) tt;
+      reserved = λ n. absurd (n refl);
+    }))
+
+left_goes : (memory : MainMemory) (s : Step) (p : ℕ) (P : Spe) (o : Option Spe) → IfSome o (Goes (lines_of memory) s p P) → IfSome (option_map (left memory) o) (λ x. Goes (lines_of memory) s p P x.spe)
 left_goes memory s p P None h = tt
 left_goes memory s p P (Some Q) h = h
 
@@ -296,22 +347,22 @@ left_goes memory s p P (Some Q) h = h
 
 -- an action of the host leaves a processor's status, commands and tags
 abbrev pub IsLike : ℕ → Spe → Spe → Type 0
-IsLike p P Q = (Q.tags ≡ P.tags) × (Q.moves ≡ P.moves) × (Q.status ≡ P.status)
+IsLike p P Q = (Q.tags ≡ P.tags) × (Q.moves ≡ P.moves) × (Q.status ≡ P.status) × (Q.channels.slot ≡ P.channels.slot) × (Q.reserved ≡ P.reserved)
 
 taken_like : (p : ℕ) (P : Spe) (xs : List ℕ) → IfSome (taken_of P xs) (λ g. IsLike p P g.spe)
 taken_like p P [] = tt
-taken_like p P (x ∷ xs) = (refl, refl, refl)
+taken_like p P (x ∷ xs) = (refl, refl, refl, refl, refl)
 
 interrupt_like : (p : ℕ) (P : Spe) (xs : List ℕ) → IfSome (taken_interrupt_of P xs) (λ g. IsLike p P g.spe)
 interrupt_like p P [] = tt
-interrupt_like p P (x ∷ xs) = (refl, refl, refl)
+interrupt_like p P (x ∷ xs) = (refl, refl, refl, refl, refl)
 
 given_like : (q : ℕ) (a : HostAction) (P : Spe) → IfSome (given a P) (λ g. IsLike q P g.spe)
-given_like q (Send p value) P = if_cond (nat_lt (length P.inbound) 4) _ _ (λ g. IsLike q P g.spe) (refl, refl, refl) tt
+given_like q (Send p value) P = if_cond (nat_lt (length P.inbound) 4) _ _ (λ g. IsLike q P g.spe) (refl, refl, refl, refl, refl) tt
 given_like q (Take p) P = taken_like q P P.outbound
 given_like q (TakeIntr p) P = interrupt_like q P P.interrupt
-given_like q (Store ea len bytes) P = (refl, refl, refl)
-given_like q (Await p) P = if_cond (is_running P.status) _ _ (λ g. IsLike q P g.spe) tt (refl, refl, refl)
+given_like q (Store ea len bytes) P = (refl, refl, refl, refl, refl)
+given_like q (Await p) P = if_cond (is_running P.status) _ _ (λ g. IsLike q P g.spe) tt (refl, refl, refl, refl, refl)
 
 -- one processor at most is another, in this relation to what it was
 pub record Changed (R : ℕ → Spe → Spe → Type 0) (old new : List Spe) : Type 0 where
@@ -374,7 +425,7 @@ in_goes : (M : State) (p : ℕ) (s : Step) → ((P : Spe) → IfSome (own M.memo
 in_goes M p s each = in_changes (Goes (lines_of M.memory) s) (own M.memory s) (λ x. x.spe) M.spes p (with_left M p) each (λ x. refl)
 
 like_goes : (lines p : ℕ) (P Q : Spe) → IsLike p P Q → Goes lines Host p P Q
-like_goes lines p P Q like = record { moved = acts refl like.1; faulted = λ f. ap is_faulted like.2 ∙ f }
+like_goes lines p P Q like = record { moved = acts refl like.1; faulted = λ f. ap is_faulted like.2 ∙ f; slot = slot_same lines P Q like.3; reserved = λ n. like.4 }
 
 -- the step is another's: the processor is as it was
 abbrev pub is_at : ℕ → Step → Bool
@@ -390,7 +441,7 @@ act_changes M (Exec p) = if_on (act_in M p (Exec p)) _ _ (λ N. inr) (in_goes M 
 act_changes M (Piece p c e k) = if_on (act_in M p (Piece p c e k)) _ _ (λ N. inr) (in_goes M p (Piece p c e k) (λ P. piece_goes (lines_of M.memory) p M.memory P c e k))
 act_changes M (Elem p c) = if_on (act_in M p (Elem p c)) _ _ (λ N. inr) (in_goes M p (Elem p c) (λ P. left_goes M.memory (Elem p c) p P _ (elem_goes (lines_of M.memory) p P c)))
 act_changes M (Retire p c) = if_on (act_in M p (Retire p c)) _ _ (λ N. inr) (in_goes M p (Retire p c) (λ P. left_goes M.memory (Retire p c) p P _ (retire_goes (lines_of M.memory) p P c)))
-act_changes M (Atomic p) = if_on (act_in M p (Atomic p)) _ _ (λ N. inr) (in_goes M p (Atomic p) (λ P. left_goes M.memory (Atomic p) p P _ (atomic_goes (lines_of M.memory) p P)))
+act_changes M (Atomic p) = if_on (act_in M p (Atomic p)) _ _ (λ N. inr) (in_goes M p (Atomic p) (λ P. atomic_goes (lines_of M.memory) p M.memory P))
 act_changes M Host = if_on (host_step M) _ _ (λ N. weaken M.spes N.spes) (host_changes M)
   where
     weaken : (old new : List Spe) → Changes ⊤ IsLike old new → Changes (Host ≡ Host) (Goes (lines_of M.memory) Host) old new
@@ -427,7 +478,7 @@ like_after old new all (inr x) = rw x.set (set_settled old x.p x.is all (like_se
 pub host-settled : (M N : State) → host_step M ≡ Some N → AreSettled M.spes → map settled N.spes ≡ N.spes
 host-settled M N e all = like_after M.spes N.spes all (if_is (host_step M) N (λ K. Changes ⊤ IsLike M.spes K.spes) e (host_changes M))
 
-pub host-made : (processors : List Processor) (memory : List ℕ) (host : Progress) (M : State) (made : Bool) → AreSettled M.spes
+pub host-made : (processors : List Processor) (memory : SharedMemory) (host : Progress) (M : State) (made : Bool) → AreSettled M.spes
     → MatchBool made (IsSomeAnd (host_step M) (Shows processors memory host)) (host_step M ≡ None)
     → MatchBool made (IsSomeAnd (host_step M) (λ N. Shows processors memory host (settled_in N))) (host_step M ≡ None)
 host-made processors memory host M false all h = h
@@ -435,7 +486,7 @@ host-made processors memory host M true all h = on (host_step M) refl h
   where
     on : (o : Option State) → host_step M ≡ o → IsSomeAnd o (Shows processors memory host) → IsSomeAnd o (λ N. Shows processors memory host (settled_in N))
     on None e shows = absurd shows
-    on (Some N) e shows = record { spes = subst (AllTwo ShowsSpe processors) (sym (host-settled M N e all)) shows.spes; memory_is = shows.memory_is; host_is = shows.host_is }
+    on (Some N) e shows = record { spes = subst (AllTwo ShowsSpe processors) (sym (host-settled M N e all)) shows.spes; memory_is = subst (λ spes. ShowsMemory memory N.memory (reservations spes)) (sym (host-settled M N e all)) shows.memory_is; host_is = shows.host_is }
 
 -- and the commands stay bounded
 set_cases : {X : Type 0} (xs : List X) (p q : ℕ) (y x : X) (G : Type 0) → slice_get (slice_set xs p y) q ≡ Some x → (x ≡ y → G) → (slice_get xs q ≡ Some x → G) → G
@@ -476,26 +527,27 @@ record MovesBounded (lines n : ℕ) (m : Moves) : Type 0 where
   fits : MovesFit lines m.issued
   elements : All (λ r. ElementFits lines r.element) m.read
 
-bounded_moves : (lines n : ℕ) (Q : Spe) (m : Moves) → Q.moves ≡ m → MovesBounded lines n m → IsBounded lines n Q
-bounded_moves lines n Q m same is = record {
+bounded_moves : (lines n : ℕ) (Q : Spe) (m : Moves) → Q.moves ≡ m → SlotFits lines Q → MovesBounded lines n m → IsBounded lines n Q
+bounded_moves lines n Q m same fit is = record {
+  slot = fit;
   few = subst (λ (k : Moves). length k.issued ≤ n) (sym same) is.few;
   fits = subst (λ (k : Moves). MovesFit lines k.issued) (sym same) is.fits;
   elements = subst (λ (k : Moves). All (λ r. ElementFits lines r.element) k.read) (sym same) is.elements;
 }
 
-bounded_same : (lines n : ℕ) (P Q : Spe) → Q.moves ≡ P.moves → IsBounded lines n P → IsBounded lines (n + 1) Q
-bounded_same lines n P Q same is = bounded_moves lines (n + 1) Q P.moves same (record { few = let l = is.few in omega arith; fits = is.fits; elements = is.elements })
+bounded_same : (lines n : ℕ) (P Q : Spe) → Q.moves ≡ P.moves → SlotFits lines Q → IsBounded lines n P → IsBounded lines (n + 1) Q
+bounded_same lines n P Q same fit is = bounded_moves lines (n + 1) Q P.moves same fit (record { few = let l = is.few in omega arith; fits = is.fits; elements = is.elements })
 
-one_more : (lines n : ℕ) (s : Step) (p : ℕ) (P Q : Spe) → IsBounded lines n P → Moved lines s p P Q → IsBounded lines (n + 1) Q
-one_more lines n s p P Q is (executes e (stays same)) = bounded_same lines n P Q same is
-one_more lines n s p P Q is (executes e (issues d fit same)) = bounded_moves lines (n + 1) Q (with_issued P.moves d) same (record {
+one_more : (lines n : ℕ) (s : Step) (p : ℕ) (P Q : Spe) → IsBounded lines n P → SlotFits lines Q → Moved lines s p P Q → IsBounded lines (n + 1) Q
+one_more lines n s p P Q is fit (executes e (stays same)) = bounded_same lines n P Q same fit is
+one_more lines n s p P Q is fit (executes e (issues d kind same)) = bounded_moves lines (n + 1) Q (with_issued P.moves d) same fit (record {
   few = let l = is.few in let a = length-append P.moves.issued (d ∷ []) in omega arith;
-  fits = fits_more lines P.moves.issued d fit is.fits;
+  fits = fits_more lines P.moves.issued d kind is.fits;
   elements = is.elements;
 })
-one_more lines n s p P Q is (executes e (resumes tag asked same)) = bounded_moves lines (n + 1) Q (with_resumed P.moves (stalls_of_tag P.moves tag)) same (record { few = let l = is.few in omega arith; fits = is.fits; elements = is.elements })
-one_more lines n s p P Q is (copies c e k d of at has same) = bounded_moves lines (n + 1) Q (with_done P.moves c e k) same (record { few = let l = is.few in omega arith; fits = is.fits; elements = is.elements })
-one_more lines n s p P Q is (reads c d x of at has got same) = bounded_moves lines (n + 1) Q (with_read P.moves c x) same (record {
+one_more lines n s p P Q is fit (executes e (resumes tag asked same)) = bounded_moves lines (n + 1) Q (with_resumed P.moves (stalls_of_tag P.moves tag)) same fit (record { few = let l = is.few in omega arith; fits = is.fits; elements = is.elements })
+one_more lines n s p P Q is fit (copies c e k d of at has same) = bounded_moves lines (n + 1) Q (with_done P.moves c e k) same fit (record { few = let l = is.few in omega arith; fits = is.fits; elements = is.elements })
+one_more lines n s p P Q is fit (reads c d x of at has got same) = bounded_moves lines (n + 1) Q (with_read P.moves c x) same fit (record {
   few = let l = is.few in omega arith;
   fits = is.fits;
   elements = All-append (λ r. ElementFits lines r.element) P.moves.read (record { cmd = c; element = x } ∷ []) is.elements (one (record { cmd = c; element = x }) (read-is lines P c d x got).0);
@@ -504,25 +556,26 @@ one_more lines n s p P Q is (reads c d x of at has got same) = bounded_moves lin
     one : (r : ElementRead) → ElementFits lines r.element → All (λ (y : ElementRead). ElementFits lines y.element) (r ∷ [])
     one r fit zero y h = fit
     one r fit (suc k) y h = absurd (omega arith)
-one_more lines n s p P Q is (refuses c of fault same) = bounded_same lines n P Q same is
-one_more lines n s p P Q is (retires c d of at left same) = bounded_moves lines (n + 1) Q (with_retired P.moves c) same (record { few = let l = is.few in omega arith; fits = is.fits; elements = is.elements })
-one_more lines n s p P Q is (acts of same) = bounded_same lines n P Q same is
+one_more lines n s p P Q is fit (refuses c of fault same) = bounded_same lines n P Q same fit is
+one_more lines n s p P Q is fit (retires c d of at left same) = bounded_moves lines (n + 1) Q (with_retired P.moves c) same fit (record { few = let l = is.few in omega arith; fits = is.fits; elements = is.elements })
+one_more lines n s p P Q is fit (locks of same) = bounded_same lines n P Q same fit is
+one_more lines n s p P Q is fit (acts of same) = bounded_same lines n P Q same fit is
 
 weaker : (lines n : ℕ) (P : Spe) → IsBounded lines n P → IsBounded lines (n + 1) P
-weaker lines n P is = record { few = let l = is.few in omega arith; fits = is.fits; elements = is.elements }
+weaker lines n P is = record { few = let l = is.few in omega arith; fits = is.fits; elements = is.elements; slot = is.slot }
 
 bounded_after : (lines n : ℕ) (s : Step) (old new : List Spe) → AreBounded lines n old → Changes (s ≡ Host) (Goes lines s) old new → AreBounded lines (n + 1) new
 bounded_after lines n s old new all (inl same) p P at = weaker lines n P (all p P (subst (λ xs. slice_get xs p ≡ Some P) same.1 at))
 bounded_after lines n s old new all (inr x) p P at =
     set_cases old x.p p x.is P (IsBounded lines (n + 1) P) (subst (λ xs. slice_get xs p ≡ Some P) x.set at)
-    (λ same. subst (IsBounded lines (n + 1)) (sym same) (one_more lines n s x.p x.was x.is (all x.p x.was x.at) x.how.moved))
+    (λ same. subst (IsBounded lines (n + 1)) (sym same) (let was = all x.p x.was x.at in one_more lines n s x.p x.was x.is was (x.how.slot was.slot) x.how.moved))
     (λ h. weaker lines n P (all p P h))
 
 settled_bounded : (lines n : ℕ) (spes : List Spe) → AreBounded lines n spes → AreBounded lines n (map settled spes)
 settled_bounded lines n spes all p P at =
     let g = map-got settled spes p P at in
     let is = all p g.0 g.1 in
-    subst (IsBounded lines n) g.2 (record { few = is.few; fits = is.fits; elements = is.elements })
+    subst (IsBounded lines n) g.2 (record { few = is.few; fits = is.fits; elements = is.elements; slot = is.slot })
 
 pub act-bounded : (M : State) (s : Step) (N : State) (lines n : ℕ) → lines_of M.memory ≡ lines → act M s ≡ Some N → AreBounded lines n M.spes → AreBounded lines (n + 1) (map settled N.spes)
 act-bounded M s N lines n same e all =
@@ -533,7 +586,7 @@ act-bounded M s N lines n same e all =
 
 -- what the step does to it: it is another's, or its own
 pub data Seen (lines : ℕ) (s : Step) (p : ℕ) (P Q : Spe) : Type 0 where
-  another : is_at p s ≡ false → Q.moves ≡ P.moves → Q.status ≡ P.status → Seen lines s p P Q
+  another : is_at p s ≡ false → Q.moves ≡ P.moves → Q.status ≡ P.status → Q.reserved ≡ P.reserved → Seen lines s p P Q
   goes : Goes lines s p P Q → Seen lines s p P Q
 
 set_got : {X : Type 0} (xs : List X) (p q : ℕ) (y x : X) (G : Type 0) → slice_get xs q ≡ Some x → (p ≡ q → slice_get (slice_set xs p y) q ≡ Some y → G) → ((p == q) ≡ false → slice_get (slice_set xs p y) q ≡ Some x → G) → G
@@ -550,19 +603,20 @@ moved-by lines s p q P Q h (copies c e k d of at has same) = ap (is_at p) of ∙
 moved-by lines s p q P Q h (reads c d x of at has got same) = ap (is_at p) of ∙ h
 moved-by lines s p q P Q h (refuses c of fault same) = ap (is_at p) of ∙ h
 moved-by lines s p q P Q h (retires c d of at left same) = ap (is_at p) of ∙ h
+moved-by lines s p q P Q h (locks of same) = ap (is_at p) of ∙ h
 moved-by lines s p q P Q h (acts of same) = ap (is_at p) of
 
 abbrev SeenAt : ℕ → Step → ℕ → Spe → List Spe → Type 0
 SeenAt lines s p P new = (Q : Spe) × (slice_get new p ≡ Some Q) × Seen lines s p P Q
 
 seen_after : (lines : ℕ) (s : Step) (old new : List Spe) (p : ℕ) (P : Spe) → slice_get old p ≡ Some P → Changes (s ≡ Host) (Goes lines s) old new → SeenAt lines s p P new
-seen_after lines s old new p P at (inl same) = (P, subst (λ xs. slice_get xs p ≡ Some P) (sym same.1) at, another (ap (is_at p) same.0) refl refl)
+seen_after lines s old new p P at (inl same) = (P, subst (λ xs. slice_get xs p ≡ Some P) (sym same.1) at, another (ap (is_at p) same.0) refl refl refl)
 seen_after lines s old new p P at (inr x) =
     set_got old x.p p x.is P (SeenAt lines s p P new) at
     (λ e got.
     let was : x.was ≡ P = let a : slice_get old p ≡ Some x.was = subst (λ q. slice_get old q ≡ Some x.was) e x.at in cc in
     (x.is, subst (λ xs. slice_get xs p ≡ Some x.is) (sym x.set) got, goes (subst (λ y. Goes lines s p y x.is) was (subst (λ q. Goes lines s q x.was x.is) e x.how))))
-    (λ differs got. (P, subst (λ xs. slice_get xs p ≡ Some P) (sym x.set) got, another (moved-by lines s p x.p x.was x.is differs x.how.moved) refl refl))
+    (λ differs got. (P, subst (λ xs. slice_get xs p ≡ Some P) (sym x.set) got, another (moved-by lines s p x.p x.was x.is differs x.how.moved) refl refl refl))
 
 got_map : {X Y : Type 0} (f : X → Y) (xs : List X) (q : ℕ) (x : X) → slice_get xs q ≡ Some x → slice_get (map f xs) q ≡ Some (f x)
 got_map f [] q x h = absurd (cc)
@@ -571,8 +625,8 @@ got_map f (y ∷ xs) (suc q) x h = got_map f xs q x h
 
 -- settling changes neither the status nor the commands
 seen_settled : (lines : ℕ) (s : Step) (p : ℕ) (P Q : Spe) → Seen lines s p P Q → Seen lines s p P (settled Q)
-seen_settled lines s p P Q (another other same status) = another other same status
-seen_settled lines s p P Q (goes g) = goes (record { moved = moved_settled lines s p P Q g.moved; faulted = g.faulted })
+seen_settled lines s p P Q (another other same status reserved) = another other same status reserved
+seen_settled lines s p P Q (goes g) = goes (record { moved = moved_settled lines s p P Q g.moved; faulted = g.faulted; slot = g.slot; reserved = g.reserved })
   where
     moved_settled : (lines : ℕ) (s : Step) (p : ℕ) (P Q : Spe) → Moved lines s p P Q → Moved lines s p P (settled Q)
     moved_settled lines s p P Q (executes of d) = executes of d
@@ -580,6 +634,7 @@ seen_settled lines s p P Q (goes g) = goes (record { moved = moved_settled lines
     moved_settled lines s p P Q (reads c d x of at has got same) = reads c d x of at has got same
     moved_settled lines s p P Q (refuses c of fault same) = refuses c of fault same
     moved_settled lines s p P Q (retires c d of at left same) = retires c d of at left same
+    moved_settled lines s p P Q (locks of same) = locks of same
     moved_settled lines s p P Q (acts of same) = acts of same
 
 pub act-seen : (M : State) (s : Step) (N : State) (p : ℕ) (P : Spe) → act M s ≡ Some N → slice_get M.spes p ≡ Some P
@@ -607,10 +662,11 @@ moved-keeps lines s p P Q (reads c d x of at has got same) =
     some_same a b q = cc
 moved-keeps lines s p P Q (refuses c of fault same) = same-keeps P.moves Q.moves same
 moved-keeps lines s p P Q (retires c d of at left same) = as-keeps P.moves (with_retired P.moves c) Q.moves same (retired-keeps P.moves c)
+moved-keeps lines s p P Q (locks of same) = same-keeps P.moves Q.moves same
 moved-keeps lines s p P Q (acts of same) = same-keeps P.moves Q.moves same
 
 seen-keeps : (lines : ℕ) (s : Step) (p : ℕ) (P Q : Spe) → Seen lines s p P Q → Keeps P.moves Q.moves
-seen-keeps lines s p P Q (another other same status) = same-keeps P.moves Q.moves same
+seen-keeps lines s p P Q (another other same status reserved) = same-keeps P.moves Q.moves same
 seen-keeps lines s p P Q (goes g) = moved-keeps lines s p P Q g.moved
 
 pub act-keeps : (M : State) (s : Step) (N : State) (p : ℕ) (P : Spe) → act M s ≡ Some N → slice_get M.spes p ≡ Some P

@@ -11,13 +11,15 @@ use Rattle.mfc_command.specs.declared.command.Command.{Command}
 use Rattle.mfc_command.specs.Order.{outstanding as outstanding_of}
 use Rattle.mfc_lists.specs.declared.Element.{Element}
 use Rattle.cell_machine.specs.declared.processor.Processor.{Processor}
+use Rattle.cell_machine.specs.declared.memory.SharedMemory.{SharedMemory}
 use Rattle.cell_machine.specs.Spe.{Spe}
 use Rattle.cell_host.specs.Script.{Progress}
 use Rattle.cell_machine.specs.State.{State}
 use Rattle.cell_machine.specs.Exec.{exec}
 use Rattle.cell_machine.specs.Moves.{outstanding, is_complete, present, parts_in}
 use Rattle.cell_machine.specs.Transfers.{piece, piece_of, elem, after_element, next_element, retire, may_of, may_piece, may_elem, may_retire, has_part, has_element, is_left}
-use Rattle.cell_machine.specs.Next.{act, act_in, own, left, next, ended_by, lines_of, with_left}
+use Rattle.cell_machine.specs.Memory.{lines_of}
+use Rattle.cell_machine.specs.Next.{act, act_in, own, left, next, ended_by, with_left}
 use Rattle.cell_machine.specs.Hosts.{host as host_step}
 use Rattle.cell_machine.specs.Run.{steps_of, steps_of_mfc, steps_of_number, steps_of_command, pieces_of, allowed, picked, actors, first_allowed, HasEnded, CanGoOn}
 use Rattle.cell_machine.specs.Choices.{may, allowed_of_number, allowed_of_mfc, all_of_spus, all_of_mfcs}
@@ -40,7 +42,7 @@ next-own : (M : State) (p : ℕ) (s : Step) (P : Spe) → slice_get M.spes p ≡
 next-own M p s P at = is_some_map (ended_by M s) (act_in M p s) ∙ act-own M p s P at
 
 -- the processor's test says whether its instruction is allowed
-pub next-exec : {memory : List ℕ} {host : Progress} (processors : List Processor) (M : State) (p : ℕ) (x : Processor) (b : Bool) → Shows processors memory host M → p < length processors → x ≡ slice_index_or processors p x
+pub next-exec : {memory : SharedMemory} {host : Progress} (processors : List Processor) (M : State) (p : ℕ) (x : Processor) (b : Bool) → Shows processors memory host M → p < length processors → x ≡ slice_index_or processors p x
     → ((lines : ℕ) (P : Spe) → ShowsSpe x P → b ≡ is_some (exec lines P))
     → is_some (next M (Exec p)) ≡ b
 next-exec processors M p x b shows h at test =
@@ -81,7 +83,7 @@ is_some_if : {X : Type 0} (b : Bool) (o : Option X) → (b ≡ true → is_some 
 is_some_if true o h = h refl
 is_some_if false o h = refl
 
-piece_may : (memory : List ℕ) (P : Spe) (c e k : ℕ) → is_some (piece memory P c e k) ≡ may_piece P c e k
+piece_may : (memory : SharedMemory) (P : Spe) (c e k : ℕ) → is_some (piece memory P c e k) ≡ may_piece P c e k
 unfolding piece may_piece
 piece_may memory P c e k = is_some_if (may_of P c (has_part P.moves c e k)) _ (λ may.
     let is = may-is P c (has_part P.moves c e k) may in
@@ -138,17 +140,17 @@ same_numbers M p P (c ∷ cs) at =
     ∙ ap (λ xs. allowed_of_number p P c ++ xs) (same_numbers M p P cs at)
     ∙ sym (filter-both (may P) (steps_of_number p P c) (flat_map (steps_of_number p P) cs))
 
-allowed_mfc : {memory : List ℕ} {host : Progress} (processors : List Processor) (M : State) (p : ℕ) (P : Spe) → Shows processors memory host M → slice_get M.spes p ≡ Some P → allowed M (Mfc p) ≡ allowed_of_mfc p P
+allowed_mfc : {memory : SharedMemory} {host : Progress} (processors : List Processor) (M : State) (p : ℕ) (P : Spe) → Shows processors memory host M → slice_get M.spes p ≡ Some P → allowed M (Mfc p) ≡ allowed_of_mfc p P
 allowed_mfc processors M p P shows at =
     ap (λ o. filter (λ s. is_some (next M s)) (option_map_or (steps_of_mfc p) o [])) at
     ∙ ap (λ b. cond b (Atomic p ∷ filter (λ s. is_some (next M s)) (flat_map (steps_of_number p P) (outstanding P))) (filter (λ s. is_some (next M s)) (flat_map (steps_of_number p P) (outstanding P)))) (no_next M (Atomic p) (act-atomic M p))
     ∙ same_numbers M p P (outstanding P) at
 
-pub allowed-no_mfc : {memory : List ℕ} {host : Progress} (processors : List Processor) (M : State) (p : ℕ) → Shows processors memory host M → length processors ≤ p → allowed M (Mfc p) ≡ []
+pub allowed-no_mfc : {memory : SharedMemory} {host : Progress} (processors : List Processor) (M : State) (p : ℕ) → Shows processors memory host M → length processors ≤ p → allowed M (Mfc p) ≡ []
 allowed-no_mfc processors M p shows h = ap (λ o. filter (λ s. is_some (next M s)) (option_map_or (steps_of_mfc p) o [])) (two_none ShowsSpe processors M.spes p shows.spes h)
 
 -- what the processor at p says of its steps
-pub mfc-says : {memory : List ℕ} {host : Progress} (processors : List Processor) (M : State) (p : ℕ) (x : Processor) (Q : List Step → Type 0) → Shows processors memory host M → p < length processors → x ≡ slice_index_or processors p x
+pub mfc-says : {memory : SharedMemory} {host : Progress} (processors : List Processor) (M : State) (p : ℕ) (x : Processor) (Q : List Step → Type 0) → Shows processors memory host M → p < length processors → x ≡ slice_index_or processors p x
     → ((P : Spe) → ShowsSpe x P → Q (allowed_of_mfc p P)) → Q (allowed M (Mfc p))
 mfc-says processors M p x Q shows h at says =
     let two = two_at ShowsSpe processors M.spes p x shows.spes h in
@@ -313,14 +315,14 @@ no_retire p P c none = off_if (may_of P c (is_left P.moves c)) (λ h.
     (none_of_command p P c is.0 none is.1 (open_if (is_complete P.moves c) (is_left P.moves c is.0) is.2 (complete-not_left P.moves c is.0 is.1))).1)
 
 -- a processor that is there has no step where none is allowed
-spe_none : {memory : List ℕ} {host : Progress} (processors : List Processor) (M : State) (p : ℕ) (s : Step) → Shows processors memory host M → all_of_mfcs M ≡ [] → (slice_get M.spes p ≡ None → next M s ≡ None)
+spe_none : {memory : SharedMemory} {host : Progress} (processors : List Processor) (M : State) (p : ℕ) (s : Step) → Shows processors memory host M → all_of_mfcs M ≡ [] → (slice_get M.spes p ≡ None → next M s ≡ None)
     → ((P : Spe) → slice_get M.spes p ≡ Some P → allowed_of_mfc p P ≡ [] → next M s ≡ None) → next M s ≡ None
 spe_none processors M p s shows all absent there =
     get-either M.spes p (next M s ≡ None) absent (λ P at.
     there P at (sym (allowed_mfc processors M p P shows at) ∙ actor_none M Mfc (length M.spes) p all (get-within M.spes p P at)))
 
 -- the elements of its commands are in order
-spe_elements : {memory : List ℕ} {host : Progress} (processors : List Processor) (M : State) (p : ℕ) (P : Spe) (c : ℕ) (d : Command) → Shows processors memory host M → slice_get M.spes p ≡ Some P → slice_get P.moves.issued c ≡ Some d → AreElements P.moves c d
+spe_elements : {memory : SharedMemory} {host : Progress} (processors : List Processor) (M : State) (p : ℕ) (P : Spe) (c : ℕ) (d : Command) → Shows processors memory host M → slice_get M.spes p ≡ Some P → slice_get P.moves.issued c ≡ Some d → AreElements P.moves c d
 spe_elements processors M p P c d shows at there = elim (two_found ShowsSpe processors M.spes p shows.spes) as (λ _. AreElements P.moves c d) [
   | inl none ↦ absurd (no_spe (sym none ∙ at))
   | inr two ↦ let same : two.1 ≡ P = same_spe two.1 P (sym two.2 ∙ at) in shown two.0 (subst (λ y. ShowsSpe two.0 y) same two.3)
@@ -336,7 +338,7 @@ spe_elements processors M p P c d shows at there = elim (two_found ShowsSpe proc
     shown x shows = let q = shows.queue in q.moves.done.elements c d there
 
 -- where no step is first, the machine has ended
-pub has_ended : {memory : List ℕ} {host : Progress} (processors : List Processor) (M : State) → Shows processors memory host M → first_allowed M ≡ None → HasEnded M
+pub has_ended : {memory : SharedMemory} {host : Progress} (processors : List Processor) (M : State) → Shows processors memory host M → first_allowed M ≡ None → HasEnded M
 has_ended processors M shows h (Exec p) =
     let all = append_none (all_of_spus M) (all_of_mfcs M ++ allowed M TheHost) (sym (all_parts M) ∙ first_none (flat_map (allowed M) (actors M)) h) in
     get-either M.spes p (next M (Exec p) ≡ None) (λ none. rw none refl) (λ P at.
@@ -358,11 +360,11 @@ has_ended processors M shows h Host =
     let all = append_none (all_of_spus M) (all_of_mfcs M ++ allowed M TheHost) (sym (all_parts M) ∙ first_none (flat_map (allowed M) (actors M)) h) in
     none_of (next M Host) (filter_none (λ s. is_some (next M s)) Host [] (append_none (all_of_mfcs M) (allowed M TheHost) all.1).1).0
 
-pub allowed-absent : {memory : List ℕ} {host : Progress} (processors : List Processor) (M : State) (p : ℕ) → Shows processors memory host M → length processors ≤ p → allowed M (Spu p) ≡ []
+pub allowed-absent : {memory : SharedMemory} {host : Progress} (processors : List Processor) (M : State) (p : ℕ) → Shows processors memory host M → length processors ≤ p → allowed M (Spu p) ≡ []
 allowed-absent processors M p shows h = allowed-no_spu M p (no_next M (Exec p) (act-absent _ processors M p shows h))
 
 -- no processor has an allowed step below this one, nor has this one
-pub spu-on : {memory : List ℕ} {host : Progress} (processors : List Processor) (M : State) (p : ℕ) (x : Processor) (b : Bool) → Shows processors memory host M → p < length processors → x ≡ slice_index_or processors p x
+pub spu-on : {memory : SharedMemory} {host : Progress} (processors : List Processor) (M : State) (p : ℕ) (x : Processor) (b : Bool) → Shows processors memory host M → p < length processors → x ≡ slice_index_or processors p x
     → ((lines : ℕ) (P : Spe) → ShowsSpe x P → b ≡ is_some (exec lines P)) → b ≡ false
     → all_of_spus M ≡ from_actor M Spu p (length M.spes - p)
     → all_of_spus M ≡ from_actor M Spu (p + 1) (length M.spes - (p + 1))
@@ -371,7 +373,7 @@ spu-on processors M p x b shows h at test off so_far =
     so_far ∙ from-skip M Spu p (length M.spes) (omega arith) (allowed-no_spu M p (next-exec processors M p x b shows h at test ∙ off))
 
 -- this one has
-pub spu-found : {memory : List ℕ} {host : Progress} (processors : List Processor) (M : State) (p : ℕ) (x : Processor) (b : Bool) → Shows processors memory host M → p < length processors → x ≡ slice_index_or processors p x
+pub spu-found : {memory : SharedMemory} {host : Progress} (processors : List Processor) (M : State) (p : ℕ) (x : Processor) (b : Bool) → Shows processors memory host M → p < length processors → x ≡ slice_index_or processors p x
     → ((lines : ℕ) (P : Spe) → ShowsSpe x P → b ≡ is_some (exec lines P)) → b ≡ true
     → all_of_spus M ≡ from_actor M Spu p (length M.spes - p)
     → Some (Exec p) ≡ slice_get (all_of_spus M) 0
@@ -380,7 +382,7 @@ spu-found processors M p x b shows h at test on so_far =
     sym (ap (λ xs. slice_get xs 0) so_far ∙ from-found M Spu p (length M.spes) (Exec p) (omega arith) (ap (λ xs. slice_get xs 0) (allowed-spu M p (next-exec processors M p x b shows h at test ∙ on))))
 
 -- and so for the flow controllers
-pub mfc-on : {memory : List ℕ} {host : Progress} (processors : List Processor) (M : State) (p : ℕ) (x : Processor) (o : Option Step) → Shows processors memory host M → p < length processors → x ≡ slice_index_or processors p x
+pub mfc-on : {memory : SharedMemory} {host : Progress} (processors : List Processor) (M : State) (p : ℕ) (x : Processor) (o : Option Step) → Shows processors memory host M → p < length processors → x ≡ slice_index_or processors p x
     → ((P : Spe) → ShowsSpe x P → o ≡ slice_get (allowed_of_mfc p P) 0) → is_some o ≡ false
     → all_of_mfcs M ≡ from_actor M Mfc p (length M.spes - p)
     → all_of_mfcs M ≡ from_actor M Mfc (p + 1) (length M.spes - (p + 1))
@@ -389,7 +391,7 @@ mfc-on processors M p x o shows h at says off so_far =
     let first : o ≡ slice_get (allowed M (Mfc p)) 0 = mfc-says processors M p x (λ xs. o ≡ slice_get xs 0) shows h at says in
     so_far ∙ from-skip M Mfc p (length M.spes) (omega arith) (first_none (allowed M (Mfc p)) (sym first ∙ none_of o off))
 
-pub mfc-found : {memory : List ℕ} {host : Progress} (processors : List Processor) (M : State) (p : ℕ) (x : Processor) (o : Option Step) → Shows processors memory host M → p < length processors → x ≡ slice_index_or processors p x
+pub mfc-found : {memory : SharedMemory} {host : Progress} (processors : List Processor) (M : State) (p : ℕ) (x : Processor) (o : Option Step) → Shows processors memory host M → p < length processors → x ≡ slice_index_or processors p x
     → ((P : Spe) → ShowsSpe x P → o ≡ slice_get (allowed_of_mfc p P) 0) → is_some o ≡ true
     → all_of_mfcs M ≡ from_actor M Mfc p (length M.spes - p)
     → o ≡ slice_get (all_of_mfcs M) 0
@@ -399,7 +401,7 @@ mfc-found processors M p x (Some s) shows h at says on so_far =
     let first : Some s ≡ slice_get (allowed M (Mfc p)) 0 = mfc-says processors M p x (λ xs. Some s ≡ slice_get xs 0) shows h at says in
     sym (ap (λ xs. slice_get xs 0) so_far ∙ from-found M Mfc p (length M.spes) s (omega arith) (sym first))
 
-pub none-left : {memory : List ℕ} {host : Progress} (processors : List Processor) (M : State) (g : ℕ → Actor) (p : ℕ) (xs : List Step) → Shows processors memory host M → length processors ≤ p
+pub none-left : {memory : SharedMemory} {host : Progress} (processors : List Processor) (M : State) (g : ℕ → Actor) (p : ℕ) (xs : List Step) → Shows processors memory host M → length processors ≤ p
     → xs ≡ from_actor M g p (length M.spes - p) → None ≡ slice_get xs 0
 none-left processors M g p xs shows h so_far =
     let same : length M.spes ≡ length processors = two_length ShowsSpe processors M.spes shows.spes in
@@ -433,7 +435,7 @@ pub can_go_on : (M : State) (o : Option Step) → o ≡ first_allowed M → is_s
 can_go_on M None e h = absurd (cc)
 can_go_on M (Some s) e h = (s, first_passes M (actors M) s (sym e))
 
-pub ended_at : {memory : List ℕ} {host : Progress} (processors : List Processor) (M : State) (o : Option Step) → Shows processors memory host M → o ≡ first_allowed M → is_some o ≡ false → HasEnded M
+pub ended_at : {memory : SharedMemory} {host : Progress} (processors : List Processor) (M : State) (o : Option Step) → Shows processors memory host M → o ≡ first_allowed M → is_some o ≡ false → HasEnded M
 ended_at processors M o shows e h = has_ended processors M shows (sym e ∙ none_of o h)
 
 pub first_allowed-allowed : (M : State) (s : Step) → first_allowed M ≡ Some s → is_some (next M s) ≡ true

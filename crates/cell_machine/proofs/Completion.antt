@@ -8,6 +8,7 @@ use Rattle.mfc_command.specs.declared.command.Command.{Command}
 use Rattle.mfc_command.specs.Order.{goes_before, may_start, outstanding, precedes}
 use Rattle.cell_base.specs.declared.steps.Step.{Step}
 use Rattle.cell_base.specs.declared.steps.Step.TheVariants.{Exec, Piece, Elem, Retire, Atomic, Host}
+use Rattle.cell_machine.specs.declared.memory.SharedMemory.{SharedMemory}
 use Rattle.cell_machine.specs.Spe.{Spe}
 use Rattle.cell_machine.specs.State.{State}
 use Rattle.cell_machine.specs.Moves.{is_complete, may_begin}
@@ -158,7 +159,7 @@ run-keeps S before between p P Q early late =
     let N = some-of (λ (N : State). slice_get N.spes p) (replay (opening S) (before ++ between)) Q late in
     replay-keeps M.0 between N.0 p P Q (replay-rest (opening S) before between M.0 N.0 M.1 N.1) M.2 N.2
 
-pub machine-in_order : (setup : Opening) (steps : List Step) (capacity : ℕ) (processors : List Processor) (memory : List ℕ) (host : Progress) (m : Ran)
+pub machine-in_order : (setup : Opening) (steps : List Step) (capacity : ℕ) (processors : List Processor) (memory : SharedMemory) (host : Progress) (m : Ran)
     → IsMachine setup steps capacity processors memory host → record { setup = setup; steps = steps } ≡ m → IsInOrder m
 machine-in_order setup steps capacity processors memory host m is view =
     subst IsInOrder view (record {

@@ -8,6 +8,7 @@ use Rattle.cell_host.specs.declared.HostAction.TheVariants.{Send, Take, TakeIntr
 use Rattle.cell_host.specs.Script.{Progress, advanced, takes, next_takes}
 use Rattle.cell_machine.specs.declared.processor.Processor.{Processor}
 use Rattle.cell_machine.specs.declared.hosts.Taken.{Taken}
+use Rattle.cell_machine.specs.declared.memory.SharedMemory.{SharedMemory}
 use Rattle.cell_machine.specs.Spe.{Spe}
 use Rattle.cell_machine.specs.State.{State, with_spe}
 use Rattle.cell_machine.specs.Hosts.{Given, Acted, at_spe, given, acted, after_action, host as host_step}
@@ -15,7 +16,7 @@ use Rattle.cell_machine.specs.Shows.{Shows, ShowsSpe, Gives, Leaves}
 use Rattle.cell_machine.proofs.AllTwo.{two_at, two_none, two_set, is_some_map}
 
 -- what a processor answers is what the action leaves
-leaves-one : (processors : List Processor) (memory : List ℕ) (host : Progress) (M : State) (p : ℕ) (new : Processor) (r : Option Taken) (o : Option Given)
+leaves-one : (processors : List Processor) (memory : SharedMemory) (host : Progress) (M : State) (p : ℕ) (new : Processor) (r : Option Taken) (o : Option Given)
     → Shows processors memory host M → Gives r o new
     → Leaves r (option_map (λ g. record { state = with_spe M p g.spe; took = g.took }) o) (slice_set processors p new) memory host
 leaves-one processors memory host M p new None None shows given = tt
@@ -24,7 +25,7 @@ leaves-one processors memory host M p new (Some t) (Some g) shows given =
 leaves-one processors memory host M p new None (Some g) shows given = absurd given
 leaves-one processors memory host M p new (Some t) None shows given = absurd given
 
-pub leaves-at : (processors : List Processor) (memory : List ℕ) (host : Progress) (M : State) (p : ℕ) (f : Spe → Option Given) (d new : Processor) (r : Option Taken)
+pub leaves-at : (processors : List Processor) (memory : SharedMemory) (host : Progress) (M : State) (p : ℕ) (f : Spe → Option Given) (d new : Processor) (r : Option Taken)
     → Shows processors memory host M → p < length processors
     → ((P : Spe) → ShowsSpe (slice_index_or processors p d) P → Gives r (f P) new)
     → Leaves r (at_spe M p f) (slice_set processors p new) memory host
@@ -32,18 +33,18 @@ leaves-at processors memory host M p f d new r shows h does =
     let two = two_at ShowsSpe processors M.spes p d shows.spes h in
     rw two.1 (leaves-one processors memory host M p new r (f two.0) shows (does two.0 two.2))
 
-pub leaves-absent : (processors : List Processor) (memory : List ℕ) (host : Progress) (M : State) (p : ℕ) (f : Spe → Option Given)
+pub leaves-absent : (processors : List Processor) (memory : SharedMemory) (host : Progress) (M : State) (p : ℕ) (f : Spe → Option Given)
     → Shows processors memory host M → length processors ≤ p → Leaves None (at_spe M p f) processors memory host
 leaves-absent processors memory host M p f shows h = rw (two_none ShowsSpe processors M.spes p shows.spes h) tt
 
 -- the action was done, and is counted
-after : (processors : List Processor) (memory : List ℕ) (host : Progress) (t : Taken) (o : Option Acted)
+after : (processors : List Processor) (memory : SharedMemory) (host : Progress) (t : Taken) (o : Option Acted)
     → Leaves (Some t) o processors memory host → IsSomeAnd (option_map after_action o) (Shows processors memory (advanced host t.value))
 after processors memory host t None h = absurd h
 after processors memory host t (Some d) h =
     record { spes = h.0.spes; memory_is = h.0.memory_is; host_is = ap (λ x. advanced x d.took) h.0.host_is ∙ ap (advanced host) h.1 }
 
-none_left : (processors : List Processor) (memory : List ℕ) (host : Progress) (o : Option Acted) → Leaves None o processors memory host → option_map after_action o ≡ None
+none_left : (processors : List Processor) (memory : SharedMemory) (host : Progress) (o : Option Acted) → Leaves None o processors memory host → option_map after_action o ≡ None
 none_left processors memory host None h = refl
 none_left processors memory host (Some d) h = absurd h
 
@@ -54,13 +55,13 @@ pub host-over : (M : State) (host : Progress) → M.host ≡ host → slice_get 
 unfolding host_step
 host-over M host same none = rw (same, none) refl
 
-pub host-done : (processors : List Processor) (memory : List ℕ) (host : Progress) (M : State) (a : HostAction) (t : Taken)
+pub host-done : (processors : List Processor) (memory : SharedMemory) (host : Progress) (M : State) (a : HostAction) (t : Taken)
     → M.host ≡ host → slice_get host.script host.done ≡ Some a → Leaves (Some t) (acted M a) processors memory host
     → IsSomeAnd (host_step M) (Shows processors memory (advanced host t.value))
 unfolding host_step
 host-done processors memory host M a t same next h = rw (at_state M host a same next) (after processors memory host t (acted M a) h)
 
-pub host-refused : (processors : List Processor) (memory : List ℕ) (host : Progress) (M : State) (a : HostAction)
+pub host-refused : (processors : List Processor) (memory : SharedMemory) (host : Progress) (M : State) (a : HostAction)
     → M.host ≡ host → slice_get host.script host.done ≡ Some a → Leaves None (acted M a) processors memory host → host_step M ≡ None
 unfolding host_step
 host-refused processors memory host M a same next h = rw (at_state M host a same next) (none_left processors memory host (acted M a) h)
@@ -70,7 +71,7 @@ pub host-allowed : (M : State) (host : Progress) (a : HostAction) (b : Bool) →
 unfolding host_step
 host-allowed M host a b same next h = h ∙ sym (rw (at_state M host a same next) (is_some_map after_action (acted M a)))
 
-pub at-allowed : (processors : List Processor) (memory : List ℕ) (host : Progress) (M : State) (p : ℕ) (f : Spe → Option Given) (x : Processor) (b : Bool)
+pub at-allowed : (processors : List Processor) (memory : SharedMemory) (host : Progress) (M : State) (p : ℕ) (f : Spe → Option Given) (x : Processor) (b : Bool)
     → Shows processors memory host M → p < length processors → x ≡ slice_index_or processors p x → ((P : Spe) → ShowsSpe x P → b ≡ is_some (f P))
     → b ≡ is_some (at_spe M p f)
 at-allowed processors memory host M p f x b shows h at test =
@@ -78,7 +79,7 @@ at-allowed processors memory host M p f x b shows h at test =
     sym (rw two.1 (is_some_map (λ g. record { state = with_spe M p g.spe; took = g.took }) (f two.0)
     ∙ sym (test two.0 (subst (λ y. ShowsSpe y two.0) (sym at) two.2))))
 
-pub at-absent : (processors : List Processor) (memory : List ℕ) (host : Progress) (M : State) (p : ℕ) (f : Spe → Option Given)
+pub at-absent : (processors : List Processor) (memory : SharedMemory) (host : Progress) (M : State) (p : ℕ) (f : Spe → Option Given)
     → Shows processors memory host M → length processors ≤ p → is_some (at_spe M p f) ≡ false
 at-absent processors memory host M p f shows h = rw (two_none ShowsSpe processors M.spes p shows.spes h) refl
 
@@ -103,7 +104,7 @@ pub acted-store : (M : State) (ea len : ℕ) (bytes : List ℕ) → is_some (act
 unfolding acted
 acted-store M ea len bytes = refl
 
-pub store-leaves : (processors : List Processor) (old new : List ℕ) (host : Progress) (M : State) (ea len : ℕ) (bytes : List ℕ) (t : Taken)
+pub store-leaves : (processors : List Processor) (old new : SharedMemory) (host : Progress) (M : State) (ea len : ℕ) (bytes : List ℕ) (t : Taken)
     → Shows processors old host M → new ≡ put old ea (take len bytes) → t.value ≡ None → Leaves (Some t) (acted M (Store ea len bytes)) processors new host
 unfolding acted
 store-leaves processors old new host M ea len bytes t shows stored took =

@@ -9,6 +9,7 @@ use Rattle.cell_base.specs.declared.steps.Step.TheVariants.{Exec, Piece, Elem}
 use Rattle.mfc_command.specs.declared.command.Command.{Command}
 use Rattle.mfc_command.specs.Order.{is_list}
 use Rattle.mfc_lists.specs.declared.Element.{Element}
+use Rattle.cell_machine.specs.declared.memory.SharedMemory.{SharedMemory}
 use Rattle.cell_machine.specs.Spe.{Spe, Moves, PartDone, Stall, is_faulted}
 use Rattle.cell_machine.specs.State.{State}
 use Rattle.cell_machine.specs.Moves.{read_of, whole, elements_of, present, parts_in, is_done, is_finished, is_resumed, stalls_of_tag}
@@ -18,7 +19,8 @@ use Rattle.cell_machine.proofs.MovesShown.{eq_same, get-within}
 use Rattle.cell_machine.proofs.Same.{get-last, range-fails, read-more, all-at, some_same}
 use Rattle.cell_machine.proofs.Elements.{not_on, is_stall_of, element-is, last-number, list-elements, part-is, present-last}
 use Rattle.mfc_lists.proofs.ReadingLemmas.{last_or-snoc}
-use Rattle.cell_machine.specs.Next.{next, lines_of}
+use Rattle.cell_machine.specs.Memory.{lines_of}
+use Rattle.cell_machine.specs.Next.{next}
 use Rattle.cell_machine.specs.Opening.{Opening, opening, opening_spe, no_moves}
 use Rattle.cell_machine.specs.Run.{Ran, IsRun, replay, spe_of}
 use Rattle.cell_host.specs.Script.{Progress}
@@ -196,7 +198,7 @@ not_elem q b p c e = cc
 
 just-read : (lines p c : ℕ) (P Q : Spe) (d : Command) (x : Element) → Seen lines (Elem p c) p P Q → is_faulted Q.status ≡ false → AreInOrder P.moves → slice_get Q.moves.issued c ≡ Some d → present Q.moves.read c d ≡ Some x
     → JustRead Q c d x
-just-read lines p c P Q d x (another other same status) whole order at last = absurd (true≢false (sym (eq_same p) ∙ other))
+just-read lines p c P Q d x (another other same status reserved) whole order at last = absurd (true≢false (sym (eq_same p) ∙ other))
 just-read lines p c P Q d x (goes g) whole order at last = on g.moved
   where
     on : Moved lines (Elem p c) p P Q → JustRead Q c d x
@@ -330,7 +332,7 @@ acknowledges-at lines s p c e P Q d seen at was now = on seen
     moved (acts of same) = stayed (ap (λ (m : Moves). m.resumed) same)
 
     on : Seen lines s p P Q → (s ≡ Exec p) × (asks P ≡ Some (Write 26 d.tag))
-    on (another other same status) = stayed (ap (λ (m : Moves). m.resumed) same)
+    on (another other same status reserved) = stayed (ap (λ (m : Moves). m.resumed) same)
     on (goes g) = moved g.moved
 
 -- so among steps between which a stall came to be acknowledged there is one
@@ -377,7 +379,7 @@ run-resumed m before between after p c P d x run at there last flagged =
     let two = two-readings m.setup before between after p c P d x run at there last in
     ack-found m (before ++ Elem p c ∷ []) between two.here.state two.state p c x.number P two.spe d two.here.replayed two.run two.here.at two.at there two.read.not_resumed (two.resumed flagged)
 
-pub machine-lists_in_order : (setup : Opening) (steps : List Step) (capacity : ℕ) (processors : List Processor) (memory : List ℕ) (host : Progress) (m : Ran)
+pub machine-lists_in_order : (setup : Opening) (steps : List Step) (capacity : ℕ) (processors : List Processor) (memory : SharedMemory) (host : Progress) (m : Ran)
     → IsMachine setup steps capacity processors memory host → record { setup = setup; steps = steps } ≡ m → ListsAreInOrder m
 machine-lists_in_order setup steps capacity processors memory host m is view =
     let run : IsRun setup steps = (ap is_some is.replayed, is.within) in

@@ -351,7 +351,7 @@ not_yet true b h k = absurd (true≢false (sym (h refl) ∙ k))
 not_yet false b h k = refl
 
 pub follows-next : (lines p : ℕ) (steps : List Step) (s : Step) (P Q : Spe) → Follows p steps P → Seen lines s p P Q → Follows p (steps ++ s ∷ []) Q
-follows-next lines p steps s P Q was (another other same status) = record {
+follows-next lines p steps s P Q was (another other same status reserved) = record {
   order = subst AreInOrder (sym same) was.order;
   read = λ h c. count-snoc (is_reading p c) steps s ∙ ap (λ b. count_by (is_reading p c) steps + one_if b) (away-reading p c s other) ∙ add-zero (count_by (is_reading p c) steps)
       ∙ was.read (ap is_faulted (sym status) ∙ h) c ∙ ap (λ (m : Moves). length (read_of m.read c)) (sym same);
@@ -404,7 +404,7 @@ moved-more lines s p P Q (retires c d of at left same) = subst (HasMore P.moves)
 moved-more lines s p P Q (acts of same) = subst (HasMore P.moves) (sym same) (λ c d e. e, λ c i x e. e)
 
 pub seen-later : (lines : ℕ) (s : Step) (p : ℕ) (P Q : Spe) → Seen lines s p P Q → Later P Q
-seen-later lines s p P Q (another other same status) =
+seen-later lines s p P Q (another other same status reserved) =
     let more = subst (HasMore P.moves) (sym same) (λ c d e. e, λ c i x e. e) in
     record { issued = more.0; read = more.1; faulted = λ e. ap is_faulted status ∙ e }
 seen-later lines s p P Q (goes g) = let more = moved-more lines s p P Q g.moved in record { issued = more.0; read = more.1; faulted = g.faulted }

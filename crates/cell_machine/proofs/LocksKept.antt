@@ -31,6 +31,10 @@ use Rattle.cell_machine.specs.Order.{after_steps}
 use Rattle.cell_machine.proofs.Replays.{replay-snoc}
 use Rattle.cell_machine.specs.Locks.{stored_by_piece, stored_by_fate, stored_by_atomic, stored_by_action, stored_by, StoresTo, Does, is_lock, IsReserved, AreLocksKept}
 
+some-of : {X Y : Type 0} (f : X → Option Y) (o : Option X) (y : Y) → option_and_then f o ≡ Some y → (x : X) × (o ≡ Some x) × (f x ≡ Some y)
+some-of f None y h = absurd (cc)
+some-of f (Some x) y h = (x, refl, h)
+
 -- ---- the versions after a step
 
 -- after a store to a line, if there is one

@@ -3,10 +3,12 @@ use Rattle.std.proofs.Common.{◌≡◌, slice_index_or, ℕ, ◌+◌, ◌<◌, 
 use Rattle.std.specs.Prelude.{Option, Some, None, IsSomeAnd, option_map, option_and_then, All, map}
 use Rattle.cell_base.specs.declared.steps.Step.{Step}
 use Rattle.cell_machine.specs.declared.processor.Processor.{Processor}
+use Rattle.cell_machine.specs.declared.memory.SharedMemory.{SharedMemory}
 use Rattle.cell_machine.specs.Spe.{Spe}
 use Rattle.cell_host.specs.Script.{Progress}
 use Rattle.cell_machine.specs.State.{State}
-use Rattle.cell_machine.specs.Next.{act, next, ended_by, settled_in, lines_of}
+use Rattle.cell_machine.specs.Memory.{lines_of}
+use Rattle.cell_machine.specs.Next.{act, next, ended_by, settled_in}
 use Rattle.cell_machine.specs.Opening.{Opening, opening}
 use Rattle.cell_machine.specs.Run.{Ran, replay, spe_of, state_of}
 use Rattle.cell_machine.specs.Tags.{settled}
@@ -49,7 +51,7 @@ replay-length M (s ∷ steps) N h = on (next M s) refl h (λ K. replay-length K 
         omega arith
 
 -- an allowed step takes a machine to a machine
-pub machine-step : (setup : Opening) (steps : List Step) (capacity : ℕ) (processors new : List Processor) (memory memory2 : List ℕ) (host host2 : Progress) (s : Step) (room : ℕ)
+pub machine-step : (setup : Opening) (steps : List Step) (capacity : ℕ) (processors new : List Processor) (memory memory2 : SharedMemory) (host host2 : Progress) (s : Step) (room : ℕ)
     → (old : IsMachine setup steps capacity processors memory host)
     → IsSomeAnd (act old.state s) (λ N. Shows new memory2 host2 (settled_in N)) → length new ≡ length processors → length memory2 ≡ length memory → host2.script ≡ host.script
     → length steps < setup.budget → capacity ≤ room
@@ -75,7 +77,7 @@ machine-step setup steps capacity processors new memory memory2 host host2 s roo
     }
 
 -- each processor of a machine that isn't at the end of its budget can make a step
-pub machine-can : (setup : Opening) (steps : List Step) (capacity : ℕ) (processors : List Processor) (memory : List ℕ) (host : Progress)
+pub machine-can : (setup : Opening) (steps : List Step) (capacity : ℕ) (processors : List Processor) (memory : SharedMemory) (host : Progress)
     → IsMachine setup steps capacity processors memory host → length steps < setup.budget → CanGo processors memory
 machine-can setup steps capacity processors memory host is within = record { lines = setup.lines; long = is.long; each = each }
   where
@@ -88,7 +90,7 @@ machine-can setup steps capacity processors memory host is within = record { lin
         record { spe = two.0; shows = two.2; bounded = record { few = omega arith; fits = bound.fits; elements = bound.elements } }
 
 -- what each processor of a machine knows of its queue
-pub machine-kept : {setup : Opening} {steps : List Step} {capacity : ℕ} {processors : List Processor} {memory : List ℕ} {host : Progress}
+pub machine-kept : {setup : Opening} {steps : List Step} {capacity : ℕ} {processors : List Processor} {memory : SharedMemory} {host : Progress}
     → IsMachine setup steps capacity processors memory host → All (λ c. IsKept c.commands.queue) processors
 machine-kept is k d h =
     let two = two_at ShowsSpe _ is.state.spes k d is.shown.spes h in
@@ -100,12 +102,12 @@ machine-kept is k d h =
     record { calls = q.calls; stands = q.stands; numbered = omega arith }
 
 -- each action of a machine's script fits it
-pub machine-fit : (setup : Opening) (steps : List Step) (capacity : ℕ) (processors : List Processor) (memory : List ℕ) (host : Progress)
+pub machine-fit : (setup : Opening) (steps : List Step) (capacity : ℕ) (processors : List Processor) (memory : SharedMemory) (host : Progress)
     → IsMachine setup steps capacity processors memory host → IsFit (length processors) memory host
 machine-fit setup steps capacity processors memory host is = record { lines = setup.lines; long = is.long; actions = rw (is.script, is.count) is.actions }
 
 -- the processor at p is that of the state that the machine stands for
-pub machine-spe : {memory : List ℕ} {host : Progress} (setup : Opening) (steps : List Step) (capacity : ℕ) (processors : List Processor) (m : Ran) (p : ℕ) (x : Processor) (Q : Spe → Type 0)
+pub machine-spe : {memory : SharedMemory} {host : Progress} (setup : Opening) (steps : List Step) (capacity : ℕ) (processors : List Processor) (m : Ran) (p : ℕ) (x : Processor) (Q : Spe → Type 0)
     → IsMachine setup steps capacity processors memory host → record { setup = setup; steps = steps } ≡ m → p < length m.setup.entries → x ≡ slice_index_or processors p x
     → ((P : Spe) → ShowsSpe x P → Q P)
     → IsSomeAnd (spe_of m p) Q
@@ -123,7 +125,7 @@ pub run-length : (S : Opening) (steps : List Step) (M : State) → replay (openi
 run-length S steps M h = replay-length (opening S) steps M h ∙ ap (λ xs. length xs + length steps) (opening-steps S) ∙ zero-add (length steps)
 
 -- what holds of each state that the processors show, with so many steps, holds of the state that the machine stands for
-pub machine-state : {memory : List ℕ} {host : Progress} (setup : Opening) (steps : List Step) (capacity : ℕ) (processors : List Processor) (m : Ran) (Q : State → Type 0)
+pub machine-state : {memory : SharedMemory} {host : Progress} (setup : Opening) (steps : List Step) (capacity : ℕ) (processors : List Processor) (m : Ran) (Q : State → Type 0)
     → IsMachine setup steps capacity processors memory host → record { setup = setup; steps = steps } ≡ m
     → ((M : State) → Shows processors memory host M → length M.steps ≡ length steps → Q M)
     → IsSomeAnd (state_of m) Q
@@ -132,7 +134,7 @@ machine-state setup steps capacity processors m Q is view k =
     subst (λ n. IsSomeAnd (state_of n) Q) view (rw is.replayed (k is.state is.shown long))
 
 -- and what is computed of each is computed of it
-pub machine-computes : {memory : List ℕ} {host : Progress} {A : Type 0} (setup : Opening) (steps : List Step) (capacity : ℕ) (processors : List Processor) (m : Ran) (f : State → Option A) (r : Option A)
+pub machine-computes : {memory : SharedMemory} {host : Progress} {A : Type 0} (setup : Opening) (steps : List Step) (capacity : ℕ) (processors : List Processor) (m : Ran) (f : State → Option A) (r : Option A)
     → IsMachine setup steps capacity processors memory host → record { setup = setup; steps = steps } ≡ m
     → ((M : State) → Shows processors memory host M → r ≡ f M)
     → r ≡ option_and_then f (state_of m)

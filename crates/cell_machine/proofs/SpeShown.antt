@@ -312,15 +312,6 @@ issued-at calls m c y shows got = subst (λ xs. slice_get xs c ≡ Some y) shows
 pub few-outstanding : (q : Queue) (calls : List Call) → StandsFor q calls → length (outstanding_calls calls) ≤ 16
 few-outstanding q calls stands = let e = ap length stands.numbers ∙ length-map q.held.items _ in let l = stands.many in omega arith
 
--- the copies of a part
-pub copied-put : (memory new store : List ℕ) (P : Spe) (x : Part) → P.store ≡ store → new ≡ put memory x.ea (slice_range store x.ls (x.ls + x.len)) → copied memory P true x ≡ record { spe = record P { store = store }; memory = new }
-unfolding copied
-copied-put memory new store P x same is = rw is (ap (λ (s : List ℕ). record { spe = record P { store = s }; memory = put memory x.ea (slice_range s x.ls (x.ls + x.len)) }) same)
-
-pub copied-get : (memory new store : List ℕ) (P : Spe) (x : Part) → P.store ≡ store → new ≡ put store x.ls (slice_range memory x.ea (x.ea + x.len)) → copied memory P false x ≡ record { spe = record P { store = new }; memory = memory }
-unfolding copied
-copied-get memory new store P x same is = rw is (ap (λ (s : List ℕ). record { spe = record P { store = put s x.ls (slice_range memory x.ea (x.ea + x.len)) }; memory = memory }) same)
-
 pub status-off : (P : Spe) (rt : ℕ) (o : Option TagStatus) → is_some o ≡ false → read_status P rt o ≡ None
 status-off P rt None h = refl
 status-off P rt (Some status) h = absurd (true≢false h)

@@ -1,26 +1,29 @@
 -- A step of one processor, in the whole machine.
-use Rattle.std.proofs.Common.{◌≡◌, ℕ, ◌<◌, ◌≤◌, ◌*◌, List, map, length, arith, refl, sym, ◌∙◌, ap, subst, slice_index_or, slice_set, true, false, Bool}
-use Rattle.std.specs.Prelude.{Option, Some, None, IsSomeAnd, MatchBool, slice_get, option_map, option_and_then}
+use Rattle.std.proofs.Common.{◌≡◌, ℕ, zero, suc, ◌<◌, ◌≤◌, ◌*◌, List, [], ◌∷◌, map, length, arith, refl, sym, ◌∙◌, ap, subst, slice_index_or, slice_set, true, false, Bool}
+use Rattle.std.specs.Prelude.{Option, Some, None, IsSomeAnd, IfSome, MatchBool, slice_get, option_map, option_and_then}
 use Rattle.std.proofs.lemmas.List.{map-set}
 use Rattle.tag_groups.specs.declared.Tags.{Tags}
 use Rattle.tag_groups.specs.declared.Request.{Request}
 use Rattle.tag_groups.specs.Settle.{settled_tags, fixed_at, is_met}
 use Rattle.cell_base.specs.declared.steps.Step.{Step}
-use Rattle.cell_base.specs.declared.steps.Step.TheVariants.{Exec, Elem, Atomic}
+use Rattle.cell_base.specs.declared.steps.Step.TheVariants.{Exec, Elem}
 use Rattle.cell_host.specs.Script.{Progress}
+use Rattle.lock_lines.specs.Versions.{Reserved}
+use Rattle.cell_machine.specs.declared.memory.SharedMemory.{SharedMemory}
 use Rattle.cell_machine.specs.declared.processor.Processor.{Processor}
 use Rattle.cell_machine.specs.Spe.{Spe}
 use Rattle.cell_machine.specs.State.{State, with_spe}
 use Rattle.cell_machine.specs.Tags.{settled}
 use Rattle.cell_machine.specs.Exec.{exec}
 use Rattle.cell_machine.specs.Transfers.{elem, Left}
-use Rattle.cell_machine.specs.Atomic.{atomic}
-use Rattle.cell_machine.specs.Next.{act, act_in, own, left, lines_of, with_left, settled_in}
-use Rattle.cell_machine.specs.Shows.{Shows, ShowsSpe, AllTwo, AreSettled}
+use Rattle.cell_machine.specs.Memory.{MainMemory, lines_of}
+use Rattle.cell_machine.specs.Next.{act_in, own, left, with_left, settled_in}
+use Rattle.cell_machine.specs.Shows.{Shows, ShowsSpe, ShowsMemory, reservations, AllTwo, AreSettled}
 use Rattle.cell_machine.proofs.AllTwo.{two_at, two_none, two_set, some_map}
+use Rattle.cell_machine.proofs.MemoryShown.{set-same}
 
 -- a processor that isn't there makes no step
-pub act-absent : {memory : List ℕ} {host : Progress} {X : Type 0} (f : Spe → Option X) (processors : List Processor) (M : State) (p : ℕ) → Shows processors memory host M → length processors ≤ p → option_and_then f (slice_get M.spes p) ≡ None
+pub act-absent : {memory : SharedMemory} {host : Progress} {X : Type 0} (f : Spe → Option X) (processors : List Processor) (M : State) (p : ℕ) → Shows processors memory host M → length processors ≤ p → option_and_then f (slice_get M.spes p) ≡ None
 act-absent f processors M p shows h = ap (option_and_then f) (two_none ShowsSpe processors M.spes p shows.spes h)
 
 fixed-again : (busy issued : ℕ) (t : Tags) (r : Request) (b : Bool) → t.request ≡ Some r → is_met busy r ≡ b → settled_tags busy issued (fixed_at busy issued t (Some r)) ≡ fixed_at busy issued t (Some r)
@@ -43,61 +46,72 @@ settled-set spes p P all =
     ap (map settled) (settled_once spes p P all) ∙ map-set settled spes p (settled P) ∙ ap (λ xs. slice_set xs p (settled (settled P))) all
     ∙ ap (slice_set spes p) (settled-twice P) ∙ sym (settled_once spes p P all)
 
-state-step : {memory memory2 : List ℕ} {host : Progress} (processors : List Processor) (M N : State) (p : ℕ) (new : Processor) (P : Spe) → Shows processors memory host M → AreSettled M.spes
-    → N.spes ≡ slice_set M.spes p P → N.memory ≡ memory2 → N.host ≡ M.host → ShowsSpe new (settled P)
+-- settling leaves what is reserved
+settled_reserved : (spes : List Spe) → reservations (map settled spes) ≡ reservations spes
+settled_reserved [] = refl
+settled_reserved (P ∷ spes) = ap (λ xs. P.reserved ∷ xs) (settled_reserved spes)
+
+reserved_set : (spes : List Spe) (p : ℕ) (P : Spe) → reservations (map settled (slice_set spes p P)) ≡ slice_set (reservations spes) p P.reserved
+reserved_set spes p P = settled_reserved (slice_set spes p P) ∙ map-set (λ (Q : Spe). Q.reserved) spes p P
+
+state-step : {memory : SharedMemory} {host : Progress} (memory2 : SharedMemory) (processors : List Processor) (M N : State) (p : ℕ) (new : Processor) (P : Spe) → Shows processors memory host M → AreSettled M.spes
+    → N.spes ≡ slice_set M.spes p P → ShowsMemory memory2 N.memory (slice_set (reservations M.spes) p P.reserved) → N.host ≡ M.host → ShowsSpe new (settled P)
     → Shows (slice_set processors p new) memory2 host (settled_in N)
-state-step processors M N p new P shows all spes is same one = record {
+state-step memory2 processors M N p new P shows all spes is same one = record {
   spes = subst (AllTwo ShowsSpe (slice_set processors p new)) (sym (ap (map settled) spes ∙ settled_once M.spes p P all)) (two_set ShowsSpe processors M.spes p new (settled P) shows.spes one);
-  memory_is = is;
+  memory_is = subst (ShowsMemory memory2 N.memory) (sym (ap (λ xs. reservations (map settled xs)) spes ∙ reserved_set M.spes p P)) is;
   host_is = same ∙ shows.host_is;
 }
 
+-- what is left of a step of processor p is what the code has
+abbrev pub IsLeft : SharedMemory → Processor → State → ℕ → Left → Type 0
+IsLeft memory new M p x = ShowsSpe new (settled x.spe) × ShowsMemory memory x.memory (slice_set (reservations M.spes) p x.spe.reserved)
+
 -- the call of the processor at p did the step, or left all as it was
-pub act-left : {memory : List ℕ} {host : Progress} (memory2 : List ℕ) (f : List ℕ → Spe → Option Left) (processors : List Processor) (d new : Processor) (M : State) (p : ℕ) (made : Bool) → Shows processors memory host M → AreSettled M.spes → p < length processors
-    → ((P : Spe) → ShowsSpe (slice_index_or processors p d) P → MatchBool made (IsSomeAnd (f memory P) (λ x. ShowsSpe new (settled x.spe) × (x.memory ≡ memory2))) (f memory P ≡ None))
-    → MatchBool made (IsSomeAnd (option_and_then (λ P. option_map (with_left M p) (f M.memory P)) (slice_get M.spes p)) (λ N. Shows (slice_set processors p new) memory2 host (settled_in N))) (option_and_then (λ P. option_map (with_left M p) (f M.memory P)) (slice_get M.spes p) ≡ None)
-act-left {memory = memory} {host = host} memory2 f processors d new M p true shows all h does =
+pub act-own : {memory : SharedMemory} {host : Progress} (memory2 : SharedMemory) (s : Step) (processors : List Processor) (d new : Processor) (M : State) (p : ℕ) (made : Bool) → Shows processors memory host M → AreSettled M.spes → p < length processors
+    → ((P : Spe) → slice_get M.spes p ≡ Some P → ShowsSpe (slice_index_or processors p d) P → MatchBool made (IsSomeAnd (own M.memory s P) (IsLeft memory2 new M p)) (own M.memory s P ≡ None))
+    → MatchBool made (IsSomeAnd (act_in M p s) (λ N. Shows (slice_set processors p new) memory2 host (settled_in N))) (act_in M p s ≡ None)
+act-own {host = host} memory2 s processors d new M p true shows all h does =
     let two = two_at ShowsSpe processors M.spes p d shows.spes h in
-    let e : f memory two.0 ≡ f M.memory two.0 = ap (λ m. f m two.0) (sym shows.memory_is) in
-    rw two.1 (subst (λ o. IsSomeAnd (option_map (with_left M p) o) (λ N. Shows (slice_set processors p new) memory2 host (settled_in N))) e
-    (some_map (with_left M p) (f memory two.0) (λ x. ShowsSpe new (settled x.spe) × (x.memory ≡ memory2)) (λ N. Shows (slice_set processors p new) memory2 host (settled_in N))
-    (λ x t. state-step processors M (with_left M p x) p new x.spe shows all refl t.1 refl t.0)
-    (does two.0 two.2)))
-act-left {memory = memory} memory2 f processors d new M p false shows all h does =
+    rw two.1 (some_map (with_left M p) (own M.memory s two.0) (IsLeft memory2 new M p) (λ N. Shows (slice_set processors p new) memory2 host (settled_in N))
+    (λ x t. state-step memory2 processors M (with_left M p x) p new x.spe shows all refl t.1 refl t.0)
+    (does two.0 two.1 two.2))
+act-own memory2 s processors d new M p false shows all h does =
     let two = two_at ShowsSpe processors M.spes p d shows.spes h in
-    let none : f M.memory two.0 ≡ None = ap (λ m. f m two.0) shows.memory_is ∙ does two.0 two.2 in
+    let none : own M.memory s two.0 ≡ None = does two.0 two.1 two.2 in
     rw (two.1, none) refl
 
-pub act-own : {memory : List ℕ} {host : Progress} (memory2 : List ℕ) (s : Step) (processors : List Processor) (d new : Processor) (M : State) (p : ℕ) (made : Bool) → Shows processors memory host M → AreSettled M.spes → p < length processors
-    → ((P : Spe) → ShowsSpe (slice_index_or processors p d) P → MatchBool made (IsSomeAnd (own memory s P) (λ x. ShowsSpe new (settled x.spe) × (x.memory ≡ memory2))) (own memory s P ≡ None))
-    → MatchBool made (IsSomeAnd (act_in M p s) (λ N. Shows (slice_set processors p new) memory2 host (settled_in N))) (act_in M p s ≡ None)
-act-own memory2 s processors d new M p made shows all h does = act-left memory2 (λ m P. own m s P) processors d new M p made shows all h does
+pub reserved-at : (spes : List Spe) (p : ℕ) (P : Spe) → slice_get spes p ≡ Some P → slice_get (reservations spes) p ≡ Some P.reserved
+reserved-at [] p P h = absurd (cc)
+reserved-at (Q ∷ spes) zero P h = let e : Q ≡ P = cc in ap (λ (R : Spe). Some R.reserved) e
+reserved-at (Q ∷ spes) (suc p) P h = reserved-at spes p P h
 
--- a step that leaves the memory
-pub left-alone : (memory : List ℕ) (o : Option Spe) (R : Spe → Type 0) (made : Bool) → MatchBool made (IsSomeAnd o R) (o ≡ None)
-    → MatchBool made (IsSomeAnd (option_map (left memory) o) (λ x. R x.spe × (x.memory ≡ memory))) (option_map (left memory) o ≡ None)
-left-alone memory None R true h = h
-left-alone memory (Some Q) R true h = (h, refl)
-left-alone memory o R false h = rw h refl
+-- a step that leaves the memory and what is reserved
+pub left-alone : (memory : SharedMemory) (new : Processor) (M : State) (p : ℕ) (P : Spe) (o : Option Spe) (made : Bool) → slice_get M.spes p ≡ Some P → ShowsMemory memory M.memory (reservations M.spes)
+    → IfSome o (λ Q. Q.reserved ≡ P.reserved) → MatchBool made (IsSomeAnd o (λ Q. ShowsSpe new (settled Q))) (o ≡ None)
+    → MatchBool made (IsSomeAnd (option_map (left M.memory) o) (IsLeft memory new M p)) (option_map (left M.memory) o ≡ None)
+left-alone memory new M p P None true at shows same h = h
+left-alone memory new M p P (Some Q) true at shows same h =
+    (h, subst (ShowsMemory memory M.memory) (sym (ap (slice_set (reservations M.spes) p) same ∙ set-same (reservations M.spes) p P.reserved (reserved-at M.spes p P at))) shows)
+left-alone memory new M p P o false at shows same h = rw h refl
 
-pub lines-is : (memory : List ℕ) (lines : ℕ) → 128 * lines ≡ length memory → lines_of memory ≡ lines
-lines-is memory lines long = omega arith
+-- a piece leaves what is reserved
+pub left-reserved : (memory : SharedMemory) (new : Processor) (M : State) (p : ℕ) (P : Spe) (o : Option Left) (made : Bool) → slice_get M.spes p ≡ Some P
+    → IfSome o (λ x. x.spe.reserved ≡ P.reserved) → MatchBool made (IsSomeAnd o (λ x. ShowsSpe new (settled x.spe) × ShowsMemory memory x.memory (reservations M.spes))) (o ≡ None)
+    → MatchBool made (IsSomeAnd o (IsLeft memory new M p)) (o ≡ None)
+left-reserved memory new M p P None true at same h = h
+left-reserved memory new M p P (Some x) true at same h =
+    (h.0, subst (ShowsMemory memory x.memory) (sym (ap (slice_set (reservations M.spes) p) same ∙ set-same (reservations M.spes) p P.reserved (reserved-at M.spes p P at))) h.1)
+left-reserved memory new M p P o false at same h = h
 
-pub exec-own : (memory : List ℕ) (p lines : ℕ) (P : Spe) (R : Spe → Type 0) (made : Bool) → 128 * lines ≡ length memory → MatchBool made (IsSomeAnd (exec lines P) R) (exec lines P ≡ None)
-    → MatchBool made (IsSomeAnd (own memory (Exec p) P) (λ x. R x.spe × (x.memory ≡ memory))) (own memory (Exec p) P ≡ None)
-exec-own memory p lines P R made long h =
-    left-alone memory (exec (lines_of memory) P) R made (subst (λ n. MatchBool made (IsSomeAnd (exec n P) R) (exec n P ≡ None)) (sym (lines-is memory lines long)) h)
+pub lines-is : (memory : MainMemory) (bytes : List ℕ) (lines : ℕ) → memory.bytes ≡ bytes → 128 * lines ≡ length bytes → lines_of memory ≡ lines
+lines-is memory bytes lines same long = let e = ap length same in omega arith
 
-pub elem-own : (memory : List ℕ) (p lines c : ℕ) (P : Spe) (R : Spe → Type 0) (made : Bool) → 128 * lines ≡ length memory → MatchBool made (IsSomeAnd (elem lines P c) R) (elem lines P c ≡ None)
-    → MatchBool made (IsSomeAnd (own memory (Elem p c) P) (λ x. R x.spe × (x.memory ≡ memory))) (own memory (Elem p c) P ≡ None)
-elem-own memory p lines c P R made long h =
-    left-alone memory (elem (lines_of memory) P c) R made (subst (λ n. MatchBool made (IsSomeAnd (elem n P c) R) (elem n P c ≡ None)) (sym (lines-is memory lines long)) h)
+-- an instruction and the reading of an element, by the lines that the code counts
+pub lines-exec : (memory : MainMemory) (bytes : List ℕ) (lines : ℕ) (P : Spe) (R : Spe → Type 0) (made : Bool) → memory.bytes ≡ bytes → 128 * lines ≡ length bytes → MatchBool made (IsSomeAnd (exec lines P) R) (exec lines P ≡ None)
+    → MatchBool made (IsSomeAnd (exec (lines_of memory) P) R) (exec (lines_of memory) P ≡ None)
+lines-exec memory bytes lines P R made same long h = subst (λ n. MatchBool made (IsSomeAnd (exec n P) R) (exec n P ≡ None)) (sym (lines-is memory bytes lines same long)) h
 
--- no atomic command has a step
-pub act-atomic : (M : State) (p : ℕ) → act M (Atomic p) ≡ None
-unfolding atomic
-act-atomic M p = on (slice_get M.spes p)
-  where
-    on : (o : Option Spe) → option_and_then (λ P. option_map (with_left M p) (own M.memory (Atomic p) P)) o ≡ None
-    on None = refl
-    on (Some P) = refl
+pub lines-elem : (memory : MainMemory) (bytes : List ℕ) (lines c : ℕ) (P : Spe) (R : Spe → Type 0) (made : Bool) → memory.bytes ≡ bytes → 128 * lines ≡ length bytes → MatchBool made (IsSomeAnd (elem lines P c) R) (elem lines P c ≡ None)
+    → MatchBool made (IsSomeAnd (elem (lines_of memory) P c) R) (elem (lines_of memory) P c ≡ None)
+lines-elem memory bytes lines c P R made same long h = subst (λ n. MatchBool made (IsSomeAnd (elem n P c) R) (elem n P c ≡ None)) (sym (lines-is memory bytes lines same long)) h
