@@ -11,8 +11,8 @@ use Rattle.cell_machine.specs.Lists.{ListsAreInOrder}
 use Rattle.cell_machine.specs.Locks.{AreLocksKept}
 use Rattle.cell_report.specs.States.{states_of}
 
--- The record of one run of the written machine from the setup, in the order of its commands, and then its last states; the run has
--- ended.
+-- The record of one run of the written machine from the setup, in the order of its commands and of its lists, each PUTLLC storing
+-- exactly where its line is reserved, and then its last states; the run has ended.
 pub record PrintsRun (setup : Opening) (text : List ℕ) : Type 0 where
   pub steps : List Step
   pub last : State
