@@ -135,6 +135,13 @@ impl Channels {
         self.atomic = Some(status);
     }
 
+    /// Whether the status of an atomic command is there that wasn't read.
+    pub fn has_atomic(&self) -> bool
+        ensures { result ≡ is_some self.now.atomic }
+    {
+        self.atomic.is_some()
+    }
+
     /// Takes the status of an atomic command. NotReady comes exactly where none is there.
     pub fn read_atomic(&mut self) -> Result<u32, NotReady>
         ensures ready { is_ok result ≡ is_some self.old.atomic }

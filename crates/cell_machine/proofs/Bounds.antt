@@ -339,6 +339,19 @@ atomic_goes lines p memory P = if_so (may_atomic P) _ (λ x. Goes lines (Atomic 
       reserved = λ n. absurd (n refl);
     }))
 
+-- what is reserved stays, by each kind of step but an atomic one
+pub exec-reserved : (lines : ℕ) (P : Spe) → IfSome (exec lines P) (λ Q. Q.reserved ≡ P.reserved)
+exec-reserved lines P = if_on (exec lines P) (Goes lines (Exec 0) 0 P) (λ Q. Q.reserved ≡ P.reserved) (λ Q g. g.reserved (λ e. absurd (cc))) (exec_goes lines 0 P)
+
+pub elem-reserved : (lines : ℕ) (P : Spe) (c : ℕ) → IfSome (elem lines P c) (λ Q. Q.reserved ≡ P.reserved)
+elem-reserved lines P c = if_on (elem lines P c) (Goes lines (Elem 0 c) 0 P) (λ Q. Q.reserved ≡ P.reserved) (λ Q g. g.reserved (λ e. absurd (cc))) (elem_goes lines 0 P c)
+
+pub retire-reserved : (P : Spe) (c : ℕ) → IfSome (retire P c) (λ Q. Q.reserved ≡ P.reserved)
+retire-reserved P c = if_on (retire P c) (Goes 0 (Retire 0 c) 0 P) (λ Q. Q.reserved ≡ P.reserved) (λ Q g. g.reserved (λ e. absurd (cc))) (retire_goes 0 0 P c)
+
+pub piece-reserved : (memory : MainMemory) (P : Spe) (c e k : ℕ) → IfSome (piece memory P c e k) (λ x. x.spe.reserved ≡ P.reserved)
+piece-reserved memory P c e k = if_on (piece memory P c e k) (λ x. Goes 0 (Piece 0 c e k) 0 P x.spe) (λ x. x.spe.reserved ≡ P.reserved) (λ x g. g.reserved (λ f. absurd (cc))) (piece_goes 0 0 memory P c e k)
+
 left_goes : (memory : MainMemory) (s : Step) (p : ℕ) (P : Spe) (o : Option Spe) → IfSome o (Goes (lines_of memory) s p P) → IfSome (option_map (left memory) o) (λ x. Goes (lines_of memory) s p P x.spe)
 left_goes memory s p P None h = tt
 left_goes memory s p P (Some Q) h = h

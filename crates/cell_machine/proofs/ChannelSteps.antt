@@ -299,9 +299,9 @@ atomic_on lines P rt (Some status) e = rw e refl
 pub read-atomic : (lines : ℕ) (P : Spe) (rt : ℕ) → channel lines P (Read rt 27) ≡ read_atomic P rt P.channels.atomic
 read-atomic lines P rt = atomic_on lines P rt P.channels.atomic refl
 
-pub atomic-off : (P : Spe) (rt : ℕ) (o : Option ℕ) → is_none o ≡ true → read_atomic P rt o ≡ None
+pub atomic-off : (P : Spe) (rt : ℕ) (o : Option ℕ) → is_some o ≡ false → read_atomic P rt o ≡ None
 atomic-off P rt None h = refl
-atomic-off P rt (Some status) h = absurd (true≢false (sym h))
+atomic-off P rt (Some status) h = absurd (true≢false h)
 
 atomic_ready : (P : Spe) (rt : ℕ) (o : Option ℕ) → is_some (read_atomic P rt o) ≡ is_some o
 atomic_ready P rt None = refl

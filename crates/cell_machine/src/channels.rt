@@ -1,7 +1,7 @@
 //! The channel instructions of a processor.
 
 ghost use Rattle.std.specs.Prelude.{◌≡◌, ◌≢◌, ◌==◌, false, ◌<◌, ◌≤◌, ◌+◌, ℕ, List, [], ◌∷◌, length, is_some, true, None, Some, IsSomeAnd, MatchBool, nat_le, ◌&&◌};
-ghost use Rattle.std.specs.Bool.{OnFalse};
+ghost use Rattle.std.specs.Bool.{OnFalse, OnTrue};
 ghost use Rattle.spu_decode.specs.Spelling.{FieldsFit};
 ghost use Rattle.spu_exec.specs.Meaning.{meaning};
 ghost use Rattle.spu_exec.specs.Places.{RegisterFits};
@@ -9,6 +9,7 @@ ghost use Rattle.cell_machine.specs.Spe.{Spe};
 ghost use Rattle.mfc_queue.specs.Calls.{Call, outstanding};
 ghost use Rattle.mfc_queue.specs.Stands.{StandsFor};
 ghost use Rattle.cell_machine.specs.Channels.{channel, count, is_atomic, may_write, given, went_on, read_inbound, read_status, read_atomic, read_stalls, acknowledged, commanded};
+ghost use Rattle.cell_channels.specs.Table.{way_of};
 ghost use Rattle.cell_machine.specs.Exec.{op_of};
 
 use crate::processor::Processor;
@@ -152,7 +153,7 @@ impl Processor {
         ensures made { (P : Spe) → ShowsSpe self.old P → MatchBool result (IsSomeAnd (read_atomic P rt P.channels.atomic) (ShowsSpe self.new)) (read_atomic P rt P.channels.atomic ≡ None) }
         ensures refused { OnFalse result (self.new ≡ self.old) }
     {
-        if self.channels.atomic.is_none() {
+        if !self.channels.has_atomic() {
             return false;
         }
         match self.channels.read_atomic() {
@@ -247,7 +248,9 @@ impl Processor {
 
     /// Whether a command may be asked for: an atomic one where the slot is free, every other where the queue has a free place.
     fn may_command(&self, op: u32) -> bool
-        ensures { (P : Spe) → ShowsChannels self.now P → result ≡ may_write P 21 op }
+        ensures may { (P : Spe) → ShowsChannels self.now P → result ≡ may_write P 21 op }
+        ensures free { OnTrue result (is_atomic op ≡ false → (calls : List Call) → StandsFor self.now.commands.queue calls → length (outstanding calls) < 16) }
+        ensures slot { OnTrue result (is_atomic op ≡ true → self.now.channels.slot ≡ None) }
     {
         if is_atomic(op) {
             self.channels.slot().is_none()
@@ -370,7 +373,7 @@ impl Processor {
         match ch {
             MFC_RD_TAG_STAT => self.tags.ready(),
             MFC_RD_LIST_STALL_STAT => self.channels.has_stall(),
-            MFC_RD_ATOMIC_STAT => self.channels.atomic.is_some(),
+            MFC_RD_ATOMIC_STAT => self.channels.has_atomic(),
             SPU_RD_IN_MBOX => self.inbound.len() > 0,
             _ => true,
         }

@@ -12,7 +12,7 @@ invariant_of-self-2 c =
     let long : c.self.inside.processors.len ≡ length c.act.new.processors = omega arith in
     let parts : take c.self.inside.processors.len (c.act.new.processors ++ drop (length c.act.new.processors) c.self.inside.processors.items) ≡ c.act.new.processors =
     rw long (take-append_seam c.act.new.processors _) in
-    rw (items, parts) (machine-step _ _ (vec_capacity c.self.inside.steps) c.self.inside.processors.items _ _ _ _ _ c.args.s _ c.self.invariant made (omega arith) c.act.ensures.long c.act.ensures.script (omega arith) c.push.ensures.capacity)
+    rw (items, parts) (machine-step _ _ (vec_capacity c.self.inside.steps) c.self.inside.processors.items _ _ _ _ _ c.args.s _ c.self.invariant made (omega arith) c.act.ensures.size c.act.ensures.script (omega arith) c.push.ensures.capacity)
 
 pub act-requires-clause-can : goal.act-requires-clause-can
 act-requires-clause-can c = rw c.deref_mut.ensures.value (machine-can _ _ _ _ _ _ c.self.invariant (omega arith))

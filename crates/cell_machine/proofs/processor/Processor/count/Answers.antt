@@ -3,7 +3,7 @@ use Rattle.std.specs.Prelude.{is_ok}
 use Rattle.std.specs.Prelude.{is_some}
 use Rattle.tag_groups.specs.declared.Tags.{Tags}
 use Rattle.cell_machine.proofs.SpeShown.{outstanding-same}
-use Rattle.cell_machine.proofs.ChannelSteps.{count-ok, counts-are, listed-some}
+use Rattle.cell_machine.proofs.ChannelSteps.{count-ok, counts-are}
 use Rattle.cell_machine.proofs.processor.Processor.count.Goals as goal
 
 pub returns-in-Ok : goal.returns-in-Ok
@@ -14,4 +14,4 @@ returns-in-Ok c = λ P shows here.
 
 pub returns-in-Err : goal.returns-in-Err
 returns-in-Err c = λ P shows here.
-    absurd (true≢false (sym (listed-some c.args.ch here) ∙ sym c.count.ensures.listed ∙ ap is_ok c.in-Err.is))
+    absurd (true≢false (sym here ∙ sym c.count.ensures.listed ∙ ap is_ok c.in-Err.is))

@@ -2,7 +2,7 @@ use Rattle.std.proofs.Common.{◌≢◌, ◌∙◌, ap, refl, sym, subst, arith}
 use Rattle.cell_machine.specs.Channels.{given}
 use Rattle.cell_machine.specs.Shows.{ShowsSpe}
 use Rattle.tag_groups.specs.declared.Tags.{Tags}
-use Rattle.cell_machine.proofs.ChannelSteps.{read-bad, read-mask, read-status, stalls-read, read-inbound}
+use Rattle.cell_machine.proofs.ChannelSteps.{read-bad, read-mask, read-status, stalls-read, read-atomic, read-inbound}
 use Rattle.cell_machine.proofs.processor.Processor.read_channel.Goals as goal
 
 pub returns-in-12-clause-made : goal.returns-in-12-clause-made
@@ -14,6 +14,9 @@ returns-in-24-clause-made c = λ lines P shows. rw (c.in-24.is, read-status line
 pub returns-in-25-clause-made : goal.returns-in-25-clause-made
 returns-in-25-clause-made c = λ lines P shows. rw c.in-25.is (stalls-read lines c.read_stalls.result P c.read_stalls.new.self c.args.rt (c.read_stalls.ensures.made P shows))
 
+pub returns-in-27-clause-made : goal.returns-in-27-clause-made
+returns-in-27-clause-made c = λ lines P shows. rw (c.in-27.is, read-atomic lines P c.args.rt) (c.read_atomic.ensures.made P shows)
+
 pub returns-in-29-clause-made : goal.returns-in-29-clause-made
 returns-in-29-clause-made c = λ lines P shows. rw (c.in-29.is, read-inbound lines P c.args.rt) (c.read_inbound.ensures.made P shows)
 
@@ -22,5 +25,6 @@ returns-in_default-clause-made c = λ lines P shows.
     let a : c.args.ch ≢ 12 = omega arith in
     let b : c.args.ch ≢ 24 = omega arith in
     let e : c.args.ch ≢ 25 = omega arith in
+    let f : c.args.ch ≢ 27 = omega arith in
     let d : c.args.ch ≢ 29 = omega arith in
-    rw (read-bad lines P c.args.rt c.args.ch a b e d) (record { status = refl; pc = shows.pc; registers = shows.registers; store = shows.store; inbound = shows.inbound; outbound = shows.outbound; interrupt = shows.interrupt; channels = shows.channels; tags = shows.tags; queue = shows.queue })
+    rw (read-bad lines P c.args.rt c.args.ch a b e f d) (record { status = refl; pc = shows.pc; registers = shows.registers; store = shows.store; inbound = shows.inbound; outbound = shows.outbound; interrupt = shows.interrupt; channels = shows.channels; tags = shows.tags; queue = shows.queue })
