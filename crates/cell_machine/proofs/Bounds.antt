@@ -364,6 +364,9 @@ given_like q (TakeIntr p) P = interrupt_like q P P.interrupt
 given_like q (Store ea len bytes) P = (refl, refl, refl, refl, refl)
 given_like q (Await p) P = if_cond (is_running P.status) _ _ (λ g. IsLike q P g.spe) tt (refl, refl, refl, refl, refl)
 
+pub given-reserved : (a : HostAction) (P : Spe) → IfSome (given a P) (λ g. g.spe.reserved ≡ P.reserved)
+given-reserved a P = if_on (given a P) (λ g. IsLike 0 P g.spe) (λ g. g.spe.reserved ≡ P.reserved) (λ g like. like.4) (given_like 0 a P)
+
 -- one processor at most is another, in this relation to what it was
 pub record Changed (R : ℕ → Spe → Spe → Type 0) (old new : List Spe) : Type 0 where
   pub p : ℕ

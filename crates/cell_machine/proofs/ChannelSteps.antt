@@ -1,6 +1,6 @@
 -- The channels that are there, and their counts.
 use Rattle.std.proofs.Common.{◌≡◌, ◌≢◌, ◌↔◌, ℕ, ◌-◌, ◌%◌, ◌==◌, ◌<◌, ◌≤◌, ◌&&◌, not, Bool, true, false, List, [], ◌∷◌, ◌++◌, length, arith, refl, sym, ◌∙◌, ap, subst, true≢false}
-use Rattle.std.specs.Prelude.{MatchBool, Option, Some, None, nat_lt, nat_le, is_some, IsSomeAnd, cond, Result, Ok, Err, is_err, IsOk, OnOk}
+use Rattle.std.specs.Prelude.{MatchBool, Option, Some, None, nat_lt, nat_le, is_some, is_none, IsSomeAnd, cond, Result, Ok, Err, is_err, IsOk, OnOk}
 use Rattle.std.proofs.lemmas.Bool.Decides.{nat_tests}
 use Rattle.cell_channels.specs.State.{count_of}
 use Rattle.cell_channels.specs.Table.{way_of}
@@ -11,7 +11,6 @@ use Rattle.mfc_command.specs.declared.command.Command.{Command}
 use Rattle.mfc_command.specs.declared.command.AtomicOp.{AtomicOp}
 use Rattle.mfc_command.specs.declared.command.Order.TheVariants.{Queued, Atomic}
 use Rattle.mfc_command.specs.declared.command.DmaFault.{DmaFault as Fault}
-use Rattle.mfc_command.specs.declared.command.DmaFault.TheVariants.{Opcode}
 use Rattle.mfc_command.specs.Check.{checked}
 use Rattle.tag_groups.specs.declared.TagStatus.{TagStatus}
 use Rattle.tag_groups.specs.Settle.{requested}
@@ -22,7 +21,7 @@ use Rattle.cell_channels.specs.declared.channels.Channels.{Channels}
 use Rattle.cell_channels.specs.declared.channels.Counts.{Counts}
 use Rattle.cell_machine.specs.declared.processor.Processor.{Processor}
 use Rattle.cell_machine.specs.Shows.{ShowsSpe}
-use Rattle.cell_machine.specs.Channels.{listed, is_read, is_write, count, counts, channel, bad_channel, given, went_on, read_by, read_inbound, read_status, read_stalls, is_atomic, refused, with_issued, acknowledged, parameterized, commanded, written}
+use Rattle.cell_machine.specs.Channels.{is_read, is_write, count, counts, may_write, channel, bad_channel, given, went_on, read_by, read_inbound, read_status, read_atomic, read_stalls, is_atomic, refused, with_issued, acknowledged, parameterized, commanded, written}
 
 off : (ch k : ℕ) → ch ≢ k → (ch == k) ≡ false
 off ch k h = grind (arith, nat_tests)
@@ -36,41 +35,33 @@ skip_read : (b : Bool) (o : Option Way) → is_write o ≡ false → is_write (c
 skip_read true o h = refl
 skip_read false o h = h
 
-hidden_read : (b : Bool) (o : Option Way) → (b ≡ false → is_read o ≡ false) → is_read (cond b None o) ≡ false
-hidden_read true o h = refl
-hidden_read false o h = h refl
-
-hidden_write : (b : Bool) (o : Option Way) → (b ≡ false → is_write o ≡ false) → is_write (cond b None o) ≡ false
-hidden_write true o h = refl
-hidden_write false o h = h refl
-
-pub read-other : (ch : ℕ) → ch ≢ 12 → ch ≢ 24 → ch ≢ 25 → ch ≢ 29 → is_read (listed ch) ≡ false
-unfolding listed way_of
-read-other ch a b c d = hidden_read (ch == 27) _ (λ h.
-    rw (off ch 12 a, off ch 24 b, off ch 25 c, off ch 29 d, h)
+pub read-other : (ch : ℕ) → ch ≢ 12 → ch ≢ 24 → ch ≢ 25 → ch ≢ 27 → ch ≢ 29 → is_read (way_of ch) ≡ false
+unfolding way_of
+read-other ch a b c e d =
+    rw (off ch 12 a, off ch 24 b, off ch 25 c, off ch 27 e, off ch 29 d)
     (skip_write (ch == 16) _ (skip_write (ch == 17) _ (skip_write (ch == 18) _ (skip_write (ch == 19) _ (skip_write (ch == 20) _ (skip_write (ch == 21) _
-    (skip_write (ch == 22) _ (skip_write (ch == 23) _ (skip_write (ch == 26) _ (skip_write (ch == 28) _ (skip_write (ch == 30) _ refl))))))))))))
+    (skip_write (ch == 22) _ (skip_write (ch == 23) _ (skip_write (ch == 26) _ (skip_write (ch == 28) _ (skip_write (ch == 30) _ refl)))))))))))
 
 param_off : (ch k : ℕ) → (nat_le 16 ch && nat_le ch 20) ≡ false → 16 ≤ k → k ≤ 20 → (ch == k) ≡ false
 param_off ch k h low high = grind (arith, nat_tests)
 
-pub write-other : (ch : ℕ) → (nat_le 16 ch && nat_le ch 20) ≡ false → ch ≢ 21 → ch ≢ 22 → ch ≢ 23 → ch ≢ 26 → ch ≢ 28 → ch ≢ 30 → is_write (listed ch) ≡ false
-unfolding listed way_of
-write-other ch p a b c f d e = hidden_write (ch == 27) _ (λ h.
-    rw (param_off ch 16 p (omega arith) (omega arith), param_off ch 17 p (omega arith) (omega arith), param_off ch 18 p (omega arith) (omega arith), param_off ch 19 p (omega arith) (omega arith), param_off ch 20 p (omega arith) (omega arith), off ch 21 a, off ch 22 b, off ch 23 c, off ch 26 f, off ch 28 d, off ch 30 e, h)
-    (skip_read (ch == 12) _ (skip_read (ch == 24) _ (skip_read (ch == 25) _ (skip_read (ch == 29) _ refl)))))
+pub write-other : (ch : ℕ) → (nat_le 16 ch && nat_le ch 20) ≡ false → ch ≢ 21 → ch ≢ 22 → ch ≢ 23 → ch ≢ 26 → ch ≢ 28 → ch ≢ 30 → is_write (way_of ch) ≡ false
+unfolding way_of
+write-other ch p a b c f d e =
+    rw (param_off ch 16 p (omega arith) (omega arith), param_off ch 17 p (omega arith) (omega arith), param_off ch 18 p (omega arith) (omega arith), param_off ch 19 p (omega arith) (omega arith), param_off ch 20 p (omega arith) (omega arith), off ch 21 a, off ch 22 b, off ch 23 c, off ch 26 f, off ch 28 d, off ch 30 e)
+    (skip_read (ch == 12) _ (skip_read (ch == 24) _ (skip_read (ch == 25) _ (skip_read (ch == 27) _ (skip_read (ch == 29) _ refl)))))
 
 -- what the operations come to
-pub read-bad : (lines : ℕ) (P : Spe) (rt ch : ℕ) → ch ≢ 12 → ch ≢ 24 → ch ≢ 25 → ch ≢ 29 → channel lines P (Read rt ch) ≡ Some (bad_channel P)
+pub read-bad : (lines : ℕ) (P : Spe) (rt ch : ℕ) → ch ≢ 12 → ch ≢ 24 → ch ≢ 25 → ch ≢ 27 → ch ≢ 29 → channel lines P (Read rt ch) ≡ Some (bad_channel P)
 unfolding channel
-read-bad lines P rt ch a b c d = rw (read-other ch a b c d) refl
+read-bad lines P rt ch a b c e d = rw (read-other ch a b c e d) refl
 
 pub read-mask : (lines : ℕ) (P : Spe) (rt : ℕ) → channel lines P (Read rt 12) ≡ Some (given P rt P.tags.mask)
-unfolding channel listed way_of count count_of read_by
+unfolding channel way_of count count_of read_by
 read-mask lines P rt = refl
 
 status_on : (lines : ℕ) (P : Spe) (rt : ℕ) (o : Option TagStatus) → P.tags.status ≡ o → channel lines P (Read rt 24) ≡ read_status P rt o
-unfolding channel listed way_of count count_of read_by
+unfolding channel way_of count count_of read_by
 status_on lines P rt None e = rw e refl
 status_on lines P rt (Some status) e = rw e refl
 
@@ -78,7 +69,7 @@ pub read-status : (lines : ℕ) (P : Spe) (rt : ℕ) → channel lines P (Read r
 read-status lines P rt = status_on lines P rt P.tags.status refl
 
 inbound_on : (lines : ℕ) (P : Spe) (rt : ℕ) (xs : List ℕ) → P.inbound ≡ xs → channel lines P (Read rt 29) ≡ read_inbound P rt xs
-unfolding channel listed way_of count count_of read_by
+unfolding channel way_of count count_of read_by
 inbound_on lines P rt [] e = rw e refl
 inbound_on lines P rt (x ∷ xs) e = let some : nat_lt 0 (length (x ∷ xs)) ≡ true = grind (arith, nat_tests) in rw (e, some) refl
 
@@ -95,11 +86,11 @@ not-set false h = refl
 
 -- the stall status, where it has a bit
 pub read-stalls : (lines : ℕ) (P : Spe) (rt : ℕ) → (P.channels.stalls == 0) ≡ false → channel lines P (Read rt 25) ≡ Some (read_stalls P rt)
-unfolding channel listed way_of count count_of read_by
+unfolding channel way_of count count_of read_by
 read-stalls lines P rt h = rw h refl
 
 pub stalls-none : (lines : ℕ) (P : Spe) (rt : ℕ) → (P.channels.stalls == 0) ≡ true → channel lines P (Read rt 25) ≡ None
-unfolding channel listed way_of count count_of
+unfolding channel way_of count count_of
 stalls-none lines P rt h = rw h refl
 
 -- and the code's reading of it
@@ -116,7 +107,7 @@ stalls-ready lines P rt = on (P.channels.stalls == 0) refl
     on false e = ap is_some (read-stalls lines P rt e)
 
 pub write-ack : (lines : ℕ) (P : Spe) (tag : ℕ) → channel lines P (Write 26 tag) ≡ Some (went_on (acknowledged P tag))
-unfolding channel listed way_of count count_of written
+unfolding channel way_of may_write count count_of written
 write-ack lines P tag = refl
 
 pub write-bad : (lines : ℕ) (P : Spe) (ch value : ℕ) → (nat_le 16 ch && nat_le ch 20) ≡ false → ch ≢ 21 → ch ≢ 22 → ch ≢ 23 → ch ≢ 26 → ch ≢ 28 → ch ≢ 30 → channel lines P (Write ch value) ≡ Some (bad_channel P)
@@ -124,31 +115,31 @@ unfolding channel
 write-bad lines P ch value p a b c f d e = rw (write-other ch p a b c f d e) refl
 
 pub write-mask : (lines : ℕ) (P : Spe) (value : ℕ) → channel lines P (Write 22 value) ≡ Some (went_on (record P { tags = record P.tags { mask = value } }))
-unfolding channel listed way_of count count_of written
+unfolding channel way_of may_write count count_of written
 write-mask lines P value = refl
 
 pub write-request : (lines : ℕ) (P : Spe) (value : ℕ) → channel lines P (Write 23 value) ≡ Some (went_on (record P { tags = requested P.tags value }))
-unfolding channel listed way_of count count_of written
+unfolding channel way_of may_write count count_of written
 write-request lines P value = refl
 
 at_param : (lines : ℕ) (P : Spe) (value k : ℕ) → k ≡ 16 → channel lines P (Write k value) ≡ Some (went_on (parameterized P k value))
-unfolding channel listed way_of count count_of written
+unfolding channel way_of may_write count count_of written
 at_param lines P value k e = rw e refl
 
 at_param_17 : (lines : ℕ) (P : Spe) (value k : ℕ) → k ≡ 17 → channel lines P (Write k value) ≡ Some (went_on (parameterized P k value))
-unfolding channel listed way_of count count_of written
+unfolding channel way_of may_write count count_of written
 at_param_17 lines P value k e = rw e refl
 
 at_param_18 : (lines : ℕ) (P : Spe) (value k : ℕ) → k ≡ 18 → channel lines P (Write k value) ≡ Some (went_on (parameterized P k value))
-unfolding channel listed way_of count count_of written
+unfolding channel way_of may_write count count_of written
 at_param_18 lines P value k e = rw e refl
 
 at_param_19 : (lines : ℕ) (P : Spe) (value k : ℕ) → k ≡ 19 → channel lines P (Write k value) ≡ Some (went_on (parameterized P k value))
-unfolding channel listed way_of count count_of written
+unfolding channel way_of may_write count count_of written
 at_param_19 lines P value k e = rw e refl
 
 at_param_20 : (lines : ℕ) (P : Spe) (value k : ℕ) → k ≡ 20 → channel lines P (Write k value) ≡ Some (went_on (parameterized P k value))
-unfolding channel listed way_of count count_of written
+unfolding channel way_of may_write count count_of written
 at_param_20 lines P value k e = rw e refl
 
 param_on : (lines : ℕ) (P : Spe) (ch value : ℕ) (a b c d : Bool) → (ch == 16) ≡ a → (ch == 17) ≡ b → (ch == 18) ≡ c → (ch == 19) ≡ d → (nat_le 16 ch && nat_le ch 20) ≡ true
@@ -162,13 +153,22 @@ param_on lines P ch value false false false false ea eb ec ed h = at_param_20 li
 pub write-param : (lines : ℕ) (P : Spe) (ch value : ℕ) → (nat_le 16 ch && nat_le ch 20) ≡ true → channel lines P (Write ch value) ≡ Some (went_on (parameterized P ch value))
 write-param lines P ch value h = param_on lines P ch value _ _ _ _ refl refl refl refl h
 
-pub command-full : (lines : ℕ) (P : Spe) (op n : ℕ) → n ≡ 16 - length (outstanding P) → n ≡ 0 → channel lines P (Write 21 op) ≡ None
-unfolding channel listed way_of count count_of
-command-full lines P op n is zero = rw (← is, zero) refl
+pub command-off : (lines : ℕ) (P : Spe) (op : ℕ) → may_write P 21 op ≡ false → channel lines P (Write 21 op) ≡ None
+unfolding channel way_of
+command-off lines P op h = rw h refl
 
-pub command-taken : (lines : ℕ) (P : Spe) (op n : ℕ) → n ≡ 16 - length (outstanding P) → n ≢ 0 → channel lines P (Write 21 op) ≡ Some (commanded lines P op)
-unfolding channel listed way_of count count_of written
-command-taken lines P op n is some = let t : nat_lt 0 n ≡ true = grind (arith, nat_tests) in rw (← is, t) refl
+pub command-taken : (lines : ℕ) (P : Spe) (op : ℕ) → may_write P 21 op ≡ true → channel lines P (Write 21 op) ≡ Some (commanded lines P op)
+unfolding channel way_of written
+command-taken lines P op h = rw h refl
+
+-- MFC_Cmd is ready for an atomic command where the slot is free, and for another where the queue has a free place
+pub command-line : (P : Spe) (op : ℕ) → is_atomic op ≡ true → may_write P 21 op ≡ is_none P.channels.slot
+unfolding may_write
+command-line P op h = rw h refl
+
+pub command-queue : (P : Spe) (op n : ℕ) → is_atomic op ≡ false → n ≡ 16 - length (outstanding P) → may_write P 21 op ≡ nat_lt 0 n
+unfolding may_write count count_of
+command-queue P op n h is = rw (h, ← is) refl
 
 -- what a mailbox of one place that takes a value had, and has
 pub put-first : {X Y : Type 0} (r : Result X Y) (old new : List ℕ) (v : ℕ) → is_err r ≡ false → (IsOk r ↔ (length old < 1)) → OnOk r (new ≡ old ++ v ∷ []) → (old ≡ []) × (new ≡ v ∷ [])
@@ -177,26 +177,26 @@ put-first (Ok u) [] new v h k f = (refl, f)
 put-first (Ok u) (x ∷ old) new v h k f = let l : length (x ∷ old) < 1 = k.0 refl in absurd (omega arith)
 
 pub outbound-put : (lines : ℕ) (P : Spe) (value : ℕ) → P.outbound ≡ [] → channel lines P (Write 28 value) ≡ Some (went_on (record P { outbound = value ∷ [] }))
-unfolding channel listed way_of count count_of written
+unfolding channel way_of may_write count count_of written
 outbound-put lines P value e = rw e refl
 
 pub outbound-full : (lines : ℕ) (P : Spe) (value : ℕ) → length P.outbound ≡ 1 → channel lines P (Write 28 value) ≡ None
-unfolding channel listed way_of count count_of
+unfolding channel way_of may_write count count_of
 outbound-full lines P value e = rw e refl
 
 pub interrupt-put : (lines : ℕ) (P : Spe) (value : ℕ) → P.interrupt ≡ [] → channel lines P (Write 30 value) ≡ Some (went_on (record P { interrupt = value ∷ [] }))
-unfolding channel listed way_of count count_of written
+unfolding channel way_of may_write count count_of written
 interrupt-put lines P value e = rw e refl
 
 pub interrupt-full : (lines : ℕ) (P : Spe) (value : ℕ) → length P.interrupt ≡ 1 → channel lines P (Write 30 value) ≡ None
-unfolding channel listed way_of count count_of
+unfolding channel way_of may_write count count_of
 interrupt-full lines P value e = rw e refl
 
-pub count-bad : (lines : ℕ) (P : Spe) (rt ch : ℕ) → is_some (listed ch) ≡ false → channel lines P (Count rt ch) ≡ Some (bad_channel P)
+pub count-bad : (lines : ℕ) (P : Spe) (rt ch : ℕ) → is_some (way_of ch) ≡ false → channel lines P (Count rt ch) ≡ Some (bad_channel P)
 unfolding channel
 count-bad lines P rt ch h = rw h refl
 
-pub count-given : (lines : ℕ) (P : Spe) (rt ch : ℕ) → is_some (listed ch) ≡ true → channel lines P (Count rt ch) ≡ Some (given P rt (count P ch))
+pub count-given : (lines : ℕ) (P : Spe) (rt ch : ℕ) → is_some (way_of ch) ≡ true → channel lines P (Count rt ch) ≡ Some (given P rt (count P ch))
 unfolding channel
 count-given lines P rt ch h = rw h refl
 
@@ -215,12 +215,12 @@ inbound_ready P rt (x ∷ xs) = let some : nat_lt 0 (length (x ∷ xs)) ≡ true
 pub read-ready : (lines : ℕ) (P : Spe) (rt : ℕ) → is_some (channel lines P (Read rt 29)) ≡ nat_lt 0 (length P.inbound)
 read-ready lines P rt = ap is_some (read-inbound lines P rt) ∙ inbound_ready P rt P.inbound
 
-read_on : (lines : ℕ) (P : Spe) (rt ch : ℕ) (b : Bool) → (ch == 12) ≡ b → ch ≢ 24 → ch ≢ 25 → ch ≢ 29 → is_some (channel lines P (Read rt ch)) ≡ true
-read_on lines P rt ch true e a d c = let is : ch ≡ 12 = grind (arith, nat_tests) in rw is (ap is_some (read-mask lines P rt))
-read_on lines P rt ch false e a d c = ap is_some (read-bad lines P rt ch (let differs : ch ≢ 12 = grind (arith, nat_tests) in differs) a d c)
+read_on : (lines : ℕ) (P : Spe) (rt ch : ℕ) (b : Bool) → (ch == 12) ≡ b → ch ≢ 24 → ch ≢ 25 → ch ≢ 27 → ch ≢ 29 → is_some (channel lines P (Read rt ch)) ≡ true
+read_on lines P rt ch true e a d f c = let is : ch ≡ 12 = grind (arith, nat_tests) in rw is (ap is_some (read-mask lines P rt))
+read_on lines P rt ch false e a d f c = ap is_some (read-bad lines P rt ch (let differs : ch ≢ 12 = grind (arith, nat_tests) in differs) a d f c)
 
-pub read-always : (lines : ℕ) (P : Spe) (rt ch : ℕ) → ch ≢ 24 → ch ≢ 25 → ch ≢ 29 → is_some (channel lines P (Read rt ch)) ≡ true
-read-always lines P rt ch a d c = read_on lines P rt ch (ch == 12) refl a d c
+pub read-always : (lines : ℕ) (P : Spe) (rt ch : ℕ) → ch ≢ 24 → ch ≢ 25 → ch ≢ 27 → ch ≢ 29 → is_some (channel lines P (Read rt ch)) ≡ true
+read-always lines P rt ch a d f c = read_on lines P rt ch (ch == 12) refl a d f c
 
 write_on : (lines : ℕ) (P : Spe) (ch value : ℕ) (a b f p : Bool) → (ch == 22) ≡ a → (ch == 23) ≡ b → (ch == 26) ≡ f → (nat_le 16 ch && nat_le ch 20) ≡ p → ch ≢ 21 → ch ≢ 28 → ch ≢ 30 → is_some (channel lines P (Write ch value)) ≡ true
 write_on lines P ch value true b f p ea eb ef ep x y z = let is : ch ≡ 22 = grind (arith, nat_tests) in rw is (ap is_some (write-mask lines P value))
@@ -236,18 +236,12 @@ write_on lines P ch value false false false false ea eb ef ep x y z =
 pub write-always : (lines : ℕ) (P : Spe) (ch value : ℕ) → ch ≢ 21 → ch ≢ 28 → ch ≢ 30 → is_some (channel lines P (Write ch value)) ≡ true
 write-always lines P ch value x y z = write_on lines P ch value (ch == 22) (ch == 23) (ch == 26) _ refl refl refl refl x y z
 
-command_ready : (lines : ℕ) (P : Spe) (op n : ℕ) (b : Bool) → n ≡ 16 - length (outstanding P) → (n == 0) ≡ b → is_some (channel lines P (Write 21 op)) ≡ nat_lt 0 n
-command_ready lines P op n true is e =
-    let zero : n ≡ 0 = grind (arith, nat_tests) in
-    let t : nat_lt 0 n ≡ false = grind (arith, nat_tests) in
-    ap is_some (command-full lines P op n is zero) ∙ sym t
-command_ready lines P op n false is e =
-    let some : n ≢ 0 = grind (arith, nat_tests) in
-    let t : nat_lt 0 n ≡ true = grind (arith, nat_tests) in
-    ap is_some (command-taken lines P op n is some) ∙ sym t
-
-pub command-ready : (lines : ℕ) (P : Spe) (op n : ℕ) → n ≡ 16 - length (outstanding P) → is_some (channel lines P (Write 21 op)) ≡ nat_lt 0 n
-command-ready lines P op n is = command_ready lines P op n (n == 0) is refl
+pub command-ready : (lines : ℕ) (P : Spe) (op : ℕ) → is_some (channel lines P (Write 21 op)) ≡ may_write P 21 op
+command-ready lines P op = on (may_write P 21 op) refl
+  where
+    on : (b : Bool) → may_write P 21 op ≡ b → is_some (channel lines P (Write 21 op)) ≡ b
+    on true e = ap is_some (command-taken lines P op e)
+    on false e = ap is_some (command-off lines P op e)
 
 outbound_ready : (lines : ℕ) (P : Spe) (value : ℕ) (xs : List ℕ) → P.outbound ≡ xs → length xs ≤ 1 → is_some (channel lines P (Write 28 value)) ≡ nat_lt (length xs) 1
 outbound_ready lines P value [] e l = ap is_some (outbound-put lines P value e)
@@ -289,34 +283,42 @@ count-ok P ch n s k is same h =
     let e : count_of P.channels (counts P) ch ≡ Some n = subst (λ x. count_of P.channels x ch ≡ Some n) same (subst (λ x. count_of x k ch ≡ Some n) (sym is) h) in
     sym (ap (λ o. option_map_or (λ m. m) o 0) e)
 
-listed_on : (ch : ℕ) (b : Bool) → (ch == 27) ≡ b → is_some (listed ch) ≡ true → is_some (way_of ch) ≡ true
-unfolding listed
-listed_on ch true e h = absurd (true≢false (sym h ∙ rw e refl))
-listed_on ch false e h = rw e at h
-
-pub listed-some : (ch : ℕ) → is_some (listed ch) ≡ true → is_some (way_of ch) ≡ true
-listed-some ch h = listed_on ch _ refl h
-
-count_on : (lines : ℕ) (P : Spe) (rt ch : ℕ) (b : Bool) → is_some (listed ch) ≡ b → is_some (channel lines P (Count rt ch)) ≡ true
+count_on : (lines : ℕ) (P : Spe) (rt ch : ℕ) (b : Bool) → is_some (way_of ch) ≡ b → is_some (channel lines P (Count rt ch)) ≡ true
 count_on lines P rt ch true e = ap is_some (count-given lines P rt ch e)
 count_on lines P rt ch false e = ap is_some (count-bad lines P rt ch e)
 
 pub count-some : (lines : ℕ) (P : Spe) (rt ch : ℕ) → is_some (channel lines P (Count rt ch)) ≡ true
-count-some lines P rt ch = count_on lines P rt ch (is_some (listed ch)) refl
+count-some lines P rt ch = count_on lines P rt ch (is_some (way_of ch)) refl
+
+-- the atomic status
+atomic_on : (lines : ℕ) (P : Spe) (rt : ℕ) (o : Option ℕ) → P.channels.atomic ≡ o → channel lines P (Read rt 27) ≡ read_atomic P rt o
+unfolding channel way_of count count_of read_by
+atomic_on lines P rt None e = rw e refl
+atomic_on lines P rt (Some status) e = rw e refl
+
+pub read-atomic : (lines : ℕ) (P : Spe) (rt : ℕ) → channel lines P (Read rt 27) ≡ read_atomic P rt P.channels.atomic
+read-atomic lines P rt = atomic_on lines P rt P.channels.atomic refl
+
+pub atomic-off : (P : Spe) (rt : ℕ) (o : Option ℕ) → is_none o ≡ true → read_atomic P rt o ≡ None
+atomic-off P rt None h = refl
+atomic-off P rt (Some status) h = absurd (true≢false (sym h))
+
+atomic_ready : (P : Spe) (rt : ℕ) (o : Option ℕ) → is_some (read_atomic P rt o) ≡ is_some o
+atomic_ready P rt None = refl
+atomic_ready P rt (Some status) = refl
+
+pub atomic-ready : (lines : ℕ) (P : Spe) (rt : ℕ) → is_some (channel lines P (Read rt 27)) ≡ is_some P.channels.atomic
+atomic-ready lines P rt = ap is_some (read-atomic lines P rt) ∙ atomic_ready P rt P.channels.atomic
 
 -- what a word that is written to MFC_Cmd comes to
-pub commanded-atomic : (lines : ℕ) (P : Spe) (op : ℕ) → is_atomic op ≡ true → commanded lines P op ≡ refused P Opcode
+pub commanded-queued : (lines : ℕ) (P : Spe) (op : ℕ) (d : Command) → checked P.channels.params op lines ≡ Ok (Queued d) → commanded lines P op ≡ went_on (record P { moves = with_issued P.moves d })
 unfolding commanded
-commanded-atomic lines P op h = rw h refl
+commanded-queued lines P op d e = rw e refl
 
-pub commanded-queued : (lines : ℕ) (P : Spe) (op : ℕ) (d : Command) → is_atomic op ≡ false → checked P.channels.params op lines ≡ Ok (Queued d) → commanded lines P op ≡ went_on (record P { moves = with_issued P.moves d })
+pub commanded-line : (lines : ℕ) (P : Spe) (op : ℕ) (a : AtomicOp) → checked P.channels.params op lines ≡ Ok (Atomic a) → commanded lines P op ≡ went_on (record P { channels = record P.channels { slot = Some a } })
 unfolding commanded
-commanded-queued lines P op d h e = rw (h, e) refl
+commanded-line lines P op a e = rw e refl
 
-pub commanded-line : (lines : ℕ) (P : Spe) (op : ℕ) (a : AtomicOp) → is_atomic op ≡ false → checked P.channels.params op lines ≡ Ok (Atomic a) → commanded lines P op ≡ refused P Opcode
+pub commanded-fault : (lines : ℕ) (P : Spe) (op : ℕ) (kind : Fault) → checked P.channels.params op lines ≡ Err kind → commanded lines P op ≡ refused P kind
 unfolding commanded
-commanded-line lines P op a h e = rw (h, e) refl
-
-pub commanded-fault : (lines : ℕ) (P : Spe) (op : ℕ) (kind : Fault) → is_atomic op ≡ false → checked P.channels.params op lines ≡ Err kind → commanded lines P op ≡ refused P kind
-unfolding commanded
-commanded-fault lines P op kind h e = rw (h, e) refl
+commanded-fault lines P op kind e = rw e refl

@@ -15,10 +15,13 @@ use Rattle.local_store.specs.Store.{word_at}
 use Rattle.cell_machine.specs.Spe.{Spe, Moves, ElementRead, is_faulted}
 use Rattle.cell_machine.specs.Moves.{read_of, present, whole, is_moved, is_stalled, parts_in, may_begin}
 use Rattle.cell_machine.specs.Transfers.{begins, told, notified, copied, has_part, may_piece, is_put, with_done, after_part, part_in, piece_of, piece, has_element, may_elem, next_at, next_element, after_element, elem, with_read, is_left, may_retire, with_retired, retire, Left}
+use Rattle.lock_lines.specs.Versions.{Reserved}
+use Rattle.cell_machine.specs.Memory.{MainMemory}
+use Rattle.cell_machine.specs.declared.memory.SharedMemory.{SharedMemory}
 use Rattle.cell_machine.specs.declared.processor.Processor.{Processor}
 use Rattle.cell_machine.specs.Kept.{IsKept}
 use Rattle.cell_machine.specs.MovesShown.{reading}
-use Rattle.cell_machine.specs.Shows.{IsBounded, CanStep, CanIssue, ShowsSpe}
+use Rattle.cell_machine.specs.Shows.{IsBounded, CanStep, CanIssue, ShowsSpe, ShowsMemory}
 use Rattle.cell_machine.proofs.Same.{some_same}
 use Rattle.cell_machine.proofs.SpeShown.{first_of_both, second_of_both, not_of, get-either, begins-at, begins-none, part-facts, present-plain}
 use Rattle.cell_machine.proofs.MovesShown.{present-list}
@@ -53,7 +56,7 @@ pub piece-faulted : (P : Spe) (c e k : ℕ) → is_faulted P.status ≡ true →
 unfolding may_piece
 piece-faulted P c e k h = rw h refl
 
-pub piece-off : (memory : List ℕ) (P : Spe) (c e k : ℕ) → may_piece P c e k ≡ false → piece memory P c e k ≡ None
+pub piece-off : (memory : MainMemory) (P : Spe) (c e k : ℕ) → may_piece P c e k ≡ false → piece memory P c e k ≡ None
 unfolding piece
 piece-off memory P c e k h = rw h refl
 
@@ -69,7 +72,7 @@ pub retire-on : (P : Spe) (c : ℕ) → may_retire P c ≡ true → retire P c �
 unfolding retire
 retire-on P c h = rw h refl
 
-pub piece-on : (memory : List ℕ) (P : Spe) (c e k : ℕ) (d : Command) (x : Element) → may_piece P c e k ≡ true → slice_get P.moves.issued c ≡ Some d → present P.moves.read c d ≡ Some x
+pub piece-on : (memory : MainMemory) (P : Spe) (c e k : ℕ) (d : Command) (x : Element) → may_piece P c e k ≡ true → slice_get P.moves.issued c ≡ Some d → present P.moves.read c d ≡ Some x
     → piece memory P c e k ≡ Some (piece_of memory P c k d x)
 unfolding piece
 piece-on memory P c e k d x h at p = rw (h, at) (rw p refl)
@@ -168,18 +171,20 @@ pub told-moves : (P : Spe) (m : Moves) (c : ℕ) (d : Command) (stalls : Bool) �
 told-moves P m c d stalls is = rw is refl
 
 -- what a piece that is copied, marked and told leaves
-pub piece-made : (new : Processor) (P : Spe) (memory memory2 store store2 : List ℕ) (c e k : ℕ) (stalls put_it : Bool) (d : Command) (x : Element) → may_piece P c e k ≡ true → slice_get P.moves.issued c ≡ Some d → present P.moves.read c d ≡ Some x
+pub piece-made : (new : Processor) (P : Spe) (memory : SharedMemory) (m : MainMemory) (reserved : List (Option Reserved)) (store store2 : List ℕ) (c e k : ℕ) (stalls put_it : Bool) (d : Command) (x : Element) → may_piece P c e k ≡ true → slice_get P.moves.issued c ≡ Some d → present P.moves.read c d ≡ Some x
     → x.number ≡ e → P.store ≡ store → stalls ≡ is_stalled (with_done P.moves c e k) c d → put_it ≡ is_put d.kind
-    → ((Q : Spe) → Q.store ≡ store → copied memory Q put_it (part_in x k) ≡ record { spe = record Q { store = store2 }; memory = memory2 })
+    → ((Q : Spe) → Q.store ≡ store → (copied m Q put_it (part_in x k)).spe ≡ record Q { store = store2 })
+    → ((Q : Spe) → Q.store ≡ store → ShowsMemory memory (copied m Q put_it (part_in x k)).memory reserved)
     → ShowsSpe new (if stalls then told (record P { store = store2; moves = with_done P.moves c e k }) d.tag else record P { store = store2; moves = with_done P.moves c e k })
-    → IsSomeAnd (piece memory P c e k) (λ y. ShowsSpe new y.spe × (y.memory ≡ memory2))
-piece-made new P memory memory2 store store2 c e k stalls put_it d x may at p number same stalled puts copies shows =
+    → IsSomeAnd (piece m P c e k) (λ y. ShowsSpe new y.spe × ShowsMemory memory y.memory reserved)
+piece-made new P memory m reserved store store2 c e k stalls put_it d x may at p number same stalled puts stores copies shows =
     let Q : Spe = after_part P c e k d in
-    let left : piece_of memory P c k d x ≡ record { spe = record Q { store = store2 }; memory = memory2 } =
-        ap (λ n. copied memory (after_part P c n k d) (is_put d.kind) (part_in x k)) number ∙ ap (λ b. copied memory Q b (part_in x k)) (sym puts)
-        ∙ copies Q (notified-store P (with_done P.moves c e k) c d ∙ same) in
-    rw (piece-on memory P c e k d x may at p ∙ ap (λ y. Some y) left)
-    (subst (ShowsSpe new) (told-as P store2 (with_done P.moves c e k) c d stalls stalled) shows, refl)
+    let was : Q.store ≡ store = notified-store P (with_done P.moves c e k) c d ∙ same in
+    let left : piece_of m P c k d x ≡ copied m Q put_it (part_in x k) =
+        ap (λ n. copied m (after_part P c n k d) (is_put d.kind) (part_in x k)) number ∙ ap (λ b. copied m Q b (part_in x k)) (sym puts) in
+    let spe : ShowsSpe new (copied m Q put_it (part_in x k)).spe =
+        subst (ShowsSpe new) (told-as P store2 (with_done P.moves c e k) c d stalls stalled ∙ sym (stores Q was)) shows in
+    rw (piece-on m P c e k d x may at p ∙ ap (λ y. Some y) left) (spe, copies Q was)
 
 -- a command that may be retired isn't moved
 pub retire-facts : (P : Spe) (c : ℕ) → may_retire P c ≡ true → (d : Command) × (slice_get P.moves.issued c ≡ Some d) × (is_moved d ≡ false)

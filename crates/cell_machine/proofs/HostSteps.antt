@@ -1,9 +1,8 @@
 -- The host's actions, as the code comes to them.
 use Rattle.std.proofs.Common.{◌≡◌, ℕ, zero, suc, ◌<◌, ◌≤◌, List, [], ◌∷◌, length, take, arith, refl, sym, ◌∙◌, slice_index_or, slice_set, ap, subst, true, false, Bool}
-use Rattle.std.specs.Prelude.{All, Option, Some, None, IsSomeAnd, is_some, slice_get}
+use Rattle.std.specs.Prelude.{All, Option, Some, None, IsSomeAnd, IfSome, is_some, slice_get}
 use Rattle.std.specs.Option.{option_map}
 use Rattle.cell_host.specs.declared.HostAction.{HostAction}
-use Rattle.cell_base.specs.Bytes.{put}
 use Rattle.cell_host.specs.declared.HostAction.TheVariants.{Send, Take, TakeIntr, Store, Await}
 use Rattle.cell_host.specs.Script.{Progress, advanced, takes, next_takes}
 use Rattle.cell_machine.specs.declared.processor.Processor.{Processor}
@@ -12,26 +11,36 @@ use Rattle.cell_machine.specs.declared.memory.SharedMemory.{SharedMemory}
 use Rattle.cell_machine.specs.Spe.{Spe}
 use Rattle.cell_machine.specs.State.{State, with_spe}
 use Rattle.cell_machine.specs.Hosts.{Given, Acted, at_spe, given, acted, after_action, host as host_step}
-use Rattle.cell_machine.specs.Shows.{Shows, ShowsSpe, Gives, Leaves}
+use Rattle.cell_machine.specs.Shows.{Shows, ShowsSpe, ShowsMemory, reservations, Gives, Leaves}
+use Rattle.std.proofs.lemmas.List.{map-set}
+use Rattle.cell_machine.specs.Memory.{stored}
+use Rattle.cell_machine.proofs.MemoryShown.{set-same}
+use Rattle.cell_machine.proofs.Steps.{reserved-at}
+use Rattle.cell_machine.proofs.Bounds.{given-reserved}
 use Rattle.cell_machine.proofs.AllTwo.{two_at, two_none, two_set, is_some_map}
 
 -- what a processor answers is what the action leaves
-leaves-one : (processors : List Processor) (memory : SharedMemory) (host : Progress) (M : State) (p : ℕ) (new : Processor) (r : Option Taken) (o : Option Given)
-    → Shows processors memory host M → Gives r o new
+leaves-one : (processors : List Processor) (memory : SharedMemory) (host : Progress) (M : State) (p : ℕ) (P : Spe) (new : Processor) (r : Option Taken) (o : Option Given)
+    → Shows processors memory host M → slice_get M.spes p ≡ Some P → IfSome o (λ g. g.spe.reserved ≡ P.reserved) → Gives r o new
     → Leaves r (option_map (λ g. record { state = with_spe M p g.spe; took = g.took }) o) (slice_set processors p new) memory host
-leaves-one processors memory host M p new None None shows given = tt
-leaves-one processors memory host M p new (Some t) (Some g) shows given =
-    (record { spes = two_set ShowsSpe processors M.spes p new g.spe shows.spes given.0; memory_is = shows.memory_is; host_is = shows.host_is }, given.1)
-leaves-one processors memory host M p new None (Some g) shows given = absurd given
-leaves-one processors memory host M p new (Some t) None shows given = absurd given
+leaves-one processors memory host M p P new None None shows at same given = tt
+leaves-one processors memory host M p P new (Some t) (Some g) shows at same given =
+    (record {
+      spes = two_set ShowsSpe processors M.spes p new g.spe shows.spes given.0;
+      memory_is = subst (ShowsMemory memory M.memory) (sym (map-set (λ (Q : Spe). Q.reserved) M.spes p g.spe ∙ ap (slice_set (reservations M.spes) p) same
+          ∙ set-same (reservations M.spes) p P.reserved (reserved-at M.spes p P at))) shows.memory_is;
+      host_is = shows.host_is;
+    }, given.1)
+leaves-one processors memory host M p P new None (Some g) shows at same given = absurd given
+leaves-one processors memory host M p P new (Some t) None shows at same given = absurd given
 
-pub leaves-at : (processors : List Processor) (memory : SharedMemory) (host : Progress) (M : State) (p : ℕ) (f : Spe → Option Given) (d new : Processor) (r : Option Taken)
+pub leaves-at : (processors : List Processor) (memory : SharedMemory) (host : Progress) (M : State) (p : ℕ) (a : HostAction) (d new : Processor) (r : Option Taken)
     → Shows processors memory host M → p < length processors
-    → ((P : Spe) → ShowsSpe (slice_index_or processors p d) P → Gives r (f P) new)
-    → Leaves r (at_spe M p f) (slice_set processors p new) memory host
-leaves-at processors memory host M p f d new r shows h does =
+    → ((P : Spe) → ShowsSpe (slice_index_or processors p d) P → Gives r (given a P) new)
+    → Leaves r (at_spe M p (given a)) (slice_set processors p new) memory host
+leaves-at processors memory host M p a d new r shows h does =
     let two = two_at ShowsSpe processors M.spes p d shows.spes h in
-    rw two.1 (leaves-one processors memory host M p new r (f two.0) shows (does two.0 two.2))
+    rw two.1 (leaves-one processors memory host M p two.0 new r (given a two.0) shows two.1 (given-reserved a two.0) (does two.0 two.2))
 
 pub leaves-absent : (processors : List Processor) (memory : SharedMemory) (host : Progress) (M : State) (p : ℕ) (f : Spe → Option Given)
     → Shows processors memory host M → length processors ≤ p → Leaves None (at_spe M p f) processors memory host
@@ -105,10 +114,9 @@ unfolding acted
 acted-store M ea len bytes = refl
 
 pub store-leaves : (processors : List Processor) (old new : SharedMemory) (host : Progress) (M : State) (ea len : ℕ) (bytes : List ℕ) (t : Taken)
-    → Shows processors old host M → new ≡ put old ea (take len bytes) → t.value ≡ None → Leaves (Some t) (acted M (Store ea len bytes)) processors new host
+    → Shows processors old host M → ShowsMemory new (stored M.memory ea (take len bytes)) (reservations M.spes) → t.value ≡ None → Leaves (Some t) (acted M (Store ea len bytes)) processors new host
 unfolding acted
-store-leaves processors old new host M ea len bytes t shows stored took =
-    (record { spes = shows.spes; memory_is = ap (λ m. put m ea (take len bytes)) shows.memory_is ∙ sym stored; host_is = shows.host_is }, sym took)
+store-leaves processors old new host M ea len bytes t shows does took = (record { spes = shows.spes; memory_is = does; host_is = shows.host_is }, sym took)
 
 -- the next action, where there is one
 pub got : {X : Type 0} (xs : List X) (i : ℕ) (x : X) → slice_get xs i ≡ Some x → (i < length xs) × (slice_index_or xs i x ≡ x)

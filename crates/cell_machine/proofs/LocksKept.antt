@@ -132,7 +132,7 @@ host_raises M = on (slice_get M.host.script M.host.done)
     on (Some a) = acted_raises M a
 
 -- a step raises the version of the line to which it stores, and no other
-act_raises : (M : State) (s : Step) → IfSome (act M s) (λ N. N.memory.versions ≡ raised_by M.memory.versions (stored_by M s))
+pub act_raises : (M : State) (s : Step) → IfSome (act M s) (λ N. N.memory.versions ≡ raised_by M.memory.versions (stored_by M s))
 act_raises M (Exec p) = at_raises M p (exec (lines_of M.memory))
 act_raises M (Piece p c e k) = on (slice_get M.spes p)
   where

@@ -1,6 +1,6 @@
 -- How a machine begins.
 use Rattle.std.proofs.Common.{◌≡◌, ◌≢◌, ℕ, zero, suc, ◌<◌, ◌≤◌, ◌+◌, ◌*◌, ◌==◌, true, false, List, [], ◌∷◌, ◌++◌, map, length, arith, refl, sym, subst, ◌∙◌, slice_index_or, ap, take, drop}
-use Rattle.std.specs.Prelude.{All}
+use Rattle.std.specs.Prelude.{All, replicate, None}
 use Rattle.std.specs.List.{enumerate_from}
 use Rattle.std.proofs.lemmas.Bool.Decides.{nat_tests}
 use Rattle.std.proofs.lemmas.List.{length-replicate}
@@ -12,10 +12,11 @@ use Rattle.cell_host.specs.Script.{Progress, opening as opening_host}
 use Rattle.cell_machine.specs.Opening.{Opening, opening, opening_spe, opening_spes, opening_memory, filled, InMemory, Placed, placed_in, no_moves}
 use Rattle.cell_machine.specs.Run.{replay}
 use Rattle.cell_machine.specs.Tags.{settled}
-use Rattle.cell_machine.specs.Shows.{AllTwo, ShowsSpe, IsMachine, IsBounded, AreBounded}
+use Rattle.cell_machine.specs.Shows.{AllTwo, ShowsSpe, ShowsMemory, HasSize, reservations, IsMachine, IsBounded, AreBounded}
 use Rattle.cell_machine.proofs.Bounds.{map-got}
 use Rattle.cell_machine.proofs.MovesShown.{get-within}
 use Rattle.cell_machine.proofs.AllTwo.{two_length}
+use Rattle.cell_machine.specs.declared.memory.SharedMemory.{SharedMemory}
 use Rattle.cell_machine.specs.declared.processor.Processor.{Processor}
 use Rattle.cell_machine.specs.Limits.{shown, shown_memory, IsOpening, FitsStore, FitsMemory}
 use Rattle.cell_machine.specs.declared.setup.PlacedBytes.{PlacedBytes}
@@ -99,16 +100,27 @@ opening_settled S (x ∷ xs) = ap (λ ys. opening_spe S x ∷ ys) (opening_settl
 opening_bounded : (S : Opening) → AreBounded S.lines 0 (opening_spes S)
 opening_bounded S p P at =
     let g = map-got (opening_spe S) (enumerate_from 0 S.entries) p P at in
-    subst (IsBounded S.lines 0) g.2 (record { few = omega arith; fits = λ c d at2. absurd (let l = get-within no_moves.issued c d at2 in omega arith); elements = λ i d less. absurd (omega arith) })
+    subst (IsBounded S.lines 0) g.2 (record { few = omega arith; fits = λ c d at2. absurd (let l = get-within no_moves.issued c d at2 in omega arith); elements = λ i d less. absurd (omega arith); slot = tt })
+
+-- and nothing is reserved
+opening_reserved : (S : Opening) (xs : List (ℕ × ℕ)) → reservations (map (opening_spe S) xs) ≡ replicate (length xs) None
+opening_reserved S [] = refl
+opening_reserved S (x ∷ xs) = ap (λ ys. None ∷ ys) (opening_reserved S xs)
+
+length-numbered : (n : ℕ) (xs : List ℕ) → length (enumerate_from n xs) ≡ length xs
+length-numbered n [] = refl
+length-numbered n (x ∷ xs) = ap suc (length-numbered (n + 1) xs)
 
 -- a machine at its start
-pub machine-new : (S : Opening) (processors : List Processor) (memory : List ℕ) (host : Progress) (steps : List Step) (capacity : ℕ) → IsOpening S
-    → AllTwo ShowsSpe processors (opening_spes S) → opening_memory S ≡ memory → length memory ≡ 128 * S.lines → opening_host S.actions ≡ host
-    → steps ≡ [] → S.budget ≤ capacity → IsMachine S steps capacity processors memory host
+pub machine-new : (S : Opening) (processors : List Processor) (memory : SharedMemory) (host : Progress) (steps : List Step) (capacity : ℕ) → IsOpening S
+    → AllTwo ShowsSpe processors (opening_spes S) → ShowsMemory memory (opening_memory S) (replicate (length S.entries) None) → HasSize S.lines (length S.entries) memory
+    → opening_host S.actions ≡ host → steps ≡ [] → S.budget ≤ capacity → IsMachine S steps capacity processors memory host
 unfolding opening
-machine-new S processors memory host steps capacity is shows fills long begins none room =
+machine-new S processors memory host steps capacity is shows fills size begins none room =
     let many : length processors ≡ length S.entries = sym (two_length ShowsSpe processors (opening_spes S) shows) ∙ length-enumerate (opening_spe S) 0 S.entries in
+    let reserved : replicate (length S.entries) None ≡ reservations (opening_spes S) = sym (opening_reserved S (enumerate_from 0 S.entries) ∙ ap (λ n. replicate n None) (length-numbered 0 S.entries)) in
     record {
+      setup_is = is;
       room = room;
       within = rw none (omega arith);
       small = is.limits.3;
@@ -116,10 +128,10 @@ machine-new S processors memory host steps capacity is shows fills long begins n
       count = many;
       state = opening S;
       replayed = ap (replay (opening S)) none;
-      shown = record { spes = shows; memory_is = fills; host_is = begins };
+      shown = record { spes = shows; memory_is = subst (ShowsMemory memory (opening_memory S)) reserved fills; host_is = begins };
       settled = opening_settled S (enumerate_from 0 S.entries);
       bounded = rw none (opening_bounded S);
-      long = long;
+      size = (size.0, size.1 ∙ sym many);
       script = ap (λ (h : Progress). h.script) (sym begins);
       actions = is.actions;
     }

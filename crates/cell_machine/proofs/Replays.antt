@@ -1,5 +1,5 @@
 -- A run goes on by one step.
-use Rattle.std.proofs.Common.{◌≡◌, slice_index_or, ℕ, ◌+◌, ◌<◌, ◌≤◌, List, [], ◌∷◌, ◌++◌, length, arith, refl, sym, subst, ◌∙◌, ap, length-append, suc, add-zero, zero-add}
+use Rattle.std.proofs.Common.{◌≡◌, slice_index_or, ℕ, ◌+◌, ◌<◌, ◌≤◌, List, [], ◌∷◌, ◌++◌, ◌*◌, length, arith, refl, sym, subst, ◌∙◌, ap, length-append, suc, add-zero, zero-add}
 use Rattle.std.specs.Prelude.{Option, Some, None, IsSomeAnd, option_map, option_and_then, All, map}
 use Rattle.cell_base.specs.declared.steps.Step.{Step}
 use Rattle.cell_machine.specs.declared.processor.Processor.{Processor}
@@ -14,7 +14,8 @@ use Rattle.cell_machine.specs.Run.{Ran, replay, spe_of, state_of}
 use Rattle.cell_machine.specs.Tags.{settled}
 use Rattle.mfc_queue.specs.Calls.{issued}
 use Rattle.cell_machine.specs.Kept.{IsKept}
-use Rattle.cell_machine.specs.Shows.{Shows, ShowsSpe, IsMachine, IsFit, CanGo, CanStep, AreBounded}
+use Rattle.cell_machine.specs.Shows.{Shows, ShowsSpe, HasSize, IsMachine, IsFit, CanGo, CanStep, AreBounded}
+use Rattle.lock_lines.specs.Stands.{HasSameSize}
 use Rattle.cell_machine.proofs.AllTwo.{two_at, some_and}
 use Rattle.cell_machine.proofs.Steps.{lines-is}
 use Rattle.cell_machine.proofs.Bounds.{act-settled, act-bounded}
@@ -50,17 +51,22 @@ replay-length M (s ∷ steps) N h = on (next M s) refl h (λ K. replay-length K 
         let rest : length N.steps ≡ length K.steps + length steps = k K g in
         omega arith
 
+-- how long the memory of so many lines is
+pub long-of : (memory : SharedMemory) (lines spes : ℕ) → HasSize lines spes memory → length memory.bytes ≡ 128 * lines
+long-of memory lines spes size = memory.even ∙ ap (λ n. 128 * n) size.0
+
 -- an allowed step takes a machine to a machine
 pub machine-step : (setup : Opening) (steps : List Step) (capacity : ℕ) (processors new : List Processor) (memory memory2 : SharedMemory) (host host2 : Progress) (s : Step) (room : ℕ)
     → (old : IsMachine setup steps capacity processors memory host)
-    → IsSomeAnd (act old.state s) (λ N. Shows new memory2 host2 (settled_in N)) → length new ≡ length processors → length memory2 ≡ length memory → host2.script ≡ host.script
+    → IsSomeAnd (act old.state s) (λ N. Shows new memory2 host2 (settled_in N)) → length new ≡ length processors → HasSameSize memory.locks memory2.locks → host2.script ≡ host.script
     → length steps < setup.budget → capacity ≤ room
     → IsMachine setup (steps ++ s ∷ []) room new memory2 host2
 machine-step setup steps capacity processors new memory memory2 host host2 s room old did same long script within grown =
     let made = some_and (act old.state s) (λ N. Shows new memory2 host2 (settled_in N)) did in
-    let lines : lines_of old.state.memory ≡ setup.lines = ap lines_of old.shown.memory_is ∙ lines-is memory setup.lines (sym old.long) in
+    let lines : lines_of old.state.memory ≡ setup.lines = lines-is old.state.memory memory.bytes setup.lines old.shown.memory_is.bytes (sym (long-of memory setup.lines (length processors) old.size)) in
     let longer : length steps + 1 ≡ length (steps ++ s ∷ []) = sym (length-append steps (s ∷ [])) in
     record {
+      setup_is = old.setup_is;
       room = omega arith;
       within = simp length-append (omega arith);
       small = old.small;
@@ -71,7 +77,7 @@ machine-step setup steps capacity processors new memory memory2 host host2 s roo
       shown = record { spes = made.2.spes; memory_is = made.2.memory_is; host_is = made.2.host_is };
       settled = act-settled old.state s made.0 made.1 old.settled;
       bounded = subst (λ n. AreBounded setup.lines n (map settled made.0.spes)) longer (act-bounded old.state s made.0 setup.lines (length steps) lines made.1 old.bounded);
-      long = long ∙ old.long;
+      size = (long.lines ∙ old.size.0, long.spes ∙ old.size.1 ∙ sym same);
       script = script ∙ old.script;
       actions = old.actions;
     }
@@ -79,7 +85,7 @@ machine-step setup steps capacity processors new memory memory2 host host2 s roo
 -- each processor of a machine that isn't at the end of its budget can make a step
 pub machine-can : (setup : Opening) (steps : List Step) (capacity : ℕ) (processors : List Processor) (memory : SharedMemory) (host : Progress)
     → IsMachine setup steps capacity processors memory host → length steps < setup.budget → CanGo processors memory
-machine-can setup steps capacity processors memory host is within = record { lines = setup.lines; long = is.long; each = each }
+machine-can setup steps capacity processors memory host is within = record { lines = setup.lines; size = is.size; each = each }
   where
     each : All (CanStep setup.lines) processors
     each k d h =
@@ -87,7 +93,7 @@ machine-can setup steps capacity processors memory host is within = record { lin
         let bound = is.bounded k two.0 two.1 in
         let few = bound.few in
         let small = is.small in
-        record { spe = two.0; shows = two.2; bounded = record { few = omega arith; fits = bound.fits; elements = bound.elements } }
+        record { spe = two.0; shows = two.2; bounded = record { few = omega arith; fits = bound.fits; elements = bound.elements; slot = bound.slot } }
 
 -- what each processor of a machine knows of its queue
 pub machine-kept : {setup : Opening} {steps : List Step} {capacity : ℕ} {processors : List Processor} {memory : SharedMemory} {host : Progress}
@@ -104,7 +110,7 @@ machine-kept is k d h =
 -- each action of a machine's script fits it
 pub machine-fit : (setup : Opening) (steps : List Step) (capacity : ℕ) (processors : List Processor) (memory : SharedMemory) (host : Progress)
     → IsMachine setup steps capacity processors memory host → IsFit (length processors) memory host
-machine-fit setup steps capacity processors memory host is = record { lines = setup.lines; long = is.long; actions = rw (is.script, is.count) is.actions }
+machine-fit setup steps capacity processors memory host is = record { lines = setup.lines; size = is.size; actions = rw (is.script, is.count) is.actions }
 
 -- the processor at p is that of the state that the machine stands for
 pub machine-spe : {memory : SharedMemory} {host : Progress} (setup : Opening) (steps : List Step) (capacity : ℕ) (processors : List Processor) (m : Ran) (p : ℕ) (x : Processor) (Q : Spe → Type 0)

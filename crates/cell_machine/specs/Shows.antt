@@ -22,7 +22,7 @@ use Rattle.cell_machine.specs.Tags.{settled}
 use Rattle.cell_machine.specs.Kept.{MovesFit}
 use Rattle.cell_machine.specs.State.{State}
 use Rattle.cell_machine.specs.Opening.{Opening, opening}
-use Rattle.cell_machine.specs.Limits.{FitsAction}
+use Rattle.cell_machine.specs.Limits.{FitsAction, IsOpening}
 use Rattle.cell_machine.specs.Run.{replay}
 use Rattle.cell_host.specs.Script.{Progress}
 use Rattle.cell_host.specs.declared.HostAction.{HostAction}
@@ -163,6 +163,7 @@ pub record CanGo (processors : List Processor) (memory : SharedMemory) : Type 0 
 
 -- the processors, the memory and the host stand for the replay of the steps from the setup, and the record has room for a run
 pub record IsMachine (setup : Opening) (steps : List Step) (capacity : ℕ) (processors : List Processor) (memory : SharedMemory) (host : Progress) : Type 0 where
+  pub setup_is : IsOpening setup
   pub room : setup.budget ≤ capacity
   pub within : length steps ≤ setup.budget
   pub small : setup.budget ≤ 1000000

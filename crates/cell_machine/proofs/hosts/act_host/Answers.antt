@@ -10,7 +10,7 @@ returns-in_default-clause-made c = λ M shows. host-over M _ shows.host_is (sym 
 pub perform-requires : goal.perform-requires
 perform-requires c = let fit = c.requires in record {
   lines = fit.lines;
-  long = fit.long;
+  size = fit.size;
   fits = all-got (FitsAction fit.lines (length c.args.processors.now)) c.args.script.now.script c.args.script.now.done c.in-Some.action fit.actions (sym c.next.ensures ∙ c.in-Some.is);
 }
 

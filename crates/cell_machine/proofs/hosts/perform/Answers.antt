@@ -1,5 +1,6 @@
 use Rattle.std.proofs.Common.{refl}
 use Rattle.cell_machine.proofs.HostSteps.{acted-send, acted-take, acted-take_intr, acted-await, store-leaves}
+use Rattle.cell_machine.specs.Shows.{reservations}
 use Rattle.cell_machine.proofs.hosts.perform.Goals as goal
 
 pub returns-in-Send-clause-made : goal.returns-in-Send-clause-made
@@ -19,4 +20,4 @@ returns-in-Await-clause-made c = λ host M shows.
     rw c.in-Await.is (rw (acted-await M c.in-Await.spe) (c.answer_at-in-Await.ensures.made _ host M shows))
 
 pub returns-in-Store-clause-made : goal.returns-in-Store-clause-made
-returns-in-Store-clause-made c = λ host M shows. rw c.in-Store.is (store-leaves _ _ _ host M _ _ _ _ shows c.copy_in.ensures.bytes refl)
+returns-in-Store-clause-made c = λ host M shows. rw c.in-Store.is (store-leaves _ _ _ host M _ _ _ _ shows (c.store.ensures.shows M.memory (reservations M.spes) shows.memory_is) refl)
