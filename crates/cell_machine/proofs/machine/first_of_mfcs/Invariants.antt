@@ -1,4 +1,4 @@
-use Rattle.std.proofs.Common.{◌≡◌, ℕ, ◌-◌, length}
+use Rattle.std.proofs.Common.{◌≡◌, ◌-◌, length}
 use Rattle.cell_base.specs.declared.steps.Actor.TheVariants.{Mfc}
 use Rattle.cell_host.specs.Script.{Progress}
 use Rattle.cell_machine.specs.declared.memory.SharedMemory.{SharedMemory}
