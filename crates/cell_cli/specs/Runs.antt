@@ -7,10 +7,12 @@ use Rattle.cell_machine.specs.State.{State}
 use Rattle.cell_machine.specs.Opening.{Opening, opening}
 use Rattle.cell_machine.specs.Run.{replay, IsEnd}
 use Rattle.cell_machine.specs.Order.{IsInOrder}
+use Rattle.cell_machine.specs.Lists.{ListsAreInOrder}
+use Rattle.cell_machine.specs.Locks.{AreLocksKept}
 use Rattle.cell_report.specs.States.{states_of}
 
--- The record of one run of the written machine from the setup, in the order of its commands, and then its last states; the run has
--- ended.
+-- The record of one run of the written machine from the setup, in the order of its commands and of its lists, each PUTLLC storing
+-- exactly where its line is reserved, and then its last states; the run has ended.
 pub record PrintsRun (setup : Opening) (text : List ℕ) : Type 0 where
   pub steps : List Step
   pub last : State
@@ -18,5 +20,7 @@ pub record PrintsRun (setup : Opening) (text : List ℕ) : Type 0 where
   pub replayed : replay (opening setup) steps ≡ Some last
   pub within : length steps ≤ setup.budget
   pub order : IsInOrder (record { setup = setup; steps = steps })
+  pub lists : ListsAreInOrder (record { setup = setup; steps = steps })
+  pub locks : AreLocksKept (record { setup = setup; steps = steps })
   pub ended : IsEnd last setup.budget (Some end)
   pub printed : text ≡ spelling steps ++ states_of last setup.shows (Some end)

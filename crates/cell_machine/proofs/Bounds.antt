@@ -69,7 +69,7 @@ if_map : {X Y : Type 0} (f : X → Y) (o : Option X) (R : Y → Type 0) → IfSo
 if_map f None R h = tt
 if_map f (Some x) R h = h
 
-if_is : {X : Type 0} (o : Option X) (x : X) (R : X → Type 0) → o ≡ Some x → IfSome o R → R x
+pub if_is : {X : Type 0} (o : Option X) (x : X) (R : X → Type 0) → o ≡ Some x → IfSome o R → R x
 if_is None x R e h = absurd (cc)
 if_is (Some y) x R e h = let same : y ≡ x = cc in subst R same h
 
@@ -77,7 +77,7 @@ if_on : {X : Type 0} (o : Option X) (A B : X → Type 0) → ((x : X) → A x �
 if_on None A B k h = tt
 if_on (Some x) A B k h = k x h
 
-if_so : {X : Type 0} (b : Bool) (o : Option X) (R : X → Type 0) → (b ≡ true → IfSome o R) → IfSome (cond b o None) R
+pub if_so : {X : Type 0} (b : Bool) (o : Option X) (R : X → Type 0) → (b ≡ true → IfSome o R) → IfSome (cond b o None) R
 if_so true o R h = h refl
 if_so false o R h = tt
 
@@ -269,11 +269,11 @@ copied_like memory P true x = record { moves = refl; status = refl; slot = refl;
 copied_like memory P false x = record { moves = refl; status = refl; slot = refl; reserved = refl }
 
 -- of each command and of each element there is
-each_of : {X Y : Type 0} (o : Option X) (f : X → Option Y) (R : Y → Type 0) → ((x : X) → o ≡ Some x → IfSome (f x) R) → IfSome (option_and_then f o) R
+pub each_of : {X Y : Type 0} (o : Option X) (f : X → Option Y) (R : Y → Type 0) → ((x : X) → o ≡ Some x → IfSome (f x) R) → IfSome (option_and_then f o) R
 each_of None f R h = tt
 each_of (Some x) f R h = h x refl
 
-each_map : {X Y : Type 0} (o : Option X) (f : X → Y) (R : Y → Type 0) → ((x : X) → o ≡ Some x → R (f x)) → IfSome (option_map f o) R
+pub each_map : {X Y : Type 0} (o : Option X) (f : X → Y) (R : Y → Type 0) → ((x : X) → o ≡ Some x → R (f x)) → IfSome (option_map f o) R
 each_map None f R h = tt
 each_map (Some x) f R h = h x refl
 

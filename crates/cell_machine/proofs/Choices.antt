@@ -1,5 +1,5 @@
 -- The steps that are allowed.
-use Rattle.std.proofs.Common.{◌≡◌, ◌≢◌, ℕ, zero, suc, ◌<◌, ◌≤◌, ◌+◌, ◌-◌, ◌%◌, ◌==◌, not, List, [], ◌∷◌, ◌++◌, map, length, arith, refl, sym, subst, ◌∙◌, slice_index_or, ap, true, false, Bool, ◌⊎◌, inl, inr, true≢false}
+use Rattle.std.proofs.Common.{◌≡◌, ◌≢◌, ℕ, zero, suc, ◌<◌, ◌≤◌, ◌+◌, ◌-◌, ◌%◌, ◌==◌, ◌&&◌, not, List, [], ◌∷◌, ◌++◌, map, length, arith, refl, sym, subst, ◌∙◌, slice_index_or, ap, true, false, Bool, ◌⊎◌, inl, inr, true≢false}
 use Rattle.std.specs.Prelude.{slice_get, Option, Some, None, is_some, option_map, option_and_then, filter, flat_map, cond}
 use Rattle.std.specs.List.{range_with_len}
 use Rattle.std.specs.Option.{option_map_or}
@@ -12,13 +12,14 @@ use Rattle.mfc_command.specs.Order.{outstanding as outstanding_of}
 use Rattle.mfc_lists.specs.declared.Element.{Element}
 use Rattle.cell_machine.specs.declared.processor.Processor.{Processor}
 use Rattle.cell_machine.specs.declared.memory.SharedMemory.{SharedMemory}
-use Rattle.cell_machine.specs.Spe.{Spe}
+use Rattle.cell_machine.specs.Spe.{Spe, is_faulted}
 use Rattle.cell_host.specs.Script.{Progress}
 use Rattle.cell_machine.specs.State.{State}
 use Rattle.cell_machine.specs.Exec.{exec}
 use Rattle.cell_machine.specs.Moves.{outstanding, is_complete, present, parts_in}
 use Rattle.cell_machine.specs.Transfers.{piece, piece_of, elem, after_element, next_element, retire, may_of, may_piece, may_elem, may_retire, has_part, has_element, is_left}
-use Rattle.cell_machine.specs.Memory.{lines_of}
+use Rattle.cell_machine.specs.Memory.{MainMemory, lines_of}
+use Rattle.cell_machine.specs.Atomic.{may_atomic, atomic, after_atomic}
 use Rattle.cell_machine.specs.Next.{act, act_in, own, left, next, ended_by, with_left}
 use Rattle.cell_machine.specs.Hosts.{host as host_step}
 use Rattle.cell_machine.specs.Run.{steps_of, steps_of_mfc, steps_of_number, steps_of_command, pieces_of, allowed, picked, actors, first_allowed, HasEnded, CanGoOn}
@@ -26,12 +27,12 @@ use Rattle.cell_machine.specs.Choices.{may, allowed_of_number, allowed_of_mfc, a
 use Rattle.cell_machine.specs.MovesShown.{AreElements}
 use Rattle.cell_machine.specs.Shows.{Shows, ShowsSpe}
 use Rattle.cell_machine.proofs.AllTwo.{two_at, two_none, two_found, two_length, is_some_map, none_of}
-use Rattle.cell_machine.proofs.Steps.{act-absent, act-atomic}
-use Rattle.cell_machine.proofs.SpeShown.{get-either, complete-no_part, complete-no_element, complete-not_left}
+use Rattle.cell_machine.proofs.Steps.{act-absent}
+use Rattle.cell_machine.proofs.SpeShown.{second_of_both, get-either, complete-no_part, complete-no_element, complete-not_left}
 use Rattle.cell_machine.proofs.MovesShown.{get-within, eq_is, eq_not}
 use Rattle.cell_machine.proofs.Elements.{part-is}
 use Rattle.cell_machine.proofs.Bounds.{may-is}
-use Rattle.cell_machine.proofs.Places.{filter-both}
+use Rattle.cell_machine.proofs.Places.{filter-both, queued_steps}
 
 -- a step is allowed where it is allowed for its processor
 act-own : (M : State) (p : ℕ) (s : Step) (P : Spe) → slice_get M.spes p ≡ Some P → is_some (act_in M p s) ≡ is_some (own M.memory s P)
@@ -83,7 +84,7 @@ is_some_if : {X : Type 0} (b : Bool) (o : Option X) → (b ≡ true → is_some 
 is_some_if true o h = h refl
 is_some_if false o h = refl
 
-piece_may : (memory : SharedMemory) (P : Spe) (c e k : ℕ) → is_some (piece memory P c e k) ≡ may_piece P c e k
+piece_may : (memory : MainMemory) (P : Spe) (c e k : ℕ) → is_some (piece memory P c e k) ≡ may_piece P c e k
 unfolding piece may_piece
 piece_may memory P c e k = is_some_if (may_of P c (has_part P.moves c e k)) _ (λ may.
     let is = may-is P c (has_part P.moves c e k) may in
@@ -101,6 +102,10 @@ retire_may : (P : Spe) (c : ℕ) → is_some (retire P c) ≡ may_retire P c
 unfolding retire
 retire_may P c = is_some_if (may_retire P c) _ (λ may. refl)
 
+atomic_may : (memory : MainMemory) (P : Spe) → is_some (atomic memory P) ≡ may_atomic P
+unfolding atomic may_atomic
+atomic_may memory P = is_some_if (not (is_faulted P.status) && is_some P.channels.slot) _ (λ may. is_some_map (after_atomic memory P) P.channels.slot ∙ second_of_both (not (is_faulted P.status)) (is_some P.channels.slot) may)
+
 pub next-piece : (M : State) (p c e k : ℕ) (P : Spe) → slice_get M.spes p ≡ Some P → is_some (next M (Piece p c e k)) ≡ may_piece P c e k
 next-piece M p c e k P at = next-own M p (Piece p c e k) P at ∙ piece_may M.memory P c e k
 
@@ -109,6 +114,9 @@ next-elem M p c P at = next-own M p (Elem p c) P at ∙ is_some_map (left M.memo
 
 pub next-retire : (M : State) (p c : ℕ) (P : Spe) → slice_get M.spes p ≡ Some P → is_some (next M (Retire p c)) ≡ may_retire P c
 next-retire M p c P at = next-own M p (Retire p c) P at ∙ is_some_map (left M.memory) (retire P c) ∙ retire_may P c
+
+pub next-atomic : (M : State) (p : ℕ) (P : Spe) → slice_get M.spes p ≡ Some P → is_some (next M (Atomic p)) ≡ may_atomic P
+next-atomic M p P at = next-own M p (Atomic p) P at ∙ atomic_may M.memory P
 
 same_pieces : (t u : Step → Bool) (g : ℕ → Step) (ks : List ℕ) → ((k : ℕ) → t (g k) ≡ u (g k)) → filter t (map g ks) ≡ filter u (map g ks)
 same_pieces t u g [] same = refl
@@ -143,8 +151,7 @@ same_numbers M p P (c ∷ cs) at =
 allowed_mfc : {memory : SharedMemory} {host : Progress} (processors : List Processor) (M : State) (p : ℕ) (P : Spe) → Shows processors memory host M → slice_get M.spes p ≡ Some P → allowed M (Mfc p) ≡ allowed_of_mfc p P
 allowed_mfc processors M p P shows at =
     ap (λ o. filter (λ s. is_some (next M s)) (option_map_or (steps_of_mfc p) o [])) at
-    ∙ ap (λ b. cond b (Atomic p ∷ filter (λ s. is_some (next M s)) (flat_map (steps_of_number p P) (outstanding P))) (filter (λ s. is_some (next M s)) (flat_map (steps_of_number p P) (outstanding P)))) (no_next M (Atomic p) (act-atomic M p))
-    ∙ same_numbers M p P (outstanding P) at
+    ∙ same_head (λ s. is_some (next M s)) (may P) (Atomic p) (flat_map (steps_of_number p P) (outstanding P)) (next-atomic M p P at) (same_numbers M p P (outstanding P) at)
 
 pub allowed-no_mfc : {memory : SharedMemory} {host : Progress} (processors : List Processor) (M : State) (p : ℕ) → Shows processors memory host M → length processors ≤ p → allowed M (Mfc p) ≡ []
 allowed-no_mfc processors M p shows h = ap (λ o. filter (λ s. is_some (next M s)) (option_map_or (steps_of_mfc p) o [])) (two_none ShowsSpe processors M.spes p shows.spes h)
@@ -245,8 +252,9 @@ filter_none t s xs h = on (t s) refl h
     on true e g = absurd (cc)
     on false e g = (e, g)
 
-no_act : (M : State) (s : Step) → act M s ≡ None → next M s ≡ None
-no_act M s h = rw h refl
+-- neither the atomic command nor a queued one
+none_of_mfc : (p : ℕ) (P : Spe) → allowed_of_mfc p P ≡ [] → (may_atomic P ≡ false) × (queued_steps p P ≡ [])
+none_of_mfc p P none = filter_none (may P) (Atomic p) (flat_map (steps_of_number p P) (outstanding P)) none
 
 -- where no command has an allowed step, neither has one of them
 none_in : (t : Step → Bool) (f : ℕ → List Step) (u : ℕ → Bool) (a n c : ℕ) → filter t (flat_map f (filter u (range_with_len a n))) ≡ [] → u c ≡ true → a ≤ c → c < a + n → filter t (f c) ≡ []
@@ -272,7 +280,7 @@ command_none : (p : ℕ) (P : Spe) (c : ℕ) (d : Command) → allowed_of_mfc p 
 unfolding outstanding_of
 command_none p P c d none at open_yet =
     ap (λ o. filter (may P) (option_map_or (steps_of_command p P.moves.read c) o [])) (sym at)
-    ∙ none_in (may P) (steps_of_number p P) (λ j. not (is_complete P.moves j)) 0 (length P.moves.issued) c none (ap not open_yet) (omega arith) (let l = get-within P.moves.issued c d at in omega arith)
+    ∙ none_in (may P) (steps_of_number p P) (λ j. not (is_complete P.moves j)) 0 (length P.moves.issued) c (none_of_mfc p P none).1 (ap not open_yet) (omega arith) (let l = get-within P.moves.issued c d at in omega arith)
 
 -- neither an element, nor a retirement, nor a piece
 none_of_command : (p : ℕ) (P : Spe) (c : ℕ) (d : Command) → allowed_of_mfc p P ≡ [] → slice_get P.moves.issued c ≡ Some d → is_complete P.moves c ≡ false
@@ -355,7 +363,10 @@ has_ended processors M shows h (Retire p c) =
     let all = append_none (all_of_spus M) (all_of_mfcs M ++ allowed M TheHost) (sym (all_parts M) ∙ first_none (flat_map (allowed M) (actors M)) h) in
     spe_none processors M p (Retire p c) shows (append_none (all_of_mfcs M) (allowed M TheHost) all.1).0 (λ none. rw none refl)
     (λ P at none. none_of (next M (Retire p c)) (next-retire M p c P at ∙ no_retire p P c none))
-has_ended processors M shows h (Atomic p) = no_act M (Atomic p) (act-atomic M p)
+has_ended processors M shows h (Atomic p) =
+    let all = append_none (all_of_spus M) (all_of_mfcs M ++ allowed M TheHost) (sym (all_parts M) ∙ first_none (flat_map (allowed M) (actors M)) h) in
+    spe_none processors M p (Atomic p) shows (append_none (all_of_mfcs M) (allowed M TheHost) all.1).0 (λ none. rw none refl)
+    (λ P at none. none_of (next M (Atomic p)) (next-atomic M p P at ∙ (none_of_mfc p P none).0))
 has_ended processors M shows h Host =
     let all = append_none (all_of_spus M) (all_of_mfcs M ++ allowed M TheHost) (sym (all_parts M) ∙ first_none (flat_map (allowed M) (actors M)) h) in
     none_of (next M Host) (filter_none (λ s. is_some (next M s)) Host [] (append_none (all_of_mfcs M) (allowed M TheHost) all.1).1).0

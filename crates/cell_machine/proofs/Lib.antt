@@ -24,3 +24,4 @@ pub mod Controllers
 pub mod MemoryShown
 pub mod AtomicSteps
 pub mod LocksKept
+pub mod LocksRun

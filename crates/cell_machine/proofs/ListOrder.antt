@@ -28,7 +28,7 @@ use Rattle.cell_machine.specs.declared.processor.Processor.{Processor}
 use Rattle.cell_machine.specs.Shows.{IsMachine}
 use Rattle.cell_machine.specs.Exec.{asks}
 use Rattle.cell_machine.specs.Lists.{is_reading, is_part, HasAck, ListsAreInOrder}
-use Rattle.cell_machine.proofs.Bounds.{stays, issues, resumes, Moved, executes, copies, reads, refuses, retires, acts, Seen, another, goes, read-is, passes, not-faulted, act-seen, act-length, map-got}
+use Rattle.cell_machine.proofs.Bounds.{stays, issues, resumes, Moved, executes, copies, reads, refuses, retires, locks, acts, Seen, another, goes, read-is, passes, not-faulted, act-seen, act-length, map-got}
 use Rattle.cell_machine.proofs.Choices.{next-elem, next-piece}
 use Rattle.cell_machine.proofs.Completion.{next-act, replay-part, replay-rest, some-of}
 use Rattle.cell_machine.proofs.Replays.{replay-snoc}
@@ -214,6 +214,7 @@ just-read lines p c P Q d x (goes g) whole order at last = on g.moved
         record { list = r.0; not_done = r.1.0; not_resumed = r.1.1.0; there = r.1.1.1 }
     on (refuses a of fault same) = absurd (true≢false (sym fault ∙ whole))
     on (retires a y of there left same) = absurd (cc)
+    on (locks of same) = absurd (cc)
     on (acts of same) = absurd (cc)
 
 -- a run has a state after its first steps
@@ -329,6 +330,7 @@ acknowledges-at lines s p c e P Q d seen at was now = on seen
     moved (reads a y x of there has got same) = stayed (ap (λ (m : Moves). m.resumed) same)
     moved (refuses a of fault same) = stayed (ap (λ (m : Moves). m.resumed) same)
     moved (retires a y of there left same) = stayed (ap (λ (m : Moves). m.resumed) same)
+    moved (locks of same) = stayed (ap (λ (m : Moves). m.resumed) same)
     moved (acts of same) = stayed (ap (λ (m : Moves). m.resumed) same)
 
     on : Seen lines s p P Q → (s ≡ Exec p) × (asks P ≡ Some (Write 26 d.tag))

@@ -20,7 +20,7 @@ use Rattle.cell_machine.proofs.Staying.{any_more, both, get_more}
 use Rattle.cell_machine.proofs.Elements.{AreStallsOf, is_stall_of, not_on, any_neither, element-is, elements-issued, elements-read, elements-done, elements-acknowledged, last-number, list-elements, part-is, present-last, stall-is}
 use Rattle.mfc_lists.proofs.ReadingLemmas.{last_or-snoc}
 use Rattle.cell_machine.specs.Lists.{is_reading, is_part}
-use Rattle.cell_machine.proofs.Bounds.{stays, issues, resumes, Moved, executes, copies, reads, refuses, retires, acts, Seen, another, goes, is_at, read-is}
+use Rattle.cell_machine.proofs.Bounds.{stays, issues, resumes, Moved, executes, copies, reads, refuses, retires, locks, acts, Seen, another, goes, is_at, read-is}
 
 pub same_got : {X : Type 0} (o : Option X) (a b : X) → o ≡ Some a → o ≡ Some b → a ≡ b
 same_got o a b e g = some_same a b (sym e ∙ g)
@@ -242,6 +242,7 @@ order-moved lines s p P Q (copies c e k d of at has same) order = subst AreInOrd
 order-moved lines s p P Q (reads c d x of at has got same) order = subst AreInOrder (sym same) (order-read P.moves c d x at has (read-is lines P c d x got).1 order)
 order-moved lines s p P Q (refuses c of fault same) order = subst AreInOrder (sym same) order
 order-moved lines s p P Q (retires c d of at left same) order = subst AreInOrder (sym same) (order-retired P.moves c d at order)
+order-moved lines s p P Q (locks of same) order = subst AreInOrder (sym same) order
 order-moved lines s p P Q (acts of same) order = subst AreInOrder (sym same) order
 
 -- ---- how many steps there were
@@ -282,6 +283,7 @@ reads-more lines s p P Q moved whole c = on moved
     on (reads a d x of at has got same) = one_more a x of same (a == c) refl
     on (refuses a of fault same) = absurd (true≢false (sym fault ∙ whole))
     on (retires a d of at left same) = as_it_was (ap (λ (n : Moves). n.read) same) (ap (is_reading p c) of)
+    on (locks of same) = as_it_was (ap (λ (n : Moves). n.read) same) (ap (is_reading p c) of)
     on (acts of same) = as_it_was (ap (λ (n : Moves). n.read) same) (ap (is_reading p c) of)
 
 -- a piece is of a part that wasn't done
@@ -319,6 +321,7 @@ parts-more lines s p P Q moved c n k = on moved
     on (reads a d x of at has got same) = as_it_was (ap (λ (m : Moves). m.done) same) (ap (is_part p c n k) of)
     on (refuses a of fault same) = as_it_was (ap (λ (m : Moves). m.done) same) (ap (is_part p c n k) of)
     on (retires a d of at left same) = as_it_was (ap (λ (m : Moves). m.done) same) (ap (is_part p c n k) of)
+    on (locks of same) = as_it_was (ap (λ (m : Moves). m.done) same) (ap (is_part p c n k) of)
     on (acts of same) = as_it_was (ap (λ (m : Moves). m.done) same) (ap (is_part p c n k) of)
 
 -- another's step is none of these
@@ -401,6 +404,7 @@ moved-more lines s p P Q (copies c f k d of at has same) = subst (HasMore P.move
 moved-more lines s p P Q (reads c d x of at has got same) = subst (HasMore P.moves) (sym same) (one-read P.moves c x)
 moved-more lines s p P Q (refuses c of fault same) = subst (HasMore P.moves) (sym same) (λ a d e. e, λ a i x e. e)
 moved-more lines s p P Q (retires c d of at left same) = subst (HasMore P.moves) (sym same) (λ a y e. e, λ a i x e. e)
+moved-more lines s p P Q (locks of same) = subst (HasMore P.moves) (sym same) (λ c d e. e, λ c i x e. e)
 moved-more lines s p P Q (acts of same) = subst (HasMore P.moves) (sym same) (λ c d e. e, λ c i x e. e)
 
 pub seen-later : (lines : ℕ) (s : Step) (p : ℕ) (P Q : Spe) → Seen lines s p P Q → Later P Q

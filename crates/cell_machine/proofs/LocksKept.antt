@@ -1,39 +1,26 @@
 -- On a run a PUTLLC stores exactly where its line is reserved.
-use Rattle.std.proofs.Common.{◌≡◌, ℕ, zero, suc, ◌+◌, ◌*◌, ◌/◌, ◌<◌, ◌≤◌, ◌↔◌, ◌==◌, ◌&&◌, Bool, true, false, List, [], ◌∷◌, ◌++◌, map, length, slice_set, arith, refl, sym, ◌∙◌, ap, subst, true≢false, append_assoc, append-nil}
-use Rattle.std.specs.Prelude.{Option, Some, None, IfSome, slice_get, cond, option_map, option_and_then}
+use Rattle.std.proofs.Common.{◌≡◌, ℕ, ◌+◌, ◌<◌, ◌≤◌, ◌↔◌, ◌==◌, ◌&&◌, Bool, true, false, List, [], ◌∷◌, ◌++◌, length, arith, refl, sym, ◌∙◌, ap, subst, true≢false, append_assoc, append-nil}
+use Rattle.std.specs.Prelude.{Option, Some, None, slice_get, cond, option_and_then}
 use Rattle.std.specs.Option.{option_map_or}
 use Rattle.std.proofs.lemmas.Bool.Decides.{nat_tests}
 use Rattle.cell_base.specs.declared.steps.Step.{Step}
 use Rattle.cell_base.specs.declared.steps.Step.TheVariants.{Exec, Piece, Elem, Retire, Atomic, Host}
-use Rattle.cell_host.specs.declared.HostAction.{HostAction}
-use Rattle.cell_host.specs.declared.HostAction.TheVariants.{Send, Take, TakeIntr, Store, Await}
-use Rattle.mfc_command.specs.declared.command.Command.{Command}
 use Rattle.mfc_command.specs.declared.command.AtomicOp.{AtomicOp}
 use Rattle.mfc_command.specs.declared.command.AtomicKind.{AtomicKind}
 use Rattle.mfc_command.specs.declared.command.AtomicKind.TheVariants.{GetLine, PutCond, PutLine}
-use Rattle.mfc_command.specs.declared.range.Part.{Part}
-use Rattle.mfc_lists.specs.declared.Element.{Element}
 use Rattle.lock_lines.specs.Versions.{Reserved, version_of, raised, is_current}
 use Rattle.lock_lines.proofs.VersionLaws.{version-same, version-other}
 use Rattle.cell_machine.specs.Spe.{Spe}
-use Rattle.cell_machine.specs.State.{State, with_spe}
-use Rattle.cell_machine.specs.Memory.{MainMemory, stored, lines_of}
-use Rattle.cell_machine.specs.Moves.{present}
-use Rattle.cell_machine.specs.Tags.{settled}
-use Rattle.cell_machine.specs.Exec.{exec}
-use Rattle.cell_machine.specs.Transfers.{Left, copied, is_put, part_in, piece, piece_of, after_part, may_piece, elem, retire}
-use Rattle.cell_machine.specs.Atomic.{Fate, fate_of, fate, holds, status_of, reserved_after, answered, moved, line_part, after_atomic, may_atomic, atomic}
-use Rattle.cell_machine.specs.Hosts.{Given, Acted, given, at_spe, acted, after_action, host as host_step}
-use Rattle.cell_machine.specs.Next.{act, act_in, next, left, with_left, ended_by}
-use Rattle.cell_machine.specs.Opening.{Opening, opening}
+use Rattle.cell_machine.specs.State.{State}
+use Rattle.cell_machine.specs.Memory.{MainMemory}
+use Rattle.cell_machine.specs.Atomic.{holds, reserved_after}
+use Rattle.cell_machine.specs.Next.{next}
+use Rattle.cell_machine.specs.Opening.{opening}
 use Rattle.cell_machine.specs.Run.{Ran, replay, spe_of, state_of}
 use Rattle.cell_machine.specs.Order.{after_steps}
+use Rattle.cell_machine.proofs.Completion.{some-of}
 use Rattle.cell_machine.proofs.Replays.{replay-snoc}
-use Rattle.cell_machine.specs.Locks.{stored_by_piece, stored_by_fate, stored_by_atomic, stored_by_action, stored_by, StoresTo, Does, is_lock, IsReserved, AreLocksKept}
-
-some-of : {X Y : Type 0} (f : X → Option Y) (o : Option X) (y : Y) → option_and_then f o ≡ Some y → (x : X) × (o ≡ Some x) × (f x ≡ Some y)
-some-of f None y h = absurd (cc)
-some-of f (Some x) y h = (x, refl, h)
+use Rattle.cell_machine.specs.Locks.{stored_by_atomic, stored_by, StoresTo, Does, is_lock, IsReserved, AreLocksKept}
 
 -- ---- the versions after a step
 
@@ -41,114 +28,6 @@ some-of f (Some x) y h = (x, refl, h)
 abbrev pub raised_by : List ℕ → Option ℕ → List ℕ
 raised_by versions None = versions
 raised_by versions (Some line) = raised versions line
-
-left_raises : (M : State) (p : ℕ) (o : Option Spe) → IfSome (option_map (with_left M p) (option_map (left M.memory) o)) (λ N. N.memory.versions ≡ M.memory.versions)
-left_raises M p None = tt
-left_raises M p (Some Q) = refl
-
-at_raises : (M : State) (p : ℕ) (f : Spe → Option Spe) → IfSome (option_and_then (λ P. option_map (with_left M p) (option_map (left M.memory) (f P))) (slice_get M.spes p)) (λ N. N.memory.versions ≡ M.memory.versions)
-at_raises M p f = on (slice_get M.spes p)
-  where
-    on : (o : Option Spe) → IfSome (option_and_then (λ P. option_map (with_left M p) (option_map (left M.memory) (f P))) o) (λ N. N.memory.versions ≡ M.memory.versions)
-    on None = tt
-    on (Some P) = left_raises M p (f P)
-
-copied_versions : (memory : MainMemory) (P : Spe) (b : Bool) (x : Part) → (copied memory P b x).memory.versions ≡ raised_by memory.versions (cond b (Some (x.ea / 128)) None)
-unfolding copied stored
-copied_versions memory P true x = refl
-copied_versions memory P false x = refl
-
-put_line : (b : Bool) (k : ℕ) (x : Element) → cond b (Some ((part_in x k).ea / 128)) None ≡ cond b (option_map (λ y. (part_in y k).ea / 128) (Some x)) None
-put_line true k x = refl
-put_line false k x = refl
-
-piece_raises : (M : State) (p c e k : ℕ) (P : Spe) → IfSome (option_map (with_left M p) (piece M.memory P c e k))
-    (λ N. N.memory.versions ≡ raised_by M.memory.versions (option_and_then (stored_by_piece P.moves c k) (slice_get P.moves.issued c)))
-unfolding piece
-piece_raises M p c e k P = on (may_piece P c e k)
-  where
-    last : (d : Command) (o : Option Element) → IfSome (option_map (with_left M p) (option_map (piece_of M.memory P c k d) o))
-        (λ N. N.memory.versions ≡ raised_by M.memory.versions (cond (is_put d.kind) (option_map (λ x. (part_in x k).ea / 128) o) None))
-    last d None = tt
-    last d (Some x) = copied_versions M.memory (after_part P c x.number k d) (is_put d.kind) (part_in x k) ∙ ap (raised_by M.memory.versions) (put_line (is_put d.kind) k x)
-
-    each : (o : Option Command) → IfSome (option_map (with_left M p) (option_and_then (λ d. option_map (piece_of M.memory P c k d) (present P.moves.read c d)) o))
-        (λ N. N.memory.versions ≡ raised_by M.memory.versions (option_and_then (stored_by_piece P.moves c k) o))
-    each None = tt
-    each (Some d) = last d (present P.moves.read c d)
-
-    on : (b : Bool) → IfSome (option_map (with_left M p) (cond b (option_and_then (λ d. option_map (piece_of M.memory P c k d) (present P.moves.read c d)) (slice_get P.moves.issued c)) None))
-        (λ N. N.memory.versions ≡ raised_by M.memory.versions (option_and_then (stored_by_piece P.moves c k) (slice_get P.moves.issued c)))
-    on true = each (slice_get P.moves.issued c)
-    on false = tt
-
-moved_versions : (memory : MainMemory) (P : Spe) (a : AtomicOp) (f : Fate) → (moved memory P a f).memory.versions ≡ raised_by memory.versions (stored_by_fate f a.line)
-moved_versions memory P a Fate.Got = copied_versions memory P false (line_part a)
-moved_versions memory P a Fate.Stored =
-    let e : 128 * a.line / 128 ≡ a.line = omega arith in
-    copied_versions memory P true (line_part a) ∙ ap (raised memory.versions) e
-moved_versions memory P a Fate.Lost = refl
-
-atomic_raises : (M : State) (p : ℕ) (P : Spe) → IfSome (option_map (with_left M p) (atomic M.memory P))
-    (λ N. N.memory.versions ≡ raised_by M.memory.versions (option_and_then (stored_by_atomic M.memory P) P.channels.slot))
-unfolding atomic
-atomic_raises M p P = on (may_atomic P)
-  where
-    each : (o : Option AtomicOp) → IfSome (option_map (with_left M p) (option_map (after_atomic M.memory P) o))
-        (λ N. N.memory.versions ≡ raised_by M.memory.versions (option_and_then (stored_by_atomic M.memory P) o))
-    each None = tt
-    each (Some a) = moved_versions M.memory (answered M.memory P a) a (fate M.memory P a)
-
-    on : (b : Bool) → IfSome (option_map (with_left M p) (cond b (option_map (after_atomic M.memory P) P.channels.slot) None))
-        (λ N. N.memory.versions ≡ raised_by M.memory.versions (option_and_then (stored_by_atomic M.memory P) P.channels.slot))
-    on true = each P.channels.slot
-    on false = tt
-
-given_raises : (M : State) (p : ℕ) (f : Spe → Option Given) → IfSome (option_map after_action (at_spe M p f)) (λ N. N.memory.versions ≡ M.memory.versions)
-given_raises M p f = on (slice_get M.spes p)
-  where
-    made : (o : Option Given) → IfSome (option_map after_action (option_map (λ g. record { state = with_spe M p g.spe; took = g.took }) o)) (λ N. N.memory.versions ≡ M.memory.versions)
-    made None = tt
-    made (Some g) = refl
-
-    on : (o : Option Spe) → IfSome (option_map after_action (option_and_then (λ P. option_map (λ g. record { state = with_spe M p g.spe; took = g.took }) (f P)) o)) (λ N. N.memory.versions ≡ M.memory.versions)
-    on None = tt
-    on (Some P) = made (f P)
-
-acted_raises : (M : State) (a : HostAction) → IfSome (option_map after_action (acted M a)) (λ N. N.memory.versions ≡ raised_by M.memory.versions (stored_by_action a))
-unfolding acted stored
-acted_raises M (Send p value) = given_raises M p (given (Send p value))
-acted_raises M (Take p) = given_raises M p (given (Take p))
-acted_raises M (TakeIntr p) = given_raises M p (given (TakeIntr p))
-acted_raises M (Store ea len bytes) = refl
-acted_raises M (Await p) = given_raises M p (given (Await p))
-
-host_raises : (M : State) → IfSome (host_step M) (λ N. N.memory.versions ≡ raised_by M.memory.versions (option_and_then stored_by_action (slice_get M.host.script M.host.done)))
-unfolding host_step
-host_raises M = on (slice_get M.host.script M.host.done)
-  where
-    on : (o : Option HostAction) → IfSome (option_and_then (λ a. option_map after_action (acted M a)) o) (λ N. N.memory.versions ≡ raised_by M.memory.versions (option_and_then stored_by_action o))
-    on None = tt
-    on (Some a) = acted_raises M a
-
--- a step raises the version of the line to which it stores, and no other
-pub act_raises : (M : State) (s : Step) → IfSome (act M s) (λ N. N.memory.versions ≡ raised_by M.memory.versions (stored_by M s))
-act_raises M (Exec p) = at_raises M p (exec (lines_of M.memory))
-act_raises M (Piece p c e k) = on (slice_get M.spes p)
-  where
-    on : (o : Option Spe) → IfSome (option_and_then (λ P. option_map (with_left M p) (piece M.memory P c e k)) o)
-        (λ N. N.memory.versions ≡ raised_by M.memory.versions (option_and_then (λ P. option_and_then (stored_by_piece P.moves c k) (slice_get P.moves.issued c)) o))
-    on None = tt
-    on (Some P) = piece_raises M p c e k P
-act_raises M (Elem p c) = at_raises M p (λ P. elem (lines_of M.memory) P c)
-act_raises M (Retire p c) = at_raises M p (λ P. retire P c)
-act_raises M (Atomic p) = on (slice_get M.spes p)
-  where
-    on : (o : Option Spe) → IfSome (option_and_then (λ P. option_map (with_left M p) (atomic M.memory P)) o)
-        (λ N. N.memory.versions ≡ raised_by M.memory.versions (option_and_then (λ P. option_and_then (stored_by_atomic M.memory P) P.channels.slot) o))
-    on None = tt
-    on (Some P) = atomic_raises M p P
-act_raises M Host = host_raises M
 
 -- ---- a version, and who is at it
 
@@ -159,13 +38,13 @@ IsPast versions o = (r : Reserved) → o ≡ Some r → r.version ≤ version_of
 abbrev pub IsIn : List ℕ → Option ℕ → Type 0
 IsIn versions o = (line : ℕ) → o ≡ Some line → line < length versions
 
-eq-num : (a b : ℕ) → (a == b) ≡ true → a ≡ b
+pub eq-num : (a b : ℕ) → (a == b) ≡ true → a ≡ b
 eq-num a b e = grind (arith, nat_tests)
 
 num-eq : (a b : ℕ) → a ≡ b → (a == b) ≡ true
 num-eq a b e = grind (arith, nat_tests)
 
-raised-other : (versions : List ℕ) (o : Option ℕ) (line : ℕ) → (o ≡ Some line → ⊥) → version_of (raised_by versions o) line ≡ version_of versions line
+pub raised-other : (versions : List ℕ) (o : Option ℕ) (line : ℕ) → (o ≡ Some line → ⊥) → version_of (raised_by versions o) line ≡ version_of versions line
 raised-other versions None line h = refl
 raised-other versions (Some l) line h = on (l == line) refl
   where
@@ -173,7 +52,7 @@ raised-other versions (Some l) line h = on (l == line) refl
     on true e = absurd (h (ap Some (eq-num l line e)))
     on false e = version-other versions l line (version_of versions l + 1) e
 
-raised-own : (versions : List ℕ) (o : Option ℕ) (line : ℕ) → IsIn versions o → o ≡ Some line → version_of versions line < version_of (raised_by versions o) line
+pub raised-own : (versions : List ℕ) (o : Option ℕ) (line : ℕ) → IsIn versions o → o ≡ Some line → version_of versions line < version_of (raised_by versions o) line
 raised-own versions None line inside h = absurd (cc)
 raised-own versions (Some l) line inside h =
     let same : l ≡ line = cc in

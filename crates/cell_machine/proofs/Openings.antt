@@ -97,7 +97,7 @@ opening_settled : (S : Opening) (xs : List (ℕ × ℕ)) → map settled (map (o
 opening_settled S [] = refl
 opening_settled S (x ∷ xs) = ap (λ ys. opening_spe S x ∷ ys) (opening_settled S xs)
 
-opening_bounded : (S : Opening) → AreBounded S.lines 0 (opening_spes S)
+pub opening_bounded : (S : Opening) → AreBounded S.lines 0 (opening_spes S)
 opening_bounded S p P at =
     let g = map-got (opening_spe S) (enumerate_from 0 S.entries) p P at in
     subst (IsBounded S.lines 0) g.2 (record { few = omega arith; fits = λ c d at2. absurd (let l = get-within no_moves.issued c d at2 in omega arith); elements = λ i d less. absurd (omega arith); slot = tt })

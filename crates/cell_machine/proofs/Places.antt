@@ -7,7 +7,7 @@ use Rattle.std.specs.List.{range_with_len}
 use Rattle.std.specs.Option.{option_map_or}
 use Rattle.std.proofs.lemmas.Bool.Decides.{nat_tests}
 use Rattle.cell_base.specs.declared.steps.Step.{Step}
-use Rattle.cell_base.specs.declared.steps.Step.TheVariants.{Piece, Elem, Retire}
+use Rattle.cell_base.specs.declared.steps.Step.TheVariants.{Piece, Elem, Retire, Atomic}
 use Rattle.mfc_command.specs.declared.command.Command.{Command}
 use Rattle.mfc_command.specs.Order.{outstanding as outstanding_of}
 use Rattle.mfc_lists.specs.declared.Element.{Element}
@@ -17,6 +17,7 @@ use Rattle.mfc_queue.proofs.AtLemmas.{ok-of}
 use Rattle.cell_machine.specs.Spe.{Spe, Moves, is_faulted}
 use Rattle.cell_machine.specs.Moves.{outstanding, is_complete, is_moved, is_done, parts_in, present, may_begin}
 use Rattle.cell_machine.specs.Transfers.{begins, is_part_left, has_part, may_piece, may_elem, may_retire}
+use Rattle.cell_machine.specs.Atomic.{may_atomic}
 use Rattle.cell_machine.specs.Run.{pieces_of, steps_of_command, steps_of_number}
 use Rattle.cell_machine.specs.Choices.{may, allowed_of_number, allowed_of_mfc}
 use Rattle.cell_machine.specs.MovesShown.{ShowsMoves}
@@ -186,11 +187,23 @@ next-of : (t : ℕ → Bool) (a n k c : ℕ) → find (nat_le k) (filter t (rang
 next-of t a zero k c h = absurd (cc)
 next-of t a (suc n) k c h = next_on a k c (filter t (range_with_len (a + 1) n)) (t a) h (λ j low. keep t (a + 1) n j low) (λ g. next-of t (a + 1) n k c g)
 
--- the allowed steps of the outstanding commands from k on
+-- the allowed steps of the outstanding commands
+abbrev pub queued_steps : ℕ → Spe → List Step
+queued_steps p P = filter (may P) (flat_map (steps_of_number p P) (outstanding P))
+
+-- that of the atomic command stands before them
+pub mfc-cut : (p : ℕ) (P : Spe) → allowed_of_mfc p P ≡ (if may_atomic P then Atomic p ∷ [] else []) ++ queued_steps p P
+mfc-cut p P = on (may_atomic P)
+  where
+    on : (b : Bool) → cond b (Atomic p ∷ queued_steps p P) (queued_steps p P) ≡ (if b then Atomic p ∷ [] else []) ++ queued_steps p P
+    on true = refl
+    on false = refl
+
+-- and those from number k on
 abbrev pub steps_from : ℕ → Spe → ℕ → List Step
 steps_from p P k = filter (may P) (flat_map (steps_of_number p P) (filter (nat_le k) (outstanding P)))
 
-pub from-start : (p : ℕ) (P : Spe) → steps_from p P 0 ≡ allowed_of_mfc p P
+pub from-start : (p : ℕ) (P : Spe) → steps_from p P 0 ≡ queued_steps p P
 unfolding outstanding_of
 from-start p P = ap (λ xs. filter (may P) (flat_map (steps_of_number p P) xs)) (keep (λ c. not (is_complete P.moves c)) 0 (length P.moves.issued) 0 (omega arith))
 

@@ -1,6 +1,7 @@
-use Rattle.std.proofs.Common.{◌≡◌, ℕ, List, ◌-◌, length}
+use Rattle.std.proofs.Common.{◌≡◌, ◌-◌, length}
 use Rattle.cell_base.specs.declared.steps.Actor.TheVariants.{Spu}
 use Rattle.cell_host.specs.Script.{Progress}
+use Rattle.cell_machine.specs.declared.memory.SharedMemory.{SharedMemory}
 use Rattle.cell_machine.specs.State.{State}
 use Rattle.cell_machine.specs.Choices.{all_of_spus}
 use Rattle.cell_machine.specs.Shows.{Shows}
@@ -9,4 +10,4 @@ use Rattle.cell_machine.proofs.machine.first_of_spus.Given as goal
 
 -- none below has an allowed step
 abbrev pub invariant-loop-spe : goal.invariant-loop-spe
-invariant-loop-spe l = (memory : List ℕ) (host : Progress) (M : State) → Shows l.processors memory host M → all_of_spus M ≡ from_actor M Spu l.spe (length M.spes - l.spe)
+invariant-loop-spe l = (memory : SharedMemory) (host : Progress) (M : State) → Shows l.processors memory host M → all_of_spus M ≡ from_actor M Spu l.spe (length M.spes - l.spe)
