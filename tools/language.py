@@ -48,6 +48,9 @@ STRINGS = {".ascii", ".asciz", ".string"}
 SECTIONS = {".text", ".data", ".bss", ".rodata", ".section"}
 SKIPPED = {".file", ".global", ".globl", ".type", ".size", ".ident", ".local", ".extern", ".weak", ".loc"}
 
+SMALL = r"(?:0|[1-9]\d?|1[01]\d|12[0-7])"  # a number up to 127
+REGISTER = re.compile(rf"\$(?:{SMALL}|lr|sp)", re.A)
+CHANNEL = re.compile(rf"(?:\$ch)?{SMALL}", re.A)
 NUMBER = re.compile(r"0|[1-9]\d*|0x[0-9A-Fa-f]+")
 NAME = re.compile(r"[A-Za-z_.][\w.]*", re.A)
 # A string, a character, or a comment, each of which hides what it holds.

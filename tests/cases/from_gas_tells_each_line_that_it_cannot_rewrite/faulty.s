@@ -34,5 +34,8 @@ f:
 	il	$3,1 2
 	.align	13
 	.text	1
+	a	$3,$4,$128
+	rdch	$3,$SPU_RdEventStat
+	lqd	$3,0($x)
 	.end
 	nonsense
