@@ -1,6 +1,6 @@
 -- The steps of a flow controller, as the code makes them.
-use Rattle.std.proofs.Common.{◌≡◌, ◌≢◌, ℕ, zero, suc, ◌+◌, ◌*◌, ◌<◌, ◌≤◌, ◌==◌, ◌&&◌, not, Bool, true, false, List, [], ◌∷◌, ◌++◌, length, arith, refl, sym, ◌∙◌, ap, subst, true≢false}
-use Rattle.std.specs.Prelude.{Option, Some, None, All, slice_get, slice_index_or, is_some, cond, if◌then◌else◌, map, filter, Result, Ok, Err, option_map, option_and_then, IsSomeAnd, MatchBool}
+use Rattle.std.proofs.Common.{◌≡◌, ℕ, suc, ◌+◌, ◌<◌, ◌==◌, ◌&&◌, not, Bool, true, false, List, [], ◌∷◌, length, arith, refl, sym, ◌∙◌, ap, subst, true≢false}
+use Rattle.std.specs.Prelude.{Option, Some, None, All, slice_get, cond, if◌then◌else◌, map, filter, Ok, IsSomeAnd}
 use Rattle.std.specs.List.{last_or}
 use Rattle.mfc_command.specs.declared.command.Command.{Command}
 use Rattle.mfc_command.specs.declared.command.Kind.{Kind}
@@ -14,7 +14,7 @@ use Rattle.mfc_lists.specs.Readings.{next_at as next_of_reading, next_element as
 use Rattle.local_store.specs.Store.{word_at}
 use Rattle.cell_machine.specs.Spe.{Spe, Moves, ElementRead, is_faulted}
 use Rattle.cell_machine.specs.Moves.{read_of, present, whole, is_moved, is_stalled, parts_in, may_begin}
-use Rattle.cell_machine.specs.Transfers.{begins, told, notified, copied, has_part, may_piece, is_put, with_done, after_part, part_in, piece_of, piece, has_element, may_elem, next_at, next_element, after_element, elem, with_read, is_left, may_retire, with_retired, retire, Left}
+use Rattle.cell_machine.specs.Transfers.{begins, told, notified, copied, has_part, may_piece, is_put, with_done, after_part, part_in, piece_of, piece, has_element, may_elem, next_at, next_element, after_element, elem, is_left, may_retire, with_retired, retire}
 use Rattle.cell_machine.specs.declared.processor.Processor.{Processor}
 use Rattle.cell_machine.specs.Kept.{IsKept}
 use Rattle.cell_machine.specs.MovesShown.{reading}
@@ -176,8 +176,8 @@ pub piece-made : (new : Processor) (P : Spe) (memory memory2 store store2 : List
 piece-made new P memory memory2 store store2 c e k stalls put_it d x may at p number same stalled puts copies shows =
     let Q : Spe = after_part P c e k d in
     let left : piece_of memory P c k d x ≡ record { spe = record Q { store = store2 }; memory = memory2 } =
-        ap (λ n. copied memory (after_part P c n k d) (is_put d.kind) (part_in x k)) number ∙ ap (λ b. copied memory Q b (part_in x k)) (sym puts)
-        ∙ copies Q (notified-store P (with_done P.moves c e k) c d ∙ same) in
+    ap (λ n. copied memory (after_part P c n k d) (is_put d.kind) (part_in x k)) number ∙ ap (λ b. copied memory Q b (part_in x k)) (sym puts)
+    ∙ copies Q (notified-store P (with_done P.moves c e k) c d ∙ same) in
     rw (piece-on memory P c e k d x may at p ∙ ap (λ y. Some y) left)
     (subst (ShowsSpe new) (told-as P store2 (with_done P.moves c e k) c d stalls stalled) shows, refl)
 

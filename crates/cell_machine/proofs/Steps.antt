@@ -10,7 +10,7 @@ use Rattle.cell_base.specs.declared.steps.Step.TheVariants.{Exec, Elem, Atomic}
 use Rattle.cell_host.specs.Script.{Progress}
 use Rattle.cell_machine.specs.declared.processor.Processor.{Processor}
 use Rattle.cell_machine.specs.Spe.{Spe}
-use Rattle.cell_machine.specs.State.{State, with_spe}
+use Rattle.cell_machine.specs.State.{State}
 use Rattle.cell_machine.specs.Tags.{settled}
 use Rattle.cell_machine.specs.Exec.{exec}
 use Rattle.cell_machine.specs.Transfers.{elem, Left}

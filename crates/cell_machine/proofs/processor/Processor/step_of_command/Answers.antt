@@ -1,5 +1,5 @@
-use Rattle.std.proofs.Common.{◌≡◌, [], ◌∷◌, sym, subst}
-use Rattle.std.specs.Prelude.{Ok, Err, if◌then◌else◌}
+use Rattle.std.proofs.Common.{[], ◌∷◌, sym, subst}
+use Rattle.std.specs.Prelude.{Ok, if◌then◌else◌}
 use Rattle.cell_base.specs.declared.steps.Step.TheVariants.{Elem, Retire}
 use Rattle.mfc_queue.specs.At.{IsAt}
 use Rattle.mfc_queue.proofs.AtLemmas.{at-here, at-behind, behind-of}
