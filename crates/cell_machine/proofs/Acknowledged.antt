@@ -1,5 +1,5 @@
 -- The stalls of a tag are acknowledged one after the other.
-use Rattle.std.proofs.Common.{◌≡◌, ◌≢◌, ℕ, zero, suc, ◌+◌, ◌<◌, ◌≤◌, ◌/◌, ◌==◌, ◌&&◌, ◌||◌, not, Bool, true, false, List, [], ◌∷◌, ◌++◌, length, arith, refl, sym, ◌∙◌, ap, subst, append-nil, append_assoc, true≢false, ◌⊎◌, inl, inr}
+use Rattle.std.proofs.Common.{◌≡◌, ◌≢◌, ℕ, zero, suc, ◌+◌, ◌<◌, ◌≤◌, ◌/◌, ◌==◌, not, Bool, true, false, List, [], ◌∷◌, ◌++◌, length, arith, refl, sym, ◌∙◌, ap, subst, append-nil, append_assoc, true≢false, ◌⊎◌, inl, inr}
 use Rattle.std.specs.Prelude.{Option, Some, None, slice_get, is_some, nat_le, find, filter, filter_map, cond, nat_lt, if◌then◌else◌, option_and_then}
 use Rattle.std.specs.List.{list_any, list_all, range_with_len, cons_option}
 use Rattle.std.proofs.lemmas.Bool.Decides.{nat_tests}
@@ -10,12 +10,12 @@ use Rattle.mfc_lists.specs.declared.ListState.{ListState}
 use Rattle.mfc_queue.specs.declared.Queue.{Queue}
 use Rattle.mfc_queue.specs.Calls.{is_retired, outstanding as outstanding_calls}
 use Rattle.cell_machine.specs.Spe.{Moves, Stall}
-use Rattle.cell_machine.specs.Moves.{read_of, elements_in, elements_of, present, is_moved, is_finished, is_stalled, stall_of, stall_of_tag, stalls_of_tag, is_complete, is_at_rest, are_all_there}
+use Rattle.cell_machine.specs.Moves.{elements_in, elements_of, is_moved, is_finished, is_stalled, stall_of, stall_of_tag, stalls_of_tag, is_complete, is_at_rest, are_all_there}
 use Rattle.cell_machine.specs.Channels.{with_resumed}
-use Rattle.cell_machine.specs.MovesShown.{ShowsQueue, ShowsQueueBut, AreElements, reading}
-use Rattle.cell_machine.proofs.Same.{eq_off, eq_is, get-past, get-within, any_none}
+use Rattle.cell_machine.specs.MovesShown.{ShowsQueue, ShowsQueueBut, AreElements}
+use Rattle.cell_machine.proofs.Same.{eq_off, eq_is, get-past}
 use Rattle.cell_machine.proofs.MovesShown.{others-resume}
-use Rattle.cell_machine.proofs.Elements.{StandsBehind, stall-is, last-number}
+use Rattle.cell_machine.proofs.Elements.{stall-is, last-number}
 use Rattle.cell_machine.proofs.ListsGo.{resumed-other, stall-other}
 use Rattle.cell_machine.proofs.SpeShown.{second_of_both, not_of, below, get-either, complete_or, complete-at, complete-moved, list-moved}
 use Rattle.cell_machine.proofs.CommandsShown.{others-stay, plain-unstalled}
@@ -195,11 +195,11 @@ pub ack-next : (q q2 : Queue) (lists lists2 : List (Option ListState)) (m : Move
 unfolding outstanding_of
 ack-next q q2 lists lists2 m tag k c shows found low after =
     let f : find (nat_le k) (outstanding_of (is_complete (acknowledged_below m tag k)) m.issued) ≡ Some c =
-        ap (λ g. find (nat_le k) (outstanding_of g m.issued)) (sym shows.moves.complete) ∙ ap (λ cs. find (nat_le k) (outstanding_of (is_retired shows.calls) cs)) (sym shows.moves.done.issued) ∙ found in
+    ap (λ g. find (nat_le k) (outstanding_of g m.issued)) (sym shows.moves.complete) ∙ ap (λ cs. find (nat_le k) (outstanding_of (is_retired shows.calls) cs)) (sym shows.moves.done.issued) ∙ found in
     let more = stalls-more (stall_of_tag m tag) k c low (λ j l less. skipped m tag k j q lists shows l (find-skips (λ i. not (is_complete (acknowledged_below m tag k) i)) k 0 (length m.issued) c j f (omega arith) l less)) in
     let own : filter_map (stall_of_tag (acknowledged_below m tag k) tag) (c ∷ []) ≡ filter_map (stall_of_tag m tag) (c ∷ []) = ap (λ o. cons_option o []) (tag-other m tag k c low) in
     let all : (m.resumed ++ filter_map (stall_of_tag m tag) (range_with_len 0 k)) ++ filter_map (stall_of_tag (acknowledged_below m tag k) tag) (c ∷ []) ≡ m.resumed ++ filter_map (stall_of_tag m tag) (range_with_len 0 (c + 1)) =
-        ap (λ xs. (m.resumed ++ filter_map (stall_of_tag m tag) (range_with_len 0 k)) ++ xs) own ∙ append_assoc m.resumed (filter_map (stall_of_tag m tag) (range_with_len 0 k)) (filter_map (stall_of_tag m tag) (c ∷ [])) ∙ ap (λ xs. m.resumed ++ xs) (sym more) in
+    ap (λ xs. (m.resumed ++ filter_map (stall_of_tag m tag) (range_with_len 0 k)) ++ xs) own ∙ append_assoc m.resumed (filter_map (stall_of_tag m tag) (range_with_len 0 k)) (filter_map (stall_of_tag m tag) (c ∷ [])) ∙ ap (λ xs. m.resumed ++ xs) (sym more) in
     subst (λ xs. ShowsQueue q2 lists2 (record m { resumed = xs })) all after
 
 -- no outstanding command is left
@@ -208,13 +208,13 @@ pub ack-end : (q : Queue) (lists : List (Option ListState)) (m : Moves) (tag k :
 unfolding outstanding_of stalls_of_tag
 ack-end q lists m tag k shows found =
     let f : find (nat_le k) (outstanding_of (is_complete (acknowledged_below m tag k)) m.issued) ≡ None =
-        ap (λ g. find (nat_le k) (outstanding_of g m.issued)) (sym shows.moves.complete) ∙ ap (λ cs. find (nat_le k) (outstanding_of (is_retired shows.calls) cs)) (sym shows.moves.done.issued) ∙ found in
+    ap (λ g. find (nat_le k) (outstanding_of g m.issued)) (sym shows.moves.complete) ∙ ap (λ cs. find (nat_le k) (outstanding_of (is_retired shows.calls) cs)) (sym shows.moves.done.issued) ∙ found in
     subst (λ xs. ShowsQueue q lists (with_resumed m xs))
     (same-below (stall_of_tag m tag) 0 k (length m.issued)
-        (λ c low. complete_or (nat_lt c (length m.issued)) (stall_of_tag m tag c ≡ None)
-            (λ l. skipped m tag k c q lists shows (omega arith) (find-none (λ i. not (is_complete (acknowledged_below m tag k) i)) k 0 (length m.issued) c f (omega arith) (let less = below c (length m.issued) l in omega arith) (omega arith)))
-            (λ l. past c (grind (arith, nat_tests))))
-        (λ c low. past c (omega arith))) shows
+    (λ c low. complete_or (nat_lt c (length m.issued)) (stall_of_tag m tag c ≡ None)
+    (λ l. skipped m tag k c q lists shows (omega arith) (find-none (λ i. not (is_complete (acknowledged_below m tag k) i)) k 0 (length m.issued) c f (omega arith) (let less = below c (length m.issued) l in omega arith) (omega arith)))
+    (λ l. past c (grind (arith, nat_tests))))
+    (λ c low. past c (omega arith))) shows
   where
     past : (c : ℕ) → length m.issued ≤ c → stall_of_tag m tag c ≡ None
     past c l = rw (get-past m.issued c l) refl

@@ -1,5 +1,5 @@
 -- The queue and the states of lists keep step with what is issued and done.
-use Rattle.std.proofs.Common.{◌≡◌, ◌≢◌, ℕ, zero, suc, ◌+◌, ◌<◌, ◌≤◌, ◌==◌, ◌&&◌, not, Bool, true, false, List, [], ◌∷◌, ◌++◌, length, ◌/◌, ◌%◌, length-append, arith, refl, sym, ◌∙◌, ap, subst, slice_set, true≢false}
+use Rattle.std.proofs.Common.{◌≡◌, ◌≢◌, ℕ, zero, suc, ◌<◌, ◌≤◌, ◌==◌, ◌&&◌, not, Bool, true, false, List, [], ◌∷◌, ◌++◌, length, ◌/◌, ◌%◌, length-append, arith, refl, sym, ◌∙◌, ap, subst, slice_set, true≢false}
 use Rattle.std.specs.Prelude.{Option, Some, None, slice_get, is_some, nat_lt, if◌then◌else◌}
 use Rattle.std.specs.List.{list_all, last_or, range_with_len}
 use Rattle.std.proofs.lemmas.Bool.Decides.{nat_tests}
@@ -16,12 +16,12 @@ use Rattle.mfc_queue.proofs.CallLaws.{retired-more, issued-same, retired-same, i
 use Rattle.cell_machine.specs.Spe.{Moves, Stall}
 use Rattle.cell_machine.specs.Moves.{read_of, elements_in, elements_of, is_done, present, parts_in, whole, is_moved, is_finished, stall_of, stalls_behind, is_stalled, is_complete}
 use Rattle.cell_machine.specs.Transfers.{has_part, has_element, with_done, with_read, with_retired}
-use Rattle.cell_machine.specs.Channels.{with_issued, with_resumed}
-use Rattle.cell_machine.specs.MovesShown.{ShowsMoves, ShowsOthers, ShowsLists, ShowsOtherLists, ShowsList, ShowsQueue, ShowsQueueBut, AreElements, parts_now, reading}
+use Rattle.cell_machine.specs.Channels.{with_issued}
+use Rattle.cell_machine.specs.MovesShown.{ShowsMoves, ShowsLists, ShowsOtherLists, ShowsList, ShowsQueue, ShowsQueueBut, AreElements, parts_now, reading}
 use Rattle.cell_machine.proofs.MovesShown.{moves-issue, moves-mark, moves-mark_last, others-mark, others-read, others-closed, others-open, moves-retire, complete-reading, finished-now, unfinished, get-cases, get-last, eq_is, eq_off, eq_same, or_true}
 use Rattle.cell_machine.proofs.Elements.{MayRead, element-is}
-use Rattle.cell_machine.proofs.ListsGo.{part-left, part-last, part-other, read-other, read-moved, read-empty, issued-other, issued-own, retired-other}
-use Rattle.cell_machine.proofs.SpeShown.{PartLeft, part-facts, first_of_both, second_of_both, and_off, complete_or, list-moved, outstanding-is, complete-no_part, complete-no_element, present-plain, elements-list, all-last}
+use Rattle.cell_machine.proofs.ListsGo.{part-left, part-last, part-other, read-other, read-moved, read-empty, issued-other, retired-other}
+use Rattle.cell_machine.proofs.SpeShown.{PartLeft, part-facts, and_off, complete_or, outstanding-is, complete-no_part, complete-no_element, present-plain, elements-list, all-last}
 
 -- ---- one state is put
 
@@ -151,8 +151,8 @@ pub mark-left : (q r : Queue) (lists : List (Option ListState)) (m : Moves) (c e
     → ShowsQueue r lists (with_done m c e k) × (false ≡ is_stalled (with_done m c e k) c d)
 mark-left q r lists m c e k d shows at has all stands places =
     let f = part-facts m c e k d has in
-    let after : is_finished (with_done m c e k).done c f.element ≡ false = finished-now shows.calls m c e k d f.element shows.moves at f.present_is has ∙ all in
-    (record {
+    let after : is_finished (with_done m c e k).done c f.element ≡ false = finished-now shows.calls m c e k d f.element shows.moves at f.present_is has ∙ all in (
+      record {
         calls = shows.calls ++ Mark c k ∷ [];
         stands = stands;
         moves = moves-mark shows.calls m c e k d shows.moves at has all;
@@ -163,23 +163,27 @@ mark-left q r lists m c e k d shows at has all stands places =
             let old = shows.kept c p x at_c list (sym (places c) ∙ placed) in
             let els = shows.moves.done.elements c x at_c in
             let same : reading (with_done m c f.element.number k) c x ≡ reading m c x = part-left m c x f.element k list els (subst (λ y. present m.read c y ≡ Some f.element) is f.present_is) f.unfinished
-                (subst (λ n. is_finished (with_done m c n k).done c f.element ≡ false) (sym f.number) after) in
+            (subst (λ n. is_finished (with_done m c n k).done c f.element ≡ false) (sym f.number) after) in
             record { state = old.state; there = old.there; stands = subst (StandsForReading old.state) (sym (subst (λ n. reading (with_done m c n k) c x ≡ reading m c x) f.number same)) old.stands });
-    }, sym (unfinished-unstalled (with_done m c e k) c d f.element f.present_is after))
+      },
+      sym (unfinished-unstalled (with_done m c e k) c d f.element f.present_is after),
+    )
 
 -- the part is the last one of a PUT or GET
 pub mark-plain : (q r s : Queue) (lists : List (Option ListState)) (m : Moves) (c e k : ℕ) (d : Command) (shows : ShowsQueue q lists m) → slice_get m.issued c ≡ Some d → is_list d.kind ≡ false
     → has_part m c e k d ≡ true → all_marked (shows.calls ++ Mark c k ∷ []) c ≡ true → StandsFor s ((shows.calls ++ Mark c k ∷ []) ++ Retire c ∷ []) → KeepsPlaces q r → KeepsOtherPlaces r s c
     → ShowsQueue s lists (with_done m c e k) × (false ≡ is_stalled (with_done m c e k) c d)
-mark-plain q r s lists m c e k d shows at plain has all stands places places2 =
-    (record {
-        calls = (shows.calls ++ Mark c k ∷ []) ++ Retire c ∷ [];
-        stands = stands;
-        moves = moves-mark_last shows.calls m c e k d shows.moves at plain has all;
-        kept = lists-all s lists (with_done m c e k) c
-            (others-stay q s lists m (with_done m c e k) c shows.kept (λ o differs. places2 o differs ∙ places o) (λ o x differs at_o list. (at_o, part-other m c o x e k list (not_same o c differs))))
-            (λ p x at_c list placed. absurd (let is : d ≡ x = cc in true≢false (sym list ∙ ap (λ (y : Command). is_list y.kind) (sym is) ∙ plain)));
-    }, sym (plain-unstalled (with_done m c e k) c d plain))
+mark-plain q r s lists m c e k d shows at plain has all stands places places2 = (
+  record {
+    calls = (shows.calls ++ Mark c k ∷ []) ++ Retire c ∷ [];
+    stands = stands;
+    moves = moves-mark_last shows.calls m c e k d shows.moves at plain has all;
+    kept = lists-all s lists (with_done m c e k) c
+        (others-stay q s lists m (with_done m c e k) c shows.kept (λ o differs. places2 o differs ∙ places o) (λ o x differs at_o list. (at_o, part-other m c o x e k list (not_same o c differs))))
+        (λ p x at_c list placed. absurd (let is : d ≡ x = cc in true≢false (sym list ∙ ap (λ (y : Command). is_list y.kind) (sym is) ∙ plain)));
+  },
+  sym (plain-unstalled (with_done m c e k) c d plain),
+)
 
 -- or of an element of a list
 pub mark-list : (q r : Queue) (lists : List (Option ListState)) (m : Moves) (c e k : ℕ) (d : Command) (shows : ShowsQueue q lists m) → slice_get m.issued c ≡ Some d → is_list d.kind ≡ true
@@ -289,15 +293,16 @@ pub issue-queue : (q r : Queue) (lists : List (Option ListState)) (m : Moves) (c
     → (slice_get (with_issued m d).issued c ≡ Some d) × ShowsOtherLists r lists (with_issued m d) c × ((new : List (Option ListState)) → ShowsLists r new (with_issued m d) → ShowsQueue r new (with_issued m d))
 issue-queue q r lists m c n d shows whole_list number count stands places =
     let is : c ≡ length m.issued = number ∙ ap length shows.moves.done.issued in
-    let here : slice_get (m.issued ++ d ∷ []) c ≡ Some d = subst (λ k. slice_get (m.issued ++ d ∷ []) k ≡ Some d) (sym is) (get-last m.issued d) in
-    (here,
-     others-stay q r lists m (with_issued m d) c shows.kept places (λ o x differs at_o list_o. (get-cases m.issued d x o _ at_o (λ e. absurd (differs (e ∙ sym is))) (λ old. old), issued-other m o x d list_o)),
-     λ new kept. record {
-       calls = (shows.calls ++ Issue d ∷ []) ++ SetParts (length m.issued) (parts_now [] 0 d) ∷ [];
-       stands = subst (λ k. StandsFor r ((shows.calls ++ Issue d ∷ []) ++ SetParts k (parts_now [] 0 d) ∷ [])) is (subst (λ k. StandsFor r ((shows.calls ++ Issue d ∷ []) ++ SetParts c k ∷ [])) count stands);
-       moves = moves-issue shows.calls m d shows.moves whole_list;
-       kept = kept;
-     })
+    let here : slice_get (m.issued ++ d ∷ []) c ≡ Some d = subst (λ k. slice_get (m.issued ++ d ∷ []) k ≡ Some d) (sym is) (get-last m.issued d) in (
+      here,
+      others-stay q r lists m (with_issued m d) c shows.kept places (λ o x differs at_o list_o. (get-cases m.issued d x o _ at_o (λ e. absurd (differs (e ∙ sym is))) (λ old. old), issued-other m o x d list_o)),
+      λ new kept. record {
+        calls = (shows.calls ++ Issue d ∷ []) ++ SetParts (length m.issued) (parts_now [] 0 d) ∷ [];
+        stands = subst (λ k. StandsFor r ((shows.calls ++ Issue d ∷ []) ++ SetParts k (parts_now [] 0 d) ∷ [])) is (subst (λ k. StandsFor r ((shows.calls ++ Issue d ∷ []) ++ SetParts c k ∷ [])) count stands);
+        moves = moves-issue shows.calls m d shows.moves whole_list;
+        kept = kept;
+      },
+    )
 
 -- a queue knows nothing of the next number
 pub new-outstanding : (q : Queue) (calls : List Call) (d : Command) (n : ℕ) → StandsFor q calls → n ≡ length (issued calls) → is_outstanding (calls ++ Issue d ∷ []) n ≡ true

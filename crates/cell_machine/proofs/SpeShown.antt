@@ -1,8 +1,8 @@
 -- What the code's processor shows of its commands.
-use Rattle.std.proofs.Common.{◌≡◌, ◌≢◌, ℕ, zero, suc, ◌+◌, ◌-◌, ◌/◌, ◌<◌, ◌≤◌, ◌==◌, ◌&&◌, not, Bool, true, false, List, [], ◌∷◌, ◌++◌, length, arith, refl, sym, ◌∙◌, ap, subst, length-append, true≢false}
-use Rattle.std.specs.Prelude.{Option, Some, None, IfSome, IfNone, slice_get, slice_index_or, slice_set, nat_lt, IsSomeAnd, MatchBool, is_some, slice_range, cond}
+use Rattle.std.proofs.Common.{◌≡◌, ◌≢◌, ℕ, zero, suc, ◌+◌, ◌/◌, ◌<◌, ◌≤◌, ◌==◌, ◌&&◌, not, Bool, true, false, List, [], ◌∷◌, length, arith, refl, sym, ◌∙◌, ap, subst, true≢false}
+use Rattle.std.specs.Prelude.{Option, Some, None, IfSome, IfNone, slice_get, slice_index_or, nat_lt, IsSomeAnd, is_some, slice_range}
 use Rattle.std.specs.Bool.{OnTrue}
-use Rattle.std.specs.List.{list_any, list_all, range_with_len, last_or}
+use Rattle.std.specs.List.{list_all, range_with_len, last_or}
 use Rattle.std.specs.Option.{option_map_or}
 use Rattle.std.proofs.lemmas.Bool.Decides.{nat_tests}
 use Rattle.std.proofs.Math.ListN.{length-map}
@@ -15,18 +15,17 @@ use Rattle.mfc_command.specs.declared.command.Kind.TheVariants.{Put, Get, PutLis
 use Rattle.mfc_command.specs.Order.{is_list, is_barrier, may_start, busy_groups, outstanding as outstanding_of}
 use Rattle.mfc_lists.specs.declared.Element.{Element}
 use Rattle.mfc_lists.specs.declared.ListState.{ListState}
-use Rattle.mfc_lists.specs.Readings.{Reading, StandsFor as StandsForReading, current}
+use Rattle.mfc_lists.specs.Readings.{StandsFor as StandsForReading}
 use Rattle.mfc_queue.specs.declared.Queue.{Queue}
-use Rattle.mfc_queue.specs.Calls.{Call, Issue, SetParts, Mark, Retire, issued, is_retired, is_outstanding, outstanding as outstanding_calls, parts, is_marked, all_marked, may_begin as may_begin_calls, busy as busy_calls}
-use Rattle.mfc_queue.specs.Stands.{StandsFor, IsOneOf, place_in}
-use Rattle.cell_machine.specs.Spe.{Spe, Moves, is_faulted}
-use Rattle.cell_machine.specs.Moves.{read_of, elements_in, elements_of, are_all_there, present, parts_in, whole, is_done, is_finished, is_moved, is_stalled, is_at_rest, was_retired, is_complete, is_complete_as, may_begin, outstanding, busy}
+use Rattle.mfc_queue.specs.Calls.{Call, issued, is_retired, is_outstanding, outstanding as outstanding_calls, parts, is_marked, may_begin as may_begin_calls, busy as busy_calls}
+use Rattle.mfc_queue.specs.Stands.{StandsFor, place_in}
+use Rattle.cell_machine.specs.Spe.{Spe, Moves}
+use Rattle.cell_machine.specs.Moves.{read_of, elements_in, elements_of, are_all_there, present, parts_in, whole, is_done, is_finished, is_moved, is_at_rest, was_retired, is_complete, is_complete_as, may_begin, outstanding, busy}
 use Rattle.cell_machine.specs.Transfers.{begins, copied, is_part_left, has_part, has_element, is_left}
 use Rattle.cell_machine.specs.Channels.{read_status}
-use Rattle.cell_machine.specs.MovesShown.{ShowsMoves, ShowsDone, ShowsLists, ShowsList, AreElements, parts_now, reading}
+use Rattle.cell_machine.specs.MovesShown.{ShowsMoves, ShowsLists, AreElements, parts_now, reading}
 use Rattle.cell_machine.specs.Shows.{IsListOf}
 use Rattle.cell_machine.proofs.MovesShown.{get-within, eq_is, eq_off}
-use Rattle.cell_machine.proofs.ListsGo.{current-part, current-none}
 
 pub first_of_both : (a b : Bool) → (a && b) ≡ true → a ≡ true
 first_of_both true b h = refl

@@ -12,7 +12,7 @@ use Rattle.lock_lines.specs.Versions.{Reserved}
 use Rattle.cell_machine.specs.declared.memory.SharedMemory.{SharedMemory}
 use Rattle.cell_machine.specs.declared.processor.Processor.{Processor}
 use Rattle.cell_machine.specs.Spe.{Spe}
-use Rattle.cell_machine.specs.State.{State, with_spe}
+use Rattle.cell_machine.specs.State.{State}
 use Rattle.cell_machine.specs.Tags.{settled}
 use Rattle.cell_machine.specs.Exec.{exec}
 use Rattle.cell_machine.specs.Transfers.{elem, Left}

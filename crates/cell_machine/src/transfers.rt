@@ -118,13 +118,7 @@ impl Processor {
             return false;
         };
         let command = self.commands.queue.command(cmd);
-        copy(
-            &mut self.store,
-            memory,
-            is_put(command.kind),
-            x,
-            k as u32,
-        );
+        copy(&mut self.store, memory, is_put(command.kind), x, k as u32);
         let stalls = self.commands.mark(cmd, k as u32);
         self.tell(stalls, command.tag);
         true

@@ -1,5 +1,5 @@
 // The queue beside a plain one, which keeps every command ever issued.
-ghost use Rattle.std.specs.Prelude.{◌≡◌, ◌<◌, ◌≤◌};
+ghost use Rattle.std.specs.Prelude.{◌<◌};
 ghost use Rattle.mfc_queue.specs.Stands.{IsKnown};
 
 use super::{Queue, QueueFull};
@@ -233,81 +233,4 @@ fn answers_as_a_plain_queue(rt: HostRuntime) -> Result<(), AllocError> {
     }
     assert_eq!(rt; plain.rows.len() > 500, true);
     Ok(())
-}
-
-/// Issues a command, and answers its number, or None where no more can be issued.
-fn issue_alone(queue: &mut Queue, seed: u32) -> Option<u32>
-    requires { IsKnown queue.old }
-    ensures { IsKnown queue.new }
-{
-    if queue.issued() >= 1_000_000 {
-        return None;
-    }
-    match queue.issue(command_of(seed)) {
-        Ok(cmd) => Some(cmd),
-        Err(QueueFull) => None,
-    }
-}
-
-/// Begins the parts of a command, if it is outstanding.
-fn begin(queue: &mut Queue, cmd: u32, parts: u32)
-    requires known { IsKnown queue.old }
-    requires few { parts ≤ 129 }
-    ensures { IsKnown queue.new }
-{
-    if queue.place(cmd).is_some() {
-        queue.set_parts(cmd, parts);
-    }
-}
-
-/// Marks a part, and answers whether all are done now, or None where the command hasn't the part.
-fn mark(queue: &mut Queue, cmd: u32, part: u32) -> Option<bool>
-    requires { IsKnown queue.old }
-    ensures { IsKnown queue.new }
-{
-    if queue.place(cmd).is_none() {
-        return None;
-    }
-    if part >= queue.parts(cmd) {
-        return None;
-    }
-    Some(queue.mark(cmd, part))
-}
-
-/// Whether a part is done, or None where the command hasn't the part.
-fn is_done(queue: &Queue, cmd: u32, part: u32) -> Option<bool>
-    requires { IsKnown queue.now }
-{
-    if queue.place(cmd).is_none() {
-        return None;
-    }
-    if part >= queue.parts(cmd) {
-        return None;
-    }
-    Some(queue.done(cmd, part))
-}
-
-/// Which of the 129 parts are done once k + 1 were marked, each 64 after the one before, modulo 129.
-fn compare_parts(rt: &impl Abort, queue: &Queue, k: u32)
-    requires { IsKnown queue.now }
-{
-    for part in 0..129u32 {
-        assert_eq!(rt; is_done(queue, 0, part), Some(part * 127 % 129 <= k));
-    }
-}
-
-/// The most parts that a command can have, marked in an order that goes from word to word.
-#[test]
-fn keeps_all_parts_apart(rt: HostRuntime) {
-    let mut queue = Queue::new();
-    let issued = issue_alone(&mut queue, 0);
-    assert_eq!(rt; issued, Some(0));
-    begin(&mut queue, 0, 129);
-    for k in 0..129u32 {
-        let all = mark(&mut queue, 0, k * 64 % 129);
-        assert_eq!(rt; all, Some(k == 128));
-        compare_parts(&rt, &queue, k);
-    }
-    begin(&mut queue, 0, 129);
-    assert_eq!(rt; is_done(&queue, 0, 128), Some(false));
 }

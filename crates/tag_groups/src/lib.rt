@@ -127,74 +127,50 @@ fn idle_groups(mask: u32, busy: u32) -> u32
 mod tests {
     use super::*;
 
-    /// Requests of each kind with the mask 6, while these groups are busy: the groups of the status, or None where it waits.
+    /// Requests of each kind with a mask, while these groups are busy: the groups of the status, or None where it waits.
     #[test]
     fn fixes_a_status_where_the_condition_holds(rt: HostRuntime) {
-        for (how, busy, want) in [
-            (0, 6, Some(0)),
-            (0, 4, Some(2)),
-            (1, 6, None),
-            (1, 7, None),
-            (1, 4, Some(2)),
-            (1, 9, Some(6)),
-            (2, 6, None),
-            (2, 2, None),
-            (2, 9, Some(6)),
-            (3, 4, None),
-            (3, 1, Some(6)),
-            (u32::MAX, 2, None),
+        for (mask, how, busy, want) in [
+            (6, 0, 6, Some(0)),
+            (6, 0, 4, Some(2)),
+            (6, 1, 6, None),
+            (6, 1, 7, None),
+            (6, 1, 4, Some(2)),
+            (6, 1, 9, Some(6)),
+            (6, 2, 6, None),
+            (6, 2, 2, None),
+            (6, 2, 9, Some(6)),
+            (6, 3, 4, None),
+            (6, 3, 1, Some(6)),
+            (6, u32::MAX, 2, None),
+            (0, 1, u32::MAX, Some(0)),
+            (0, 2, u32::MAX, Some(0)),
         ] {
             let mut tags = Tags::new();
-            tags.set_mask(6);
+            tags.set_mask(mask);
             tags.request(how);
             tags.set_mask(0xffff_ffff);
             tags.settle(busy, 9);
+            assert_eq!(rt; tags.ready(), want.is_some(), "at {mask} {how} {busy}");
             let groups = tags.read().ok().map(|status| status.groups);
-            assert_eq!(rt; groups, want, "at {how} {busy}");
+            assert_eq!(rt; groups, want, "at {mask} {how} {busy}");
         }
     }
 
-    /// A mask of 0 is met at once, whatever was asked.
+    /// A status says how many commands were issued when it was fixed, and is read once.
     #[test]
-    fn an_empty_mask_is_met_at_once(rt: HostRuntime) {
-        for how in [0, 1, 2, 3] {
-            let mut tags = Tags::new();
-            tags.request(how);
-            tags.settle(0xffff_ffff, 5);
-            assert_eq!(rt;
-                tags.read(),
-                Ok(TagStatus {
-                    groups: 0,
-                    issued: 5
-                }),
-                "at {how}"
-            );
-        }
-    }
-
-    /// A status stays as it was fixed until it is read or a new request takes its place.
-    #[test]
-    fn keeps_a_status_until_it_is_read(rt: HostRuntime) {
+    fn a_status_is_read_once(rt: HostRuntime) {
         let mut tags = Tags::new();
         tags.set_mask(3);
         assert_eq!(rt; tags.mask(), 3);
-        assert_eq!(rt; tags.read(), Err(NotReady));
-        tags.settle(0, 1);
-        assert_eq!(rt; tags.ready(), false);
         tags.request(2);
         tags.settle(0, 1);
         tags.settle(1, 2);
-        assert_eq!(rt; tags.ready(), true);
         let status = TagStatus {
             groups: 3,
             issued: 1,
         };
         assert_eq!(rt; tags.read(), Ok(status));
-        assert_eq!(rt; tags.read(), Err(NotReady));
-        tags.request(0);
-        tags.settle(0, 3);
-        tags.request(2);
-        tags.settle(1, 4);
         assert_eq!(rt; tags.read(), Err(NotReady));
     }
 }

@@ -1,5 +1,5 @@
-use Rattle.std.proofs.Common.{◌≡◌, ◌<◌, length, arith, sym, ◌∙◌, ap, subst}
-use Rattle.cell_machine.proofs.Acknowledged.{ack-none, ack-next, ack-end, acknowledged_below}
+use Rattle.std.proofs.Common.{length, arith, sym, ◌∙◌, ap}
+use Rattle.cell_machine.proofs.Acknowledged.{ack-none, ack-next, ack-end}
 use Rattle.cell_machine.proofs.Places.{found-outstanding}
 use Rattle.cell_machine.proofs.commands.Commands.acknowledge.Goals as goal
 
@@ -12,7 +12,7 @@ resume-requires c =
     record { calls = s.calls; stands = s.stands; outstanding = (found-outstanding s.calls c.loop-cmd.next c.in-Some.cmd _ (c.outstanding_from.ensures s.calls s.stands) c.in-Some.is).0 }
 
 pub overflow_add-next : goal.overflow_add-next
-overflow_add-next c = 
+overflow_add-next c =
     let s = c.loop-cmd.invariant c.requires.moves c.requires.shows in
     let f = found-outstanding s.calls c.loop-cmd.next c.in-Some.cmd _ (c.outstanding_from.ensures s.calls s.stands) c.in-Some.is in
     let l = f.2 in let e = ap length s.moves.done.issued in let few = c.requires.few in omega arith

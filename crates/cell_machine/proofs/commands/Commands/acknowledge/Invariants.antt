@@ -1,4 +1,4 @@
-use Rattle.std.proofs.Common.{ℕ, ◌-◌}
+use Rattle.std.proofs.Common.{◌-◌}
 use Rattle.cell_machine.specs.Spe.{Moves}
 use Rattle.cell_machine.specs.Shows.{ShowsCommands}
 use Rattle.cell_machine.proofs.Acknowledged.{acknowledged_below}

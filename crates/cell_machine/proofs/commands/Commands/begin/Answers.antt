@@ -1,4 +1,4 @@
-use Rattle.std.proofs.Common.{◌≡◌, ◌≢◌, sym, ◌∙◌, subst, arith, ◌∷◌, [], ◌++◌}
+use Rattle.std.proofs.Common.{◌≢◌, sym, ◌∙◌, subst, arith, ◌∷◌, [], ◌++◌}
 use Rattle.mfc_queue.specs.Calls.{SetParts}
 use Rattle.mfc_lists.specs.Readings.{StandsFor as StandsForReading, with_element}
 use Rattle.cell_machine.specs.MovesShown.{reading}
@@ -40,7 +40,9 @@ pub returns : goal.returns
 returns c = λ m d shows at has number stands.
     let reads = element-reads m c.args.cmd d c.args.x (shows.moves.done.elements c.args.cmd d at) has number in
     let some : parts_in c.args.x ≢ 0 = (let n = c.parts-parts.ensures.count in let e = c.if-parts-eq0.false in omega arith) in
-    let goes = reads.moved some in
-    (c.keep.ensures _ d
-        (read-list c.args.self.now.queue _ c.args.self.now.lists m c.args.cmd c.parts-parts.result d c.args.x shows at has number c.parts-parts.ensures.count (c.set_parts.ensures.stands shows.calls shows.stands) c.set_parts.ensures.places)
-        at reads.list reads.size (subst (StandsForReading c.args.list) (sym goes.0) stands), goes.1)
+    let goes = reads.moved some in (
+      c.keep.ensures _ d
+          (read-list c.args.self.now.queue _ c.args.self.now.lists m c.args.cmd c.parts-parts.result d c.args.x shows at has number c.parts-parts.ensures.count (c.set_parts.ensures.stands shows.calls shows.stands) c.set_parts.ensures.places)
+          at reads.list reads.size (subst (StandsForReading c.args.list) (sym goes.0) stands),
+      goes.1,
+    )

@@ -1,5 +1,5 @@
-use Rattle.std.proofs.Common.{◌≡◌, sym, ◌∙◌, ap}
-use Rattle.std.specs.Prelude.{Option, Some, None}
+use Rattle.std.proofs.Common.{sym, ◌∙◌, ap}
+use Rattle.std.specs.Prelude.{Some}
 use Rattle.cell_machine.specs.Moves.{whole}
 use Rattle.cell_machine.proofs.SpeShown.{command-is, list-kind, plain-kind, present-plain, on_some, on_none}
 use Rattle.cell_machine.proofs.ListsGo.{current-part, current-none}

@@ -28,7 +28,7 @@ set_list-requires c =
 pub returns-then-is_list : goal.returns-then-is_list
 returns-then-is_list c = λ m shows.
     let f = issue-queue c.args.self.now.queue c.set_parts.new.self c.args.self.now.lists m c.in-Ok.cmd c.parts_begun-parts.result c.args.command shows (whole-elements c.args.lines c.args.command c.requires.fits.1)
-        (c.in-Ok.ensures.number shows.calls shows.stands) c.parts_begun-parts.ensures.count (c.set_parts.ensures.stands _ (c.in-Ok.ensures.issued shows.calls shows.stands)) (λ o differs. c.set_parts.ensures.places o ∙ c.in-Ok.ensures.places o differs) in
+    (c.in-Ok.ensures.number shows.calls shows.stands) c.parts_begun-parts.ensures.count (c.set_parts.ensures.stands _ (c.in-Ok.ensures.issued shows.calls shows.stands)) (λ o differs. c.set_parts.ensures.places o ∙ c.in-Ok.ensures.places o differs) in
     let is : c.in-Ok.cmd ≡ length m.issued = c.in-Ok.ensures.number shows.calls shows.stands ∙ ap length shows.moves.done.issued in
     let list = sym c.is_list.ensures ∙ c.if-is_list.true in
     let opens : reading (with_issued m c.args.command) c.in-Ok.cmd c.args.command ≡ opening_reading c.args.command =
@@ -39,6 +39,6 @@ returns-then-is_list c = λ m shows.
 pub returns-else-is_list : goal.returns-else-is_list
 returns-else-is_list c = λ m shows.
     let f = issue-queue c.args.self.now.queue c.set_parts.new.self c.args.self.now.lists m c.in-Ok.cmd c.parts_begun-parts.result c.args.command shows (whole-elements c.args.lines c.args.command c.requires.fits.1)
-        (c.in-Ok.ensures.number shows.calls shows.stands) c.parts_begun-parts.ensures.count (c.set_parts.ensures.stands _ (c.in-Ok.ensures.issued shows.calls shows.stands)) (λ o differs. c.set_parts.ensures.places o ∙ c.in-Ok.ensures.places o differs) in
+    (c.in-Ok.ensures.number shows.calls shows.stands) c.parts_begun-parts.ensures.count (c.set_parts.ensures.stands _ (c.in-Ok.ensures.issued shows.calls shows.stands)) (λ o differs. c.set_parts.ensures.places o ∙ c.in-Ok.ensures.places o differs) in
     f.2 c.args.self.now.lists (lists-all c.set_parts.new.self c.args.self.now.lists _ c.in-Ok.cmd f.1 (λ p x at list placed.
     absurd (let same = some_same x c.args.command (sym at ∙ f.0) in true≢false (sym list ∙ ap (λ (y : Command). is_list y.kind) same ∙ sym c.is_list.ensures ∙ c.if-is_list.false))))

@@ -1,5 +1,4 @@
-use Rattle.std.proofs.Common.{◌≡◌, sym, ◌∙◌, ap, subst, ◌∷◌, [], ◌++◌}
-use Rattle.mfc_queue.specs.Calls.{Retire}
+use Rattle.std.proofs.Common.{sym, ◌∙◌, ap, subst}
 use Rattle.mfc_queue.specs.Stands.{StandsFor, place_in}
 use Rattle.cell_machine.proofs.CommandsShown.{kept-closed, kept-open}
 use Rattle.cell_machine.proofs.commands.Commands.keep.Goals as goal

@@ -1,5 +1,5 @@
-use Rattle.std.proofs.Common.{◌≡◌, refl, sym, ◌∙◌, ap, subst, ◌∷◌, [], ◌++◌}
-use Rattle.std.specs.Prelude.{Some, is_some, IsSome}
+use Rattle.std.proofs.Common.{refl, sym, ◌∙◌, subst, ◌∷◌, [], ◌++◌}
+use Rattle.std.specs.Prelude.{IsSome}
 use Rattle.mfc_queue.specs.Calls.{Mark}
 use Rattle.mfc_queue.proofs.CallLaws.{outstanding-marked}
 use Rattle.cell_machine.proofs.SpeShown.{part-facts, list-kind, plain-kind}

@@ -1,4 +1,4 @@
-use Rattle.std.proofs.Common.{sym, ◌∙◌, ap, refl}
+use Rattle.std.proofs.Common.{sym, ◌∙◌, ap}
 use Rattle.std.specs.Prelude.{is_some, not}
 use Rattle.cell_machine.proofs.SpeShown.{not_placed, placed, begins-closed, begins-open, begins-not, complete-no_element, plain-no_element, list-kind, plain-kind}
 use Rattle.cell_machine.proofs.ListsGo.{rest-next}

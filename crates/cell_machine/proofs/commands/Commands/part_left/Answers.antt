@@ -1,4 +1,4 @@
-use Rattle.std.proofs.Common.{◌≡◌, sym, ◌∙◌, ap, arith}
+use Rattle.std.proofs.Common.{sym, ◌∙◌, arith}
 use Rattle.cell_machine.proofs.SpeShown.{not_placed, placed, begins-closed, begins-open, part-is, complete-no_part}
 use Rattle.cell_machine.proofs.commands.Commands.part_left.Goals as goal
 

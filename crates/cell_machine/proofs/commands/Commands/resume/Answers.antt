@@ -1,4 +1,4 @@
-use Rattle.std.proofs.Common.{◌≡◌, ◌==◌, Bool, true, false, sym, ◌∙◌, ap, subst, ◌∷◌, [], inl, inr, arith}
+use Rattle.std.proofs.Common.{◌≡◌, ◌==◌, true, false, sym, ◌∙◌, subst, ◌∷◌, [], inl, inr, arith}
 use Rattle.std.proofs.lemmas.Bool.Decides.{nat_tests}
 use Rattle.mfc_lists.specs.Readings.{StandsFor as StandsForReading}
 use Rattle.cell_machine.specs.Channels.{with_resumed}

@@ -19,7 +19,15 @@ returns-in-Ok-Queued c = λ P shows.
     rw (commanded-queued c.args.lines P c.args.op c.in-Ok-Queued.command
     (ap (λ p. checked p c.args.op c.args.lines) (ap (λ (s : Channels). s.params) shows.channels ∙ sym c.params.ensures) ∙ sym c.check.ensures.checked ∙ c.in-Ok-Queued.is ∙ ap Ok c.in-Ok-Queued.field-0-is))
     (c.go_on.ensures (record P { moves = with_issued P.moves c.in-Ok-Queued.command }) (record {
-      status = shows.status; pc = shows.pc; registers = shows.registers; store = shows.store; inbound = shows.inbound; outbound = shows.outbound; interrupt = shows.interrupt; channels = shows.channels; tags = shows.tags;
+      status = shows.status;
+      pc = shows.pc;
+      registers = shows.registers;
+      store = shows.store;
+      inbound = shows.inbound;
+      outbound = shows.outbound;
+      interrupt = shows.interrupt;
+      channels = shows.channels;
+      tags = shows.tags;
       queue = c.issue.ensures P.moves shows.queue;
     }))
 

@@ -2,9 +2,6 @@ use Rattle.std.proofs.Common.{refl, ap, sym, ◌∙◌}
 use Rattle.cell_base.specs.Bytes.{zeros}
 use Rattle.cell_machine.specs.Opening.{placed_in}
 use Rattle.cell_machine.specs.Limits.{shown}
-use Rattle.std.proofs.Common.{[]}
-use Rattle.cell_channels.specs.declared.channels.Channels.{Channels}
-use Rattle.cell_machine.proofs.MovesShown.{no_calls}
 use Rattle.cell_machine.proofs.processor.Processor.new.Goals as goal
 
 pub returns : goal.returns

@@ -2,10 +2,9 @@ use Rattle.std.proofs.Common.{◌≡◌, ◌+◌, ◌*◌, ◌≤◌, length, ar
 use Rattle.std.specs.Prelude.{is_some, Some}
 use Rattle.lock_lines.specs.Stands.{line_count}
 use Rattle.cell_machine.specs.Spe.{is_faulted}
-use Rattle.cell_machine.specs.Transfers.{with_done, after_part}
-use Rattle.cell_machine.specs.Shows.{ShowsSpe}
+use Rattle.cell_machine.specs.Transfers.{with_done}
 use Rattle.cell_machine.proofs.SpeShown.{issued-at}
-use Rattle.cell_machine.proofs.Controllers.{begins-has, part-number, can-copy, kept-of, piece-may, piece-faulted, piece-off, piece-on, piece-made}
+use Rattle.cell_machine.proofs.Controllers.{begins-has, part-number, can-copy, kept-of, piece-may, piece-faulted, piece-off, piece-made}
 use Rattle.cell_machine.proofs.processor.Processor.piece.Goals as goal
 
 pub returns-then-is_faulted-clause-made : goal.returns-then-is_faulted-clause-made
