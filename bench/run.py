@@ -3,10 +3,10 @@
 
 Prints instructions per second of two loops of a million steps; steps per second of a whole run, file in
 and text out, with one and with eight processors; the greatest memory of the widest machine; steps per
-second of eight processors that transfer without a pause, and the time of one of their steps in runs of
-three lengths; and the time and the greatest memory that assembling three sources of 4 MB takes. Each
-figure is the best of five runs; the time of a run of one step is taken off that of the loops and of the
-transfers, so that starting the program isn't counted.
+second of eight processors that transfer without a pause, by single commands and by lists, and the time of
+one of their steps in runs of three lengths; and the time and the greatest memory that assembling three
+sources of 4 MB takes. Each figure is the best of five runs; the time of a run of one step is taken off
+that of the loops and of the transfers, so that starting the program isn't counted.
 """
 import os
 import subprocess
@@ -111,6 +111,7 @@ def main():
         whole_run(folder, "bench/arithmetic.s", 8, 1)
         whole_run(folder, "bench/memory.s", 8, 32_768)
         transfers(folder, "bench/transfer.s", 8, 128)
+        transfers(folder, "bench/lists.s", 8, 128)
         assembling(folder, "65,536 instructions with labels and comments", commented())
         assembling(folder, "labels alone", short())
         assembling(folder, "line feeds alone", empty())

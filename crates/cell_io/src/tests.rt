@@ -1,62 +1,41 @@
-// What the outside answers, in memory and of the system.
+// What the outside answers that no contract says: where memory is ample, and of the system.
 use crate::{
-    Cut, DirStore, FetchFault, Fetched, MemFile, MemSink, MemStore, OutSink, Sink, SinkFault, Store,
+    DirStore, FetchFault, Fetched, MemFile, MemSink, MemStore, OutSink, Sink, SinkFault, Store,
 };
-use std::alloc::Global;
 use std::io::Write;
 use std::test::Fail;
 use std::{fs, io};
 
-fn shelf(alloc: Global, failing: Vec<u32>) -> Result<MemStore, Fail> {
+#[test]
+fn a_store_in_memory_answers_where_memory_is_ample(rt: HostRuntime) -> Result<(), Fail> {
+    let alloc = rt.alloc();
     let mut files = Vec::new(alloc);
     files.push(MemFile {
         name: String::from_str(alloc, "abc")?,
         bytes: b"0123".to_vec(alloc)?,
     })?;
-    Ok(MemStore::new(files, failing))
-}
-
-#[test]
-fn a_store_in_memory_answers_each_call(rt: HostRuntime) -> Result<(), Fail> {
-    let alloc = rt.alloc();
-    let mut store = shelf(alloc, [3u32, 3].to_vec(alloc)?)?;
+    let mut store = MemStore::new(files, [2u32].to_vec(alloc)?);
     let table = [
-        ("abc", 4, Ok(Fetched::Whole), b"0123".as_slice()),
-        ("abc", 3, Ok(Fetched::TooLong), b"".as_slice()),
-        ("ab", 9, Err(FetchFault::Failed), b"".as_slice()),
-        ("abc", 4, Err(FetchFault::Failed), b"".as_slice()),
-        ("abc", 5, Ok(Fetched::Whole), b"0123".as_slice()),
+        (4, Ok(Fetched::Whole)),
+        (3, Ok(Fetched::TooLong)),
+        (4, Err(FetchFault::Failed)),
     ];
-    for (name, limit, answer, bytes) in table {
+    for (limit, answer) in table {
         let mut into = Vec::new(alloc);
-        let fetched = store.fetch(alloc, name, limit, &mut into);
-        assert_eq!(rt; fetched, answer, "{name} within {limit}");
-        assert_eq!(rt; into.as_slice(), bytes, "{name} within {limit}");
+        assert_eq!(rt;
+            store.fetch(alloc, "abc", limit, &mut into),
+            answer,
+            "within {limit}"
+        );
     }
     Ok(())
 }
 
 #[test]
-fn a_sink_in_memory_is_cut(rt: HostRuntime) -> Result<(), Fail> {
-    let alloc = rt.alloc();
-    let cuts = [
-        Cut { call: 1, bytes: 2 },
-        Cut { call: 1, bytes: 3 },
-        Cut { call: 2, bytes: 9 },
-    ];
-    let mut sink = MemSink::new(alloc, 9, cuts.to_vec(alloc)?)?;
-    let table = [
-        (b"ab".as_slice(), Ok(()), b"ab".as_slice()),
-        (b"cdef".as_slice(), Err(SinkFault), b"abcd".as_slice()),
-        (b"gh".as_slice(), Err(SinkFault), b"abcdgh".as_slice()),
-        (b"ijk".as_slice(), Ok(()), b"abcdghijk".as_slice()),
-        (b"lm".as_slice(), Err(SinkFault), b"abcdghijk".as_slice()),
-        (b"".as_slice(), Ok(()), b"abcdghijk".as_slice()),
-    ];
-    for (piece, answer, bytes) in table {
-        assert_eq!(rt; sink.put(piece), answer, "{piece:?}");
-        assert_eq!(rt; sink.bytes(), bytes, "{piece:?}");
-    }
+fn a_sink_in_memory_is_made(rt: HostRuntime) -> Result<(), Fail> {
+    let mut sink = MemSink::new(rt.alloc(), 2, Vec::new(rt.alloc()))?;
+    assert_eq!(rt; sink.put(b"ab"), Ok(()));
+    assert_eq!(rt; sink.bytes(), b"ab".as_slice());
     Ok(())
 }
 
@@ -71,6 +50,7 @@ fn the_systems_files_are_read(rt: HostRuntime) -> Result<(), Fail> {
         ("cell_io_sample", 4999, Ok(Fetched::TooLong), 5000),
         ("cell_io_sample", 0, Ok(Fetched::TooLong), 1),
         ("cell_io_absent", 5000, Err(FetchFault::Failed), 0),
+        ("/cell_io_sample", 5000, Err(FetchFault::Failed), 0),
     ];
     for (name, limit, answer, count) in table {
         let mut into = Vec::new(alloc);

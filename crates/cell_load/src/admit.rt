@@ -140,7 +140,7 @@ fn count_action(counts: Counts, action: HostAction) -> Result<Counts, Refusal>
     if !fits_action(counts, action) {
         return Err(Refusal::Form);
     }
-    if counts.actions >= MAX_ACTIONS {
+    if counts.actions as usize >= MAX_ACTIONS {
         return Err(Refusal::Limit);
     }
     let mut next = counts;

@@ -1,0 +1,9 @@
+il $3,0x1000
+wrch $ch18,$3
+il $4,8
+wrch $ch19,$4
+il $5,0x44
+nop $0
+nop $0
+wrch $ch21,$5
+stop 0

@@ -1,0 +1,11 @@
+il $3,512
+wrch $ch19,$3
+il $4,0x20
+wrch $ch21,$4
+il $3,0x1000
+wrch $ch18,$3
+il $3,8
+wrch $ch19,$3
+il $4,0x46
+wrch $ch21,$4
+rdch $3,$ch26

@@ -1,0 +1,15 @@
+il $3,0x1000
+wrch $ch18,$3
+il $4,8
+wrch $ch19,$4
+il $5,0x45
+wrch $ch21,$5
+il $6,1
+wrch $ch22,$6
+wrch $ch23,$6
+rdch $7,$ch25
+rchcnt $8,$ch24
+wrch $ch26,$0
+rchcnt $9,$ch24
+rdch $10,$ch24
+stop 0

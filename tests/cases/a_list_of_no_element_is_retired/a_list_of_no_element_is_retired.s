@@ -1,0 +1,9 @@
+il $3,0x1000
+wrch $ch18,$3
+il $4,0x24
+wrch $ch21,$4
+il $5,1
+wrch $ch22,$5
+wrch $ch23,$5
+rdch $6,$ch24
+stop 0

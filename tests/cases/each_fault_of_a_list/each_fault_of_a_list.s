@@ -1,0 +1,13 @@
+lqa $3,0x100
+wrch $ch16,$3
+rotqbyi $3,$3,4
+wrch $ch17,$3
+rotqbyi $3,$3,4
+wrch $ch18,$3
+rotqbyi $3,$3,4
+wrch $ch19,$3
+lqa $4,0x110
+wrch $ch20,$4
+rotqbyi $4,$4,4
+wrch $ch21,$4
+stop 0

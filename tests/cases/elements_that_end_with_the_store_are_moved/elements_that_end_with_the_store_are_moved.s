@@ -1,0 +1,9 @@
+lqa $3,0x100
+wrch $ch16,$3
+il $4,0x110
+wrch $ch18,$4
+il $5,8
+wrch $ch19,$5
+il $6,0x44
+wrch $ch21,$6
+stop 0
