@@ -3,10 +3,11 @@
 
 Prints instructions per second of two loops of a million steps; steps per second of a whole run, file in
 and text out, with one and with eight processors; the greatest memory of the widest machine; steps per
-second of eight processors that transfer without a pause, by single commands and by lists, and the time of
-one of their steps in runs of three lengths; and the time and the greatest memory that assembling three
-sources of 4 MB takes. Each figure is the best of five runs; the time of a run of one step is taken off
-that of the loops and of the transfers, so that starting the program isn't counted.
+second of eight processors that transfer without a pause, by single commands and by lists, and that raise
+one counter on the widest machine, and the time of one of their steps in runs of three lengths; and the
+time and the greatest memory that assembling three sources of 4 MB takes. Each figure is the best of five
+runs; the time of a run of one step is taken off that of the loops and of the commands, so that starting
+the program isn't counted.
 """
 import os
 import subprocess
@@ -59,8 +60,8 @@ def whole_run(folder, source, spes, lines):
           f"{took:.2f} s and {most / 1024:.1f} MiB")
 
 
-def transfers(folder, source, spes, lines):
-    """Steps per second of transfers, and whether a step costs more when more steps were made before it."""
+def commands(folder, source, spes, lines):
+    """Steps per second of processors with commands, their memory, and whether a step costs more when more steps were made before it."""
     idle, _ = measured(["run", machine_file(folder, source, 1, spes, lines)])
     for budget in BUDGETS:
         took, most = measured(["run", machine_file(folder, source, budget, spes, lines)])
@@ -110,8 +111,9 @@ def main():
         whole_run(folder, "bench/arithmetic.s", 1, 1)
         whole_run(folder, "bench/arithmetic.s", 8, 1)
         whole_run(folder, "bench/memory.s", 8, 32_768)
-        transfers(folder, "bench/transfer.s", 8, 128)
-        transfers(folder, "bench/lists.s", 8, 128)
+        commands(folder, "bench/transfer.s", 8, 128)
+        commands(folder, "bench/lists.s", 8, 128)
+        commands(folder, "bench/counter.s", 8, 32_768)
         assembling(folder, "65,536 instructions with labels and comments", commented())
         assembling(folder, "labels alone", short())
         assembling(folder, "line feeds alone", empty())
