@@ -183,7 +183,7 @@ act_acts lines n spes M Host bounded fits = host_acts lines spes M fits
 record Holds (S : Opening) (M : State) : Type 0 where
   long : length M.memory.bytes ≡ 128 * S.lines
   versions : length M.memory.versions ≡ S.lines
-  issued : ℕ
+  issued : ℕ  -- so many commands of each processor at most
   bounded : AreBounded S.lines issued M.spes
   fits : All (FitsAction S.lines (length S.entries)) M.host.script
   past : (p : ℕ) (P : Spe) → slice_get M.spes p ≡ Some P → IsPast M.memory.versions P.reserved
