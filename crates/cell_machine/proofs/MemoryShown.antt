@@ -1,12 +1,12 @@
 -- What the code's memory shows after a store, a GETLLAR and a PUTLLC.
 use Rattle.std.proofs.Common.{◌≡◌, ℕ, zero, suc, ◌+◌, ◌*◌, ◌/◌, Bool, true, false, List, [], ◌∷◌, arith, refl, sym, ◌∙◌, ap, subst, slice_set, slice_index_or}
-use Rattle.std.specs.Prelude.{Option, Some, None, slice_get, slice_range, if◌then◌else◌}
+use Rattle.std.specs.Prelude.{Option, Some, None, slice_get, slice_range, replicate, if◌then◌else◌}
 use Rattle.std.specs.Option.{option_map_or}
 use Rattle.cell_base.specs.Bytes.{put}
 use Rattle.lock_lines.specs.declared.Lock.{Lock}
 use Rattle.lock_lines.specs.declared.Lock.TheVariants.{Stored, Lost}
 use Rattle.lock_lines.specs.Calls.{answer_of}
-use Rattle.lock_lines.specs.Versions.{Versions, Reserved, version_of, is_current, is_reserved, stored_to, got, put as put_conditional, raised}
+use Rattle.lock_lines.specs.Versions.{Versions, Reserved, opening_versions, version_of, is_current, is_reserved, stored_to, got, put as put_conditional, raised}
 use Rattle.lock_lines.specs.Stands.{StandsForVersions}
 use Rattle.cell_machine.specs.declared.memory.SharedMemory.{SharedMemory}
 use Rattle.cell_machine.specs.Spe.{Spe}
@@ -104,3 +104,9 @@ copied-get_spe m P x bytes old new same was is = ap (λ s. record P { store = s 
 pub copied-get_memory : (new : SharedMemory) (m : MainMemory) (reserved : List (Option Reserved)) (P : Spe) (x : Part) → ShowsMemory new m reserved → ShowsMemory new (copied m P false x).memory reserved
 unfolding copied
 copied-get_memory new m reserved P x shows = shows
+
+-- at the start no store has touched a line, and none is reserved
+pub starts-shows : (c : SharedMemory) (bytes : List ℕ) (lines spes : ℕ) → bytes ≡ c.bytes → StandsForVersions c.locks (opening_versions lines spes)
+    → ShowsMemory c (record { bytes = bytes; versions = replicate lines 0 }) (replicate spes None)
+unfolding opening_versions
+starts-shows c bytes lines spes is stands = record { bytes = is; versions = stands }

@@ -111,6 +111,12 @@ length-numbered : (n : ℕ) (xs : List ℕ) → length (enumerate_from n xs) ≡
 length-numbered n [] = refl
 length-numbered n (x ∷ xs) = ap suc (length-numbered (n + 1) xs)
 
+-- the memory at the start, by what the code has of the setup
+pub memory-new : (S : Opening) (memory : SharedMemory) (lines spes : ℕ) (pieces : List MemoryBytes) → S.lines ≡ lines → S.memory ≡ shown_memory pieces → length S.entries ≡ spes
+    → ShowsMemory memory (record { bytes = filled (zeros (128 * lines)) (shown_memory pieces); versions = replicate lines 0 }) (replicate spes None)
+    → ShowsMemory memory (opening_memory S) (replicate (length S.entries) None)
+memory-new S memory lines spes pieces a b e shows = rw (a, b, e) shows
+
 -- a machine at its start
 pub machine-new : (S : Opening) (processors : List Processor) (memory : SharedMemory) (host : Progress) (steps : List Step) (capacity : ℕ) → IsOpening S
     → AllTwo ShowsSpe processors (opening_spes S) → ShowsMemory memory (opening_memory S) (replicate (length S.entries) None) → HasSize S.lines (length S.entries) memory
