@@ -18,6 +18,7 @@ use Rattle.cell_machine.specs.Next.{next}
 use Rattle.cell_machine.specs.Opening.{opening}
 use Rattle.cell_machine.specs.Run.{Ran, replay, spe_of, state_of}
 use Rattle.cell_machine.specs.Order.{after_steps}
+use Rattle.cell_machine.proofs.Same.{eq_is}
 use Rattle.cell_machine.proofs.Completion.{some-of}
 use Rattle.cell_machine.proofs.Replays.{replay-snoc}
 use Rattle.cell_machine.specs.Locks.{stored_by_atomic, stored_by, StoresTo, Does, is_lock, IsReserved, AreLocksKept}
@@ -38,9 +39,6 @@ IsPast versions o = (r : Reserved) → o ≡ Some r → r.version ≤ version_of
 abbrev pub IsIn : List ℕ → Option ℕ → Type 0
 IsIn versions o = (line : ℕ) → o ≡ Some line → line < length versions
 
-pub eq-num : (a b : ℕ) → (a == b) ≡ true → a ≡ b
-eq-num a b e = grind (arith, nat_tests)
-
 num-eq : (a b : ℕ) → a ≡ b → (a == b) ≡ true
 num-eq a b e = grind (arith, nat_tests)
 
@@ -49,7 +47,7 @@ raised-other versions None line h = refl
 raised-other versions (Some l) line h = on (l == line) refl
   where
     on : (b : Bool) → (l == line) ≡ b → version_of (raised versions l) line ≡ version_of versions line
-    on true e = absurd (h (ap Some (eq-num l line e)))
+    on true e = absurd (h (ap Some (eq_is l line e)))
     on false e = version-other versions l line (version_of versions l + 1) e
 
 pub raised-own : (versions : List ℕ) (o : Option ℕ) (line : ℕ) → IsIn versions o → o ≡ Some line → version_of versions line < version_of (raised_by versions o) line
@@ -72,8 +70,8 @@ not-stored : (versions : List ℕ) (o : Option ℕ) (line : ℕ) (was : Option R
 not-stored versions o line None past inside h e = true≢false (sym h)
 not-stored versions o line (Some r) past inside h e =
     let two = parts (r.line == line) (r.version == version_of (raised_by versions o) line) h in
-    let to : r.line ≡ line = eq-num r.line line two.0 in
-    let at : r.version ≡ version_of (raised_by versions o) line = eq-num r.version (version_of (raised_by versions o) line) two.1 in
+    let to : r.line ≡ line = eq_is r.line line two.0 in
+    let at : r.version ≡ version_of (raised_by versions o) line = eq_is r.version (version_of (raised_by versions o) line) two.1 in
     let low : r.version ≤ version_of versions line = subst (λ l. r.version ≤ version_of versions l) to (past r refl) in
     let up : version_of versions line < version_of (raised_by versions o) line = raised-own versions o line inside e in
     omega arith
@@ -119,8 +117,8 @@ next_cases versions (Atomic q) p P G locks stays = on (q == p) refl
     one a b e = cc
 
     kinds : (q == p) ≡ true → (a : AtomicOp) → P.channels.slot ≡ Some a → (k : AtomicKind) → a.kind ≡ k → G
-    kinds e a at GetLine is = locks a (same (eq-num q p e)) at (ap is_lock is) (rw (e, at) refl)
-    kinds e a at PutCond is = locks a (same (eq-num q p e)) at (ap is_lock is) (rw (e, at) refl)
+    kinds e a at GetLine is = locks a (same (eq_is q p e)) at (ap is_lock is) (rw (e, at) refl)
+    kinds e a at PutCond is = locks a (same (eq_is q p e)) at (ap is_lock is) (rw (e, at) refl)
     kinds e a at PutLine is = stays (λ b f g. ap (λ (x : AtomicOp). is_lock x.kind) (one b a (sym g ∙ at)) ∙ ap is_lock is) (rw (e, at, is) refl)
 
     slots : (q == p) ≡ true → (o : Option AtomicOp) → P.channels.slot ≡ o → G
@@ -175,7 +173,7 @@ held-why M s N p line P Q step h =
         kinds GetLine e =
             let now : Reserved = record { line = a.line; version = version_of M.memory.versions a.line } in
             let got : at_line after line (Some now) ≡ true = sym (ap (λ k. at_line after line (reserved_after k now P.reserved)) e) ∙ g in
-            gets a (is, at) e (eq-num a.line line (head (a.line == line) (now.version == version_of after line) got))
+            gets a (is, at) e (eq_is a.line line (head (a.line == line) (now.version == version_of after line) got))
         kinds PutCond e =
             let now : Reserved = record { line = a.line; version = version_of M.memory.versions a.line } in
             absurd (true≢false (sym (sym (ap (λ k. at_line after line (reserved_after k now P.reserved)) e) ∙ g)))

@@ -38,13 +38,13 @@ use Rattle.cell_machine.specs.Run.{Ran, replay}
 use Rattle.cell_machine.specs.Shows.{IsBounded, AreBounded, IsMachine}
 use Rattle.cell_machine.specs.Locks.{stored_by_piece, stored_by_fate, stored_by_atomic, stored_by_action, stored_by, AreLocksKept}
 use Rattle.cell_machine.proofs.MovesShown.{get-within}
-use Rattle.cell_machine.proofs.Same.{some_same}
+use Rattle.cell_machine.proofs.Same.{some_same, eq_is}
 use Rattle.cell_machine.proofs.Elements.{part-is}
 use Rattle.cell_machine.proofs.Controllers.{element-fits}
 use Rattle.cell_machine.proofs.Openings.{length-zeros, opening_bounded}
 use Rattle.cell_machine.proofs.Completion.{some-of}
 use Rattle.cell_machine.proofs.Bounds.{if_is, if_so, each_of, each_map, Moved, Seen, another, goes, is_at, executes, copies, reads, refuses, retires, locks, acts, passes, map-got, act-seen, act-bounded, act-length}
-use Rattle.cell_machine.proofs.LocksKept.{raised_by, raised-own, raised-other, IsPast, IsIn, eq-num, locked_by, reserved_next, Stepped, StepsAre, locks-kept}
+use Rattle.cell_machine.proofs.LocksKept.{raised_by, raised-own, raised-other, IsPast, IsIn, locked_by, reserved_next, Stepped, StepsAre, locks-kept}
 
 -- ---- the bytes that a step stores
 
@@ -183,7 +183,7 @@ act_acts lines n spes M Host bounded fits = host_acts lines spes M fits
 record Holds (S : Opening) (M : State) : Type 0 where
   long : length M.memory.bytes ≡ 128 * S.lines
   versions : length M.memory.versions ≡ S.lines
-  issued : ℕ
+  issued : ℕ  -- so many commands of each processor at most
   bounded : AreBounded S.lines issued M.spes
   fits : All (FitsAction S.lines (length S.entries)) M.host.script
   past : (p : ℕ) (P : Spe) → slice_get M.spes p ≡ Some P → IsPast M.memory.versions P.reserved
@@ -311,7 +311,7 @@ grows versions None line inside = omega arith
 grows versions (Some l) line inside = on (l == line) refl
   where
     on : (b : Bool) → (l == line) ≡ b → version_of versions line ≤ version_of (raised versions l) line
-    on true e = let up = raised-own versions (Some l) line inside (ap Some (eq-num l line e)) in omega arith
+    on true e = let up = raised-own versions (Some l) line inside (ap Some (eq_is l line e)) in omega arith
     on false e = let same = raised-other versions (Some l) line (λ f. true≢false (sym (grind (arith, nat_tests)) ∙ e)) in omega arith
 
 grown-past : (versions : List ℕ) (o : Option ℕ) (was : Option Reserved) → IsIn versions o → IsPast versions was → IsPast (raised_by versions o) was
