@@ -17,7 +17,7 @@ again:	wrch	$ch21,$5	# MFC_Cmd: 0xd0 is GETLLAR
 	wrch	$ch21,$6	# MFC_Cmd: 0xb4 is PUTLLC
 	rdch	$9,$ch27	# 0 says that it stored the line, 1 that the reservation was lost
 	brnz	$9,again
-	stop	0
+	stop	1
 
 	.data
 	.align	7		# a line begins at a multiple of 128, in the local store too

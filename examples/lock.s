@@ -47,7 +47,7 @@ try:	wrch	$ch21,$4	# MFC_Cmd: 0xd0 is GETLLAR
 	il	$19,0xb0
 	wrch	$ch21,$19	# MFC_Cmd: 0xb0 is PUTLLUC
 	rdch	$20,$ch27	# 2
-	stop	0
+	stop	1
 
 	.data
 	.align	7
