@@ -75,7 +75,7 @@ impl Channels {
         self.params
     }
 
-    /// Sets the parameter of a channel from 16 to 20, and leaves all else.
+    /// Sets the parameter of a channel from 16 to 20 (CBEA, "MFC commands"), and leaves all else.
     pub fn set_param(&mut self, ch: u8, value: u32)
         requires { (16 ≤ ch) × (ch ≤ 20) }
         ensures { self.new ≡ record self.old { params = with_param self.old.params ch value } }
@@ -114,7 +114,8 @@ impl Channels {
         self.slot
     }
 
-    /// Puts an atomic command into the slot. SlotTaken comes exactly where it isn't free, and then nothing changes.
+    /// Puts an atomic command into the slot; that there is one is this project's profile. SlotTaken comes exactly where it isn't free, and then
+    /// nothing changes.
     pub fn set_slot(&mut self, a: AtomicOp) -> Result<(), SlotTaken>
         ensures free { is_ok result ≡ is_none self.old.slot }
         ensures ok { OnOk result (self.new ≡ record self.old { slot = Some a }) }
@@ -127,7 +128,7 @@ impl Channels {
         Ok(())
     }
 
-    /// Frees the slot, and keeps the status of its command in place of an unread one.
+    /// Frees the slot, and keeps the status of its command (CBEA, "MFC atomic update commands"), in place of an unread one as this project's profile has it.
     pub fn atomic_done(&mut self, status: u32)
         ensures { self.new ≡ record self.old { slot = None; atomic = Some status } }
     {
@@ -151,7 +152,7 @@ impl Channels {
         self.atomic.take().ok_or(NotReady)
     }
 
-    /// Sets the bit of a tag group, below 32, in the stall status.
+    /// Sets the bit of a tag group, below 32, in the stall status, which is this project's profile.
     pub fn stall(&mut self, tag: u8)
         requires { tag < 32 }
         ensures { self.new ≡ record self.old { stalls = bit_or self.old.stalls (2 ^ tag) } }

@@ -10,7 +10,7 @@ ghost use Rattle.lock_lines.specs.Marks.{AreMarks, is_marked, IsLineCleared, IsS
 use std::alloc::{AllocError, Global};
 
 /// How many processors a word has bits for.
-pub const MAX_SPES: usize = 16;
+const MAX_SPES: usize = 16;
 
 /// There was no room for the words.
 #[derive(Clone, Copy, Debug, PartialEq, Eq)]

@@ -58,7 +58,8 @@ impl Tags {
         self.mask
     }
 
-    /// Makes a request with the mask as it stands, in place of a pending one and of an unread status.
+    /// Makes a request (CBEA, "Tag-group status") with the mask as it stands, in place of a pending one and of an unread status; that it takes
+    /// their place, and that every `how` above 1 asks for all groups, is this project's profile.
     pub fn request(&mut self, how: u32)
         ensures { self.new ≡ requested self.old how }
     {
