@@ -1,5 +1,5 @@
 -- An atomic command of a processor, as the code does it.
-use Rattle.std.proofs.Common.{◌≡◌, ℕ, ◌+◌, ◌*◌, ◌&&◌, not, Bool, true, false, List, refl, sym, ◌∙◌, ap, subst, slice_set}
+use Rattle.std.proofs.Common.{◌≡◌, ℕ, ◌+◌, ◌*◌, ◌&&◌, not, Bool, true, false, List, refl, sym, ap, subst, slice_set}
 use Rattle.std.specs.Prelude.{Option, Some, None, IsSomeAnd, is_some, option_map, slice_get, slice_range, if◌then◌else◌, cond}
 use Rattle.cell_base.specs.Bytes.{put}
 use Rattle.lock_lines.specs.Versions.{Reserved, version_of}
@@ -9,7 +9,7 @@ use Rattle.cell_machine.specs.declared.memory.SharedMemory.{SharedMemory}
 use Rattle.cell_machine.specs.Spe.{Spe, is_faulted}
 use Rattle.cell_machine.specs.Memory.{MainMemory, stored}
 use Rattle.cell_machine.specs.Transfers.{copied}
-use Rattle.cell_machine.specs.Atomic.{holds, fate, fate_of, status_of, reserved_after, line_part, moved, answered, after_atomic, may_atomic, atomic}
+use Rattle.cell_machine.specs.Atomic.{holds, fate, fate_of, status_of, reserved_after, moved, answered, after_atomic, may_atomic, atomic}
 use Rattle.cell_machine.specs.Shows.{ShowsMemory}
 use Rattle.cell_machine.proofs.MemoryShown.{set-same}
 

@@ -14,7 +14,7 @@ use Rattle.mfc_lists.specs.Readings.{next_at as next_of_reading, next_element as
 use Rattle.local_store.specs.Store.{word_at}
 use Rattle.cell_machine.specs.Spe.{Spe, Moves, ElementRead, is_faulted}
 use Rattle.cell_machine.specs.Moves.{read_of, present, whole, is_moved, is_stalled, parts_in, may_begin}
-use Rattle.cell_machine.specs.Transfers.{begins, told, notified, copied, has_part, may_piece, is_put, with_done, after_part, part_in, piece_of, piece, has_element, may_elem, next_at, next_element, after_element, elem, with_read, is_left, may_retire, with_retired, retire, Left}
+use Rattle.cell_machine.specs.Transfers.{begins, told, notified, copied, has_part, may_piece, is_put, with_done, after_part, part_in, piece_of, piece, has_element, may_elem, next_at, next_element, after_element, elem, is_left, may_retire, with_retired, retire}
 use Rattle.lock_lines.specs.Versions.{Reserved}
 use Rattle.cell_machine.specs.Memory.{MainMemory}
 use Rattle.cell_machine.specs.declared.memory.SharedMemory.{SharedMemory}
@@ -181,9 +181,9 @@ piece-made new P memory m reserved store store2 c e k stalls put_it d x may at p
     let Q : Spe = after_part P c e k d in
     let was : Q.store ≡ store = notified-store P (with_done P.moves c e k) c d ∙ same in
     let left : piece_of m P c k d x ≡ copied m Q put_it (part_in x k) =
-        ap (λ n. copied m (after_part P c n k d) (is_put d.kind) (part_in x k)) number ∙ ap (λ b. copied m Q b (part_in x k)) (sym puts) in
+    ap (λ n. copied m (after_part P c n k d) (is_put d.kind) (part_in x k)) number ∙ ap (λ b. copied m Q b (part_in x k)) (sym puts) in
     let spe : ShowsSpe new (copied m Q put_it (part_in x k)).spe =
-        subst (ShowsSpe new) (told-as P store2 (with_done P.moves c e k) c d stalls stalled ∙ sym (stores Q was)) shows in
+    subst (ShowsSpe new) (told-as P store2 (with_done P.moves c e k) c d stalls stalled ∙ sym (stores Q was)) shows in
     rw (piece-on m P c e k d x may at p ∙ ap (λ y. Some y) left) (spe, copies Q was)
 
 -- a command that may be retired isn't moved

@@ -24,13 +24,15 @@ leaves-one : (processors : List Processor) (memory : SharedMemory) (host : Progr
     → Shows processors memory host M → slice_get M.spes p ≡ Some P → IfSome o (λ g. g.spe.reserved ≡ P.reserved) → Gives r o new
     → Leaves r (option_map (λ g. record { state = with_spe M p g.spe; took = g.took }) o) (slice_set processors p new) memory host
 leaves-one processors memory host M p P new None None shows at same given = tt
-leaves-one processors memory host M p P new (Some t) (Some g) shows at same given =
-    (record {
-      spes = two_set ShowsSpe processors M.spes p new g.spe shows.spes given.0;
-      memory_is = subst (ShowsMemory memory M.memory) (sym (map-set (λ (Q : Spe). Q.reserved) M.spes p g.spe ∙ ap (slice_set (reservations M.spes) p) same
-          ∙ set-same (reservations M.spes) p P.reserved (reserved-at M.spes p P at))) shows.memory_is;
-      host_is = shows.host_is;
-    }, given.1)
+leaves-one processors memory host M p P new (Some t) (Some g) shows at same given = (
+  record {
+    spes = two_set ShowsSpe processors M.spes p new g.spe shows.spes given.0;
+    memory_is = subst (ShowsMemory memory M.memory) (sym (map-set (λ (Q : Spe). Q.reserved) M.spes p g.spe ∙ ap (slice_set (reservations M.spes) p) same
+        ∙ set-same (reservations M.spes) p P.reserved (reserved-at M.spes p P at))) shows.memory_is;
+    host_is = shows.host_is;
+  },
+  given.1,
+)
 leaves-one processors memory host M p P new None (Some g) shows at same given = absurd given
 leaves-one processors memory host M p P new (Some t) None shows at same given = absurd given
 

@@ -152,9 +152,9 @@ held-why M s N p line P Q step h =
     next_cases M.memory.versions s p P (Why M s p line P)
     (λ a is at lock next. locked a is at lock (sym (same ∙ ap (at_line after line) next) ∙ h))
     (λ none next.
-        let now : at_line after line P.reserved ≡ true = sym (same ∙ ap (at_line after line) next) ∙ h in
-        let other : stored_by M s ≡ Some line → ⊥ = not-stored M.memory.versions (stored_by M s) line P.reserved step.past step.inside now in
-        stays (λ a l. none a l.0 l.1) (sym (stays-at M.memory.versions (stored_by M s) line P.reserved other) ∙ now) other)
+    let now : at_line after line P.reserved ≡ true = sym (same ∙ ap (at_line after line) next) ∙ h in
+    let other : stored_by M s ≡ Some line → ⊥ = not-stored M.memory.versions (stored_by M s) line P.reserved step.past step.inside now in
+    stays (λ a l. none a l.0 l.1) (sym (stays-at M.memory.versions (stored_by M s) line P.reserved other) ∙ now) other)
   where
     after : List ℕ
     after = raised_by M.memory.versions (stored_by M s)
@@ -186,8 +186,8 @@ held-stays M s N p line P Q step none other h =
     next_cases M.memory.versions s p P (holds N.memory Q line ≡ true)
     (λ a is at lock next. absurd (true≢false (sym lock ∙ none a (is, at))))
     (λ k next.
-        ap (λ v. at_line v line Q.reserved) step.versions ∙ ap (at_line (raised_by M.memory.versions (stored_by M s)) line) (step.reserved ∙ next)
-        ∙ stays-at M.memory.versions (stored_by M s) line P.reserved other ∙ h)
+    ap (λ v. at_line v line Q.reserved) step.versions ∙ ap (at_line (raised_by M.memory.versions (stored_by M s)) line) (step.reserved ∙ next)
+    ∙ stays-at M.memory.versions (stored_by M s) line P.reserved other ∙ h)
 
 -- a line is held after its GETLLAR
 got-held : (M : State) (N : State) (p : ℕ) (P Q : Spe) (a : AtomicOp) → Stepped M (Atomic p) N p P Q → slice_get M.spes p ≡ Some P → P.channels.slot ≡ Some a → a.kind ≡ GetLine → holds N.memory Q a.line ≡ true
@@ -363,6 +363,7 @@ locks-kept m are = record { stores = λ before after s p a e does is. each befor
         let M = f.0 in
         let P = f.1 in
         let at : stored_by M (Atomic p) ≡ stored_by_atomic M.memory P a = rw (f.3, f.4) refl in
-        let two = stores-held M.memory P a is in
-        (λ stores. held-reserved m p a.line are before M P f.2 f.3 (two.0 (sym at ∙ ap (stored_by M) (sym does.step) ∙ stores-here m before s M a.line f.2 stores)),
-         λ reserved. here-stores m before s M a.line f.2 (ap (stored_by M) does.step ∙ at ∙ two.1 (reserved-held m p a.line are before reserved M P f.2 f.3)))
+        let two = stores-held M.memory P a is in (
+          λ stores. held-reserved m p a.line are before M P f.2 f.3 (two.0 (sym at ∙ ap (stored_by M) (sym does.step) ∙ stores-here m before s M a.line f.2 stores)),
+          λ reserved. here-stores m before s M a.line f.2 (ap (stored_by M) does.step ∙ at ∙ two.1 (reserved-held m p a.line are before reserved M P f.2 f.3)),
+        )

@@ -297,13 +297,16 @@ act-stepped S M s K p Q holds e got =
     let at : slice_get M.spes p ≡ Some P = slice_get-get_or M.spes p Q within in
     let seen = act-seen M s K p P e at in
     let same : seen.0 ≡ Q = some_same seen.0 Q (sym seen.1 ∙ got) in
-    let does = (step_acts S M s K holds e).touches in
-    (P, at, record {
-      versions = touched_versions S.lines M.memory K.memory (stored_by M s) does;
-      reserved = seen-reserved M s K p P Q e at got (subst (Seen (lines_of M.memory) s p P) same seen.2);
-      inside = touched_inside S.lines M.memory K.memory (stored_by M s) does holds.versions;
-      past = holds.past p P at;
-    })
+    let does = (step_acts S M s K holds e).touches in (
+      P,
+      at,
+      record {
+        versions = touched_versions S.lines M.memory K.memory (stored_by M s) does;
+        reserved = seen-reserved M s K p P Q e at got (subst (Seen (lines_of M.memory) s p P) same seen.2);
+        inside = touched_inside S.lines M.memory K.memory (stored_by M s) does holds.versions;
+        past = holds.past p P at;
+      },
+    )
 
 -- a version never sinks, and what is reserved now is at its line's version
 grows : (versions : List ℕ) (o : Option ℕ) (line : ℕ) → IsIn versions o → version_of versions line ≤ version_of (raised_by versions o) line

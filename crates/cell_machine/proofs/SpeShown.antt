@@ -1,13 +1,11 @@
 -- What the code's processor shows of its commands.
 use Rattle.std.proofs.Common.{◌≡◌, ◌≢◌, ℕ, zero, suc, ◌+◌, ◌/◌, ◌<◌, ◌≤◌, ◌==◌, ◌&&◌, not, Bool, true, false, List, [], ◌∷◌, length, arith, refl, sym, ◌∙◌, ap, subst, true≢false}
-use Rattle.std.specs.Prelude.{Option, Some, None, IfSome, IfNone, slice_get, slice_index_or, nat_lt, IsSomeAnd, is_some, slice_range}
+use Rattle.std.specs.Prelude.{Option, Some, None, IfSome, IfNone, slice_get, slice_index_or, nat_lt, IsSomeAnd, is_some}
 use Rattle.std.specs.Bool.{OnTrue}
 use Rattle.std.specs.List.{list_all, range_with_len, last_or}
 use Rattle.std.specs.Option.{option_map_or}
 use Rattle.std.proofs.lemmas.Bool.Decides.{nat_tests}
 use Rattle.std.proofs.Math.ListN.{length-map}
-use Rattle.mfc_command.specs.declared.range.Part.{Part}
-use Rattle.cell_base.specs.Bytes.{put}
 use Rattle.tag_groups.specs.declared.TagStatus.{TagStatus}
 use Rattle.mfc_command.specs.declared.command.Command.{Command}
 use Rattle.mfc_command.specs.declared.command.Kind.{Kind}
@@ -21,7 +19,7 @@ use Rattle.mfc_queue.specs.Calls.{Call, issued, is_retired, is_outstanding, outs
 use Rattle.mfc_queue.specs.Stands.{StandsFor, place_in}
 use Rattle.cell_machine.specs.Spe.{Spe, Moves}
 use Rattle.cell_machine.specs.Moves.{read_of, elements_in, elements_of, are_all_there, present, parts_in, whole, is_done, is_finished, is_moved, is_at_rest, was_retired, is_complete, is_complete_as, may_begin, outstanding, busy}
-use Rattle.cell_machine.specs.Transfers.{begins, copied, is_part_left, has_part, has_element, is_left}
+use Rattle.cell_machine.specs.Transfers.{begins, is_part_left, has_part, has_element, is_left}
 use Rattle.cell_machine.specs.Channels.{read_status}
 use Rattle.cell_machine.specs.MovesShown.{ShowsMoves, ShowsLists, AreElements, parts_now, reading}
 use Rattle.cell_machine.specs.Shows.{IsListOf}

@@ -6,9 +6,7 @@ use Rattle.tag_groups.specs.declared.Tags.{Tags}
 use Rattle.tag_groups.specs.declared.Request.{Request}
 use Rattle.tag_groups.specs.Settle.{settled_tags, fixed_at, is_met}
 use Rattle.cell_base.specs.declared.steps.Step.{Step}
-use Rattle.cell_base.specs.declared.steps.Step.TheVariants.{Exec, Elem}
 use Rattle.cell_host.specs.Script.{Progress}
-use Rattle.lock_lines.specs.Versions.{Reserved}
 use Rattle.cell_machine.specs.declared.memory.SharedMemory.{SharedMemory}
 use Rattle.cell_machine.specs.declared.processor.Processor.{Processor}
 use Rattle.cell_machine.specs.Spe.{Spe}

@@ -1,4 +1,4 @@
-use Rattle.std.proofs.Common.{◌≡◌, refl, ◌∙◌}
+use Rattle.std.proofs.Common.{refl, ◌∙◌}
 use Rattle.cell_machine.proofs.MemoryShown.{got-shows}
 use Rattle.cell_machine.proofs.AtomicSteps.{got-store, got-memory, line-store, line-memory, cond-status, cond-store, cond-memory}
 use Rattle.cell_machine.specs.Atomic.{holds}

@@ -1,4 +1,4 @@
-use Rattle.std.proofs.Common.{◌≡◌, refl}
+use Rattle.std.proofs.Common.{refl}
 use Rattle.cell_machine.proofs.MemoryShown.{stored-held, put-stored, put-lost}
 use Rattle.cell_machine.proofs.atomics.put_conditional.Goals as goal
 

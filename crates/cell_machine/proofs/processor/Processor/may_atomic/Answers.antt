@@ -1,4 +1,4 @@
-use Rattle.std.proofs.Common.{◌≡◌, ap, sym, ◌∙◌, not}
+use Rattle.std.proofs.Common.{ap, sym, ◌∙◌, not}
 use Rattle.std.specs.Prelude.{is_some}
 use Rattle.cell_channels.specs.declared.channels.Channels.{Channels}
 use Rattle.cell_machine.specs.Spe.{is_faulted}

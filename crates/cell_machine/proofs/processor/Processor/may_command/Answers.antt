@@ -1,4 +1,4 @@
-use Rattle.std.proofs.Common.{◌-◌, ◌≡◌, not, length, sym, ap, ◌∙◌, rules}
+use Rattle.std.proofs.Common.{◌-◌, length, sym, ap, ◌∙◌, rules}
 use Rattle.std.specs.Prelude.{is_none}
 use Rattle.cell_channels.specs.declared.channels.Channels.{Channels}
 use Rattle.cell_machine.proofs.SpeShown.{outstanding-same}

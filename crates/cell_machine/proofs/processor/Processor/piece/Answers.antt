@@ -1,5 +1,5 @@
-use Rattle.std.proofs.Common.{◌≡◌, ◌+◌, ◌*◌, ◌≤◌, length, arith, refl, sym, ◌∙◌, ap, subst}
-use Rattle.std.specs.Prelude.{is_some, Some}
+use Rattle.std.proofs.Common.{arith, refl, sym, ◌∙◌, ap}
+use Rattle.std.specs.Prelude.{is_some}
 use Rattle.lock_lines.specs.Stands.{line_count}
 use Rattle.cell_machine.specs.Spe.{is_faulted}
 use Rattle.cell_machine.specs.Transfers.{with_done}
@@ -26,7 +26,7 @@ copy-requires-clause-few c =
     let q = s.shows.queue in
     let at = issued-at q.calls s.spe.moves c.args.cmd c.command-command.result q.moves (c.command-command.ensures.command q.calls q.stands) in
     let can = can-copy (line_count c.args.memory.now.locks) 999999 s.spe c.args.cmd c.args.elem c.args.k c.command-command.result c.in-Some.x s.bounded at
-        (sym (c.part_left.ensures.may s.spe.moves q) ∙ ap is_some c.in-Some.is) (c.in-Some.ensures.some s.spe.moves c.command-command.result q at) in
+    (sym (c.part_left.ensures.may s.spe.moves q) ∙ ap is_some c.in-Some.is) (c.in-Some.ensures.some s.spe.moves c.command-command.result q at) in
     can.fits.size
 
 pub copy-requires-clause-store : goal.copy-requires-clause-store
@@ -35,7 +35,7 @@ copy-requires-clause-store c =
     let q = s.shows.queue in
     let at = issued-at q.calls s.spe.moves c.args.cmd c.command-command.result q.moves (c.command-command.ensures.command q.calls q.stands) in
     let can = can-copy (line_count c.args.memory.now.locks) 999999 s.spe c.args.cmd c.args.elem c.args.k c.command-command.result c.in-Some.x s.bounded at
-        (sym (c.part_left.ensures.may s.spe.moves q) ∙ ap is_some c.in-Some.is) (c.in-Some.ensures.some s.spe.moves c.command-command.result q at) in
+    (sym (c.part_left.ensures.may s.spe.moves q) ∙ ap is_some c.in-Some.is) (c.in-Some.ensures.some s.spe.moves c.command-command.result q at) in
     can.fits.store
 
 pub copy-requires-clause-memory : goal.copy-requires-clause-memory
@@ -44,7 +44,7 @@ copy-requires-clause-memory c =
     let q = s.shows.queue in
     let at = issued-at q.calls s.spe.moves c.args.cmd c.command-command.result q.moves (c.command-command.ensures.command q.calls q.stands) in
     let can = can-copy (line_count c.args.memory.now.locks) 999999 s.spe c.args.cmd c.args.elem c.args.k c.command-command.result c.in-Some.x s.bounded at
-        (sym (c.part_left.ensures.may s.spe.moves q) ∙ ap is_some c.in-Some.is) (c.in-Some.ensures.some s.spe.moves c.command-command.result q at) in
+    (sym (c.part_left.ensures.may s.spe.moves q) ∙ ap is_some c.in-Some.is) (c.in-Some.ensures.some s.spe.moves c.command-command.result q at) in
     let fits = can.fits.memory in
     let long = c.args.memory.now.even in
     omega arith
@@ -55,7 +55,7 @@ copy-requires-clause-there c =
     let q = s.shows.queue in
     let at = issued-at q.calls s.spe.moves c.args.cmd c.command-command.result q.moves (c.command-command.ensures.command q.calls q.stands) in
     let can = can-copy (line_count c.args.memory.now.locks) 999999 s.spe c.args.cmd c.args.elem c.args.k c.command-command.result c.in-Some.x s.bounded at
-        (sym (c.part_left.ensures.may s.spe.moves q) ∙ ap is_some c.in-Some.is) (c.in-Some.ensures.some s.spe.moves c.command-command.result q at) in
+    (sym (c.part_left.ensures.may s.spe.moves q) ∙ ap is_some c.in-Some.is) (c.in-Some.ensures.some s.spe.moves c.command-command.result q at) in
     can.within
 
 pub mark-stalls-requires : goal.mark-stalls-requires
@@ -64,7 +64,7 @@ mark-stalls-requires c =
     let q = s.shows.queue in
     let at = issued-at q.calls s.spe.moves c.args.cmd c.command-command.result q.moves (c.command-command.ensures.command q.calls q.stands) in
     let can = can-copy (line_count c.args.memory.now.locks) 999999 s.spe c.args.cmd c.args.elem c.args.k c.command-command.result c.in-Some.x s.bounded at
-        (sym (c.part_left.ensures.may s.spe.moves q) ∙ ap is_some c.in-Some.is) (c.in-Some.ensures.some s.spe.moves c.command-command.result q at) in
+    (sym (c.part_left.ensures.may s.spe.moves q) ∙ ap is_some c.in-Some.is) (c.in-Some.ensures.some s.spe.moves c.command-command.result q at) in
     record { moves = s.spe.moves; command = c.command-command.result; elem = c.args.elem; shows = q; at = at; has = can.has }
 
 pub returns-clause-made : goal.returns-clause-made

@@ -1,5 +1,5 @@
-use Rattle.std.proofs.Common.{◌∙◌, sym, ap, true≢false, refl}
-use Rattle.std.specs.Prelude.{is_some, is_ok, Some, None}
+use Rattle.std.proofs.Common.{◌∙◌, sym, ap, true≢false}
+use Rattle.std.specs.Prelude.{is_some, is_ok, None}
 use Rattle.cell_channels.specs.declared.channels.Channels.{Channels}
 use Rattle.cell_machine.proofs.ChannelSteps.{atomic-off}
 use Rattle.cell_machine.proofs.processor.Processor.read_atomic.Goals as goal
