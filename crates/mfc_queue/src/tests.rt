@@ -231,6 +231,6 @@ fn answers_as_a_plain_queue(rt: HostRuntime) -> Result<(), AllocError> {
         assert_eq!(rt; queue.busy(), busy);
         assert_eq!(rt; queue.outstanding(3), busy / 8 % 2 == 1);
     }
-    assert_eq!(rt; plain.rows.len() > 500, true);
+    assert_eq!(rt; plain.rows.len() >= 1000, true);
     Ok(())
 }
