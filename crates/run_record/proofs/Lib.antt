@@ -2,3 +2,4 @@ pub mod Loop
 pub mod Lines
 pub mod Records
 pub mod Runs
+pub mod Numbers
