@@ -1,3 +1,4 @@
 pub mod Loop
 pub mod Lines
 pub mod Records
+pub mod Runs
