@@ -1,0 +1,4 @@
+pub mod Loop
+pub mod Lines
+pub mod Records
+pub mod Runs

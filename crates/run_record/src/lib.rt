@@ -1,0 +1,12 @@
+//! Records as text: reading one back, and replaying its steps on a machine.
+#![tactic(auto)]
+
+mod error;
+mod reading;
+mod recorded;
+mod replaying;
+
+pub use error::{RecordError, ReplayError};
+pub use reading::read_record;
+pub use recorded::Recorded;
+pub use replaying::replay;
