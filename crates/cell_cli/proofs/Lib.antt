@@ -1,3 +1,5 @@
+pub mod Ends
+pub mod Checks
 pub mod Steps
 pub mod Puts
 pub mod Runs

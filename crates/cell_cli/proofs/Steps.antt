@@ -1,7 +1,7 @@
 -- How a task is followed, step by step.
 use Rattle.std.proofs.Common.{◌≡◌, ℕ, ◌+◌, List, [], ◌∷◌, ◌++◌, drop, Result, Ok, Err, sym, ◌∙◌, ap, subst, inr}
 use Rattle.cell_io.specs.Files.{File}
-use Rattle.cell_io.specs.Store.{Ledger}
+use Rattle.cell_io.specs.Store.{Ledger, FailedAt}
 use Rattle.spu_asm.specs.Images.{Image}
 use Rattle.spu_asm.specs.Assembling.{assembled}
 use Rattle.spu_asm.specs.Outcomes.{Gives}
@@ -20,11 +20,13 @@ use Rattle.cell_load.specs.declared.loading.LoadError.TheVariants.{NotInTable as
 use Rattle.cell_cli.specs.declared.fault.Fault.{Fault}
 use Rattle.cell_cli.specs.declared.fault.Fault.TheVariants.{Usage, ReadFault, WriteFault, TooLong, Machine, Source, NotInTable, BadRecord, NotARun, StatesDiffer, TooLarge, Memory}
 use Rattle.cell_cli.specs.declared.fault.FileId.{FileId}
+use Rattle.cell_cli.specs.declared.fault.FileId.TheVariants as file_id
 use Rattle.cell_cli.specs.Causes.{plan_fault_of, source_fault_of, load_fault_of}
-use Rattle.cell_cli.specs.Task.{Task, read}
+use Rattle.cell_cli.specs.Task.{Task, read, ready, text_of}
 use Rattle.cell_cli.specs.Course.{whole, too_long, given, by_given, if_whole, settled, Reads}
-use Rattle.cell_cli.specs.Forms.{with_image, with_plan, with_setup, source_task, sources_task}
-use Rattle.cell_cli.specs.Answer.{Leads, RefusesIn, Comes}
+use Rattle.cell_cli.specs.Forms.{with_image, with_plan, with_setup, source_task, sources_task, by_verdict}
+use Rattle.cell_cli.specs.Answer.{Leads, RefusesIn, Comes, FailsBy, AtFile, AtMachine, AtMachineOrRecord}
+use Rattle.cell_cli.specs.Checks.{FaultGives}
 
 pub leads_here : (files : List File) (task rest : Task) → task ≡ rest → Leads files task rest
 leads_here files task rest same = record {
@@ -106,3 +108,70 @@ refuses_setup view files loading next old new (NoRowError spe address word) is =
 pub refuses_then : (files : List File) (task rest : Task) (old now new : Ledger) (fault : Fault) → Leads files task rest → now ≡ old → RefusesIn files rest now new fault → RefusesIn files task old new fault
 refuses_then files task rest old now new fault l kept r =
     refuses_after files task rest old new fault l (subst (λ o. RefusesIn files rest o new fault) kept r)
+
+-- ---- a check
+
+-- what was read was checked
+pub leads_verdict : (files : List File) (wanted : Result (List ℕ) Fault) (text : List ℕ) → wanted ≡ Ok text → Leads files (by_verdict wanted) (ready (text_of text))
+leads_verdict files wanted text is = leads_here files _ _ (ap by_verdict is)
+
+pub refuses_verdict : (files : List File) (wanted : Result (List ℕ) Fault) (old new : Ledger) (fault : Fault) → FaultGives fault wanted → RefusesIn files (by_verdict wanted) old new fault
+refuses_verdict files wanted old new Memory is = tt
+refuses_verdict files wanted old new (ReadFault file) is = absurd is
+refuses_verdict files wanted old new Usage is = ap (λ w. settled files (by_verdict w)) is
+refuses_verdict files wanted old new WriteFault is = ap (λ w. settled files (by_verdict w)) is
+refuses_verdict files wanted old new (TooLong file) is = ap (λ w. settled files (by_verdict w)) is
+refuses_verdict files wanted old new (Machine line) is = ap (λ w. settled files (by_verdict w)) is
+refuses_verdict files wanted old new (Source file line kind) is = ap (λ w. settled files (by_verdict w)) is
+refuses_verdict files wanted old new (NotInTable spe address word) is = ap (λ w. settled files (by_verdict w)) is
+refuses_verdict files wanted old new (BadRecord line) is = ap (λ w. settled files (by_verdict w)) is
+refuses_verdict files wanted old new (NotARun at) is = ap (λ w. settled files (by_verdict w)) is
+refuses_verdict files wanted old new (StatesDiffer at) is = ap (λ w. settled files (by_verdict w)) is
+refuses_verdict files wanted old new (TooLarge n) is = ap (λ w. settled files (by_verdict w)) is
+
+-- a reading that failed before the check is that of the machine file, of a source or of the record file
+pub fails_machine : (machine record_file : List ℕ) (old new : Ledger) (fault : Fault) → FailsBy {V = ℕ} (AtMachine machine) old new (Err fault) → FailsBy {V = ℕ} (AtMachineOrRecord machine record_file) old new (Err fault)
+fails_machine machine record_file old new (ReadFault file_id.Machine) is = is
+fails_machine machine record_file old new (ReadFault (file_id.Source i)) is = is
+fails_machine machine record_file old new (ReadFault file_id.Rec) is = absurd is
+fails_machine machine record_file old new Memory is = tt
+fails_machine machine record_file old new Usage is = tt
+fails_machine machine record_file old new WriteFault is = tt
+fails_machine machine record_file old new (TooLong file) is = tt
+fails_machine machine record_file old new (Machine line) is = tt
+fails_machine machine record_file old new (Source file line kind) is = tt
+fails_machine machine record_file old new (NotInTable spe address word) is = tt
+fails_machine machine record_file old new (BadRecord line) is = tt
+fails_machine machine record_file old new (NotARun at) is = tt
+fails_machine machine record_file old new (StatesDiffer at) is = tt
+fails_machine machine record_file old new (TooLarge n) is = tt
+
+pub fails_record : (machine record_file : List ℕ) (old now new : Ledger) (fault : Fault) → now ≡ old → FailsBy {V = ℕ} (AtFile file_id.Rec record_file) now new (Err fault) → FailsBy {V = ℕ} (AtMachineOrRecord machine record_file) old new (Err fault)
+fails_record machine record_file old now new (ReadFault file) kept is =
+    subst (λ f. AtMachineOrRecord machine record_file f old new) (sym is.0) (subst (λ o. FailedAt record_file o new) kept is.1)
+fails_record machine record_file old now new Memory kept is = tt
+fails_record machine record_file old now new Usage kept is = tt
+fails_record machine record_file old now new WriteFault kept is = tt
+fails_record machine record_file old now new (TooLong file) kept is = tt
+fails_record machine record_file old now new (Machine line) kept is = tt
+fails_record machine record_file old now new (Source file line kind) kept is = tt
+fails_record machine record_file old now new (NotInTable spe address word) kept is = tt
+fails_record machine record_file old now new (BadRecord line) kept is = tt
+fails_record machine record_file old now new (NotARun at) kept is = tt
+fails_record machine record_file old now new (StatesDiffer at) kept is = tt
+fails_record machine record_file old now new (TooLarge n) kept is = tt
+
+-- no check fails to read
+pub fails_none : {Y : Type 0} (machine record_file : List ℕ) (old new : Ledger) (wanted : Result Y Fault) (fault : Fault) → FaultGives fault wanted → FailsBy {V = ℕ} (AtMachineOrRecord machine record_file) old new (Err fault)
+fails_none machine record_file old new wanted (ReadFault file) is = absurd is
+fails_none machine record_file old new wanted Memory is = tt
+fails_none machine record_file old new wanted Usage is = tt
+fails_none machine record_file old new wanted WriteFault is = tt
+fails_none machine record_file old new wanted (TooLong file) is = tt
+fails_none machine record_file old new wanted (Machine line) is = tt
+fails_none machine record_file old new wanted (Source file line kind) is = tt
+fails_none machine record_file old new wanted (NotInTable spe address word) is = tt
+fails_none machine record_file old new wanted (BadRecord line) is = tt
+fails_none machine record_file old new wanted (NotARun at) is = tt
+fails_none machine record_file old new wanted (StatesDiffer at) is = tt
+fails_none machine record_file old new wanted (TooLarge n) is = tt

@@ -48,6 +48,11 @@ AtMachine machine Machine old new = FailedAt machine old new
 AtMachine machine (Source i) old new = Rose old.faults new.faults
 AtMachine machine Rec old new = ⊥
 
+-- the machine file, one of its sources, or the record file, under this name
+abbrev pub AtMachineOrRecord : List ℕ → List ℕ → FileId → Ledger → Ledger → Type 0
+AtMachineOrRecord machine record_file Rec old new = FailedAt record_file old new
+AtMachineOrRecord machine record_file file old new = AtMachine machine file old new
+
 -- the sink before and after
 pub record Sinks : Type 0 where
   pub taken : Option (List ℕ)

@@ -5,9 +5,13 @@ use Rattle.spu_asm.specs.declared.error.AsmError.{AsmError}
 use Rattle.spu_asm.specs.declared.error.AsmError.TheVariants.{At, Memory as AsmMemory}
 use Rattle.cell_load.specs.declared.loading.LoadError.{LoadError}
 use Rattle.cell_load.specs.declared.loading.LoadError.TheVariants.{NotInTable as NoRow, Memory as LoadMemory}
+use Rattle.run_record.specs.declared.error.RecordError.{RecordError}
+use Rattle.run_record.specs.declared.error.RecordError.TheVariants as record_error
+use Rattle.run_record.specs.declared.error.ReplayError.{ReplayError}
+use Rattle.run_record.specs.declared.error.ReplayError.TheVariants as replay_error
 use Rattle.cell_cli.specs.declared.fault.FileId.{FileId}
 use Rattle.cell_cli.specs.declared.fault.Fault.{Fault}
-use Rattle.cell_cli.specs.declared.fault.Fault.TheVariants.{Machine, Source, NotInTable, Memory, Usage, WriteFault}
+use Rattle.cell_cli.specs.declared.fault.Fault.TheVariants.{Machine, Source, NotInTable, BadRecord, NotARun, Memory, Usage, WriteFault}
 
 abbrev pub plan_fault_of : PlanError → Fault
 plan_fault_of (BadLine line) = Machine line
@@ -21,6 +25,14 @@ source_fault_of file AsmMemory = Memory
 abbrev pub load_fault_of : LoadError → Fault
 load_fault_of (NoRow spe address word) = NotInTable spe address word
 load_fault_of LoadMemory = Memory
+
+abbrev pub record_fault_of : RecordError → Fault
+record_fault_of (record_error.BadLine line) = BadRecord line
+record_fault_of record_error.Memory = Memory
+
+abbrev pub replay_fault_of : ReplayError → Fault
+replay_fault_of (replay_error.NotARun at) = NotARun at
+replay_fault_of replay_error.Memory = Memory
 
 -- it says something of the input, and nothing of the words or the output
 abbrev pub IsOfInput : Fault → Type 0

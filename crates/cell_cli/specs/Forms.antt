@@ -10,9 +10,11 @@ use Rattle.cell_load.specs.Sources.{Named, sources_of}
 use Rattle.cell_load.specs.Loaded.{loaded, NoRow}
 use Rattle.cell_machine.specs.Opening.{Opening}
 use Rattle.cell_report.specs.Images.{image_lines}
+use Rattle.cell_cli.specs.declared.fault.Fault.{Fault}
 use Rattle.cell_cli.specs.declared.fault.Fault.TheVariants.{Machine as BadMachine, Source as BadSource, NotInTable, Memory}
 use Rattle.cell_cli.specs.declared.fault.FileId.{FileId}
-use Rattle.cell_cli.specs.declared.fault.FileId.TheVariants.{Machine, Source}
+use Rattle.cell_cli.specs.declared.fault.FileId.TheVariants.{Machine, Source, Rec}
+use Rattle.cell_cli.specs.Checks.{checked}
 use Rattle.cell_cli.specs.Task.{Task, refuse, ready, read, run_of, text_of}
 
 -- how long a machine file or a source may be
@@ -55,6 +57,18 @@ machine_task name next = read Machine name text_limit (λ text. with_plan (machi
 -- `run MACHINE`
 abbrev pub run_task : List ℕ → Task
 run_task machine = machine_task machine (λ setup. ready (run_of setup))
+
+-- how long a record file may be
+abbrev pub record_limit : ℕ
+record_limit = 33554432
+
+abbrev pub by_verdict : Result (List ℕ) Fault → Task
+by_verdict (Err fault) = refuse fault
+by_verdict (Ok text) = ready (text_of text)
+
+-- `check MACHINE RECORD`
+abbrev pub check_task : List ℕ → List ℕ → Task
+check_task machine record_file = machine_task machine (λ setup. read Rec record_file record_limit (λ text. by_verdict (checked setup text)))
 
 -- `asm SOURCE`
 abbrev pub asm_task : List ℕ → Task

@@ -3,9 +3,9 @@ use Rattle.std.specs.Prelude.{◌<◌, length}
 use Rattle.cell_cli.specs.declared.job.Job.{Job}
 use Rattle.cell_cli.specs.declared.job.Job.TheVariants.{Run as RunJob, Text}
 use Rattle.cell_cli.specs.declared.words.Form.{Form}
-use Rattle.cell_cli.specs.declared.words.Form.TheVariants.{Run, Asm, NoForm}
+use Rattle.cell_cli.specs.declared.words.Form.TheVariants.{Run, Check, Asm, NoForm}
 use Rattle.cell_cli.specs.Task.{Work, run_of, text_of}
-use Rattle.cell_cli.specs.Words.{Spoken, run, asm, no_form}
+use Rattle.cell_cli.specs.Words.{Spoken, run, check, asm, no_form}
 
 abbrev pub work_of : Job → Work
 work_of (RunJob setup) = run_of setup
@@ -18,5 +18,6 @@ CanBeDone (Text text) = Unit {0}
 
 abbrev pub said : Form → Spoken
 said (Run machine) = run machine.now
+said (Check machine record_file) = check machine.now record_file.now
 said (Asm source) = asm source.now
 said NoForm = no_form

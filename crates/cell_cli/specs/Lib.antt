@@ -1,4 +1,5 @@
 pub mod Task
+pub mod Checks
 pub mod Forms
 pub mod Words
 pub mod Course

@@ -7,13 +7,14 @@ use Rattle.cell_cli.specs.declared.fault.FileId.{FileId}
 use Rattle.cell_cli.specs.declared.fault.FileId.TheVariants.{Source}
 use Rattle.cell_io.specs.Store.{Ledger}
 use Rattle.cell_cli.specs.Task.{Task, refuse}
-use Rattle.cell_cli.specs.Forms.{run_task, asm_task}
+use Rattle.cell_cli.specs.Forms.{run_task, check_task, asm_task}
 use Rattle.cell_cli.specs.Causes.{IsOfInput}
-use Rattle.cell_cli.specs.Answer.{AtFile, AtMachine}
+use Rattle.cell_cli.specs.Answer.{AtFile, AtMachine, AtMachineOrRecord}
 
 -- what the words say
 pub data Spoken : Type 0 where
   run : List ℕ → Spoken
+  check : List ℕ → List ℕ → Spoken
   asm : List ℕ → Spoken
   no_form : Spoken
 
@@ -24,17 +25,20 @@ abbrev pub spoken : List (List ℕ) → Spoken
 spoken [] = no_form
 spoken (form ∷ []) = no_form
 spoken (form ∷ a ∷ []) = if is_word form (codes "run") then run a else if is_word form (codes "asm") then asm a else no_form
-spoken (form ∷ a ∷ b ∷ more) = no_form
+spoken (form ∷ a ∷ b ∷ []) = if is_word form (codes "check") then check a b else no_form
+spoken (form ∷ a ∷ b ∷ c ∷ more) = no_form
 
 -- what they ask for
 abbrev pub task_of : Spoken → Task
 task_of (run machine) = run_task machine
+task_of (check machine record_file) = check_task machine record_file
 task_of (asm source) = asm_task source
 task_of no_form = refuse Usage
 
 -- the files that may fail, and how, whatever the store tells
 abbrev pub FailsIn : Spoken → FileId → Ledger → Ledger → Type 0
 FailsIn (run machine) file old new = AtMachine machine file old new
+FailsIn (check machine record_file) file old new = AtMachineOrRecord machine record_file file old new
 FailsIn (asm source) file old new = AtFile (Source 0) source file old new
 FailsIn no_form file old new = ⊥
 

@@ -1,10 +1,11 @@
 //! What a refusal of a layer is called here.
 
 ghost use Rattle.std.specs.Prelude.{◌≡◌};
-ghost use Rattle.cell_cli.specs.Causes.{plan_fault_of, source_fault_of, load_fault_of, IsOfInput};
+ghost use Rattle.cell_cli.specs.Causes.{plan_fault_of, source_fault_of, load_fault_of, record_fault_of, replay_fault_of, IsOfInput};
 
 use crate::fault::{Fault, FileId};
 use cell_load::{LoadError, PlanError};
+use run_record::{RecordError, ReplayError};
 use spu_asm::AsmError;
 
 pub fn plan_fault(error: PlanError) -> Fault
@@ -34,5 +35,25 @@ pub fn load_fault(error: LoadError) -> Fault
     match error {
         LoadError::NotInTable { spe, address, word } => Fault::NotInTable { spe, address, word },
         LoadError::Memory => Fault::Memory,
+    }
+}
+
+pub fn record_fault(error: RecordError) -> Fault
+    ensures same { result ≡ record_fault_of error }
+    ensures input { IsOfInput result }
+{
+    match error {
+        RecordError::BadLine { line } => Fault::BadRecord { line },
+        RecordError::Memory => Fault::Memory,
+    }
+}
+
+pub fn replay_fault(error: ReplayError) -> Fault
+    ensures same { result ≡ replay_fault_of error }
+    ensures input { IsOfInput result }
+{
+    match error {
+        ReplayError::NotARun { at } => Fault::NotARun { at },
+        ReplayError::Memory => Fault::Memory,
     }
 }

@@ -2,6 +2,7 @@
 #![tactic(auto)]
 
 mod causes;
+mod checking;
 mod fault;
 mod job;
 mod program;

@@ -6,20 +6,24 @@ ghost use Rattle.cell_io.specs.Sink.{FailsWithCause, Takes};
 ghost use Rattle.cell_io.specs.Store.{NoneFell};
 ghost use Rattle.cell_cli.specs.Causes.{IsOfInput};
 ghost use Rattle.cell_cli.specs.Task.{ready, run_of};
-ghost use Rattle.cell_cli.specs.Forms.{run_task, asm_task};
+ghost use Rattle.cell_cli.specs.Forms.{run_task, check_task, asm_task};
 ghost use Rattle.cell_cli.specs.Words.{spoken, task_of, FailsIn, IsPrepared, no_form};
 ghost use Rattle.cell_cli.specs.Jobs.{work_of, CanBeDone};
-ghost use Rattle.cell_cli.specs.Answer.{Answers, AtFile, AtMachine, Comes, Ends, FailsBy, IsComplete, IsExact, IsQuiet, ReadFails};
+ghost use Rattle.cell_cli.specs.Answer.{Answers, AtFile, AtMachine, AtMachineOrRecord, Comes, Ends, FailsBy, IsComplete, IsExact, IsQuiet, ReadFails};
 
+use crate::checking::check_record;
 use crate::fault::{Fault, FileId, Status};
 use crate::job::Job;
-use crate::reading::{read_setup, read_source};
+use crate::reading::{read_file, read_setup, read_source};
 use crate::run::run;
 use crate::words::{Form, form_of};
 use cell_io::{Sink, SinkFault, Store};
 use cell_machine::Setup;
 use cell_report::{image_text, record_text, states_text};
 use std::alloc::Global;
+
+/// How long a record file may be, in bytes.
+const RECORD_LIMIT: usize = 33_554_432;
 
 fn prepare_run<T: Store>(alloc: Global, files: &mut T, machine: &str) -> Result<Job, Fault>
     ensures same { T.files files.new ≡ T.files files.old }
@@ -50,6 +54,26 @@ fn prepare_asm<T: Store>(alloc: Global, files: &mut T, source: &str) -> Result<J
     }
 }
 
+fn prepare_check<T: Store>(
+    alloc: Global,
+    files: &mut T,
+    machine: &str,
+    record_file: &str,
+) -> Result<Job, Fault>
+    ensures same { T.files files.new ≡ T.files files.old }
+    ensures store_count { NoneFell (T.ledger files.old) (T.ledger files.new) }
+    ensures input { IfErr result IsOfInput }
+    ensures can { IfOk result CanBeDone }
+    ensures cause { FailsBy (AtMachineOrRecord machine.now record_file.now) (T.ledger files.old) (T.ledger files.new) result }
+    ensures comes { ForSome (T.files files.old) (λ told.
+        Comes told (check_task machine.now record_file.now) (λ job. ready (work_of job)) (T.ledger files.old) (T.ledger files.new) result) }
+{
+    let setup = read_setup(alloc, files, machine)?;
+    let bytes = read_file(alloc, files, FileId::Rec, record_file, RECORD_LIMIT)?;
+    let text = check_record(alloc, setup, bytes.as_slice())?;
+    Ok(Job::Text { text })
+}
+
 /// Reads the files that the words ask for, and answers the work that is left.
 fn prepare<T: Store>(alloc: Global, words: &[String], files: &mut T) -> Result<Job, Fault>
     ensures same { T.files files.new ≡ T.files files.old }
@@ -62,6 +86,10 @@ fn prepare<T: Store>(alloc: Global, words: &[String], files: &mut T) -> Result<J
 {
     match form_of(words) {
         Form::Run { machine } => prepare_run(alloc, files, machine),
+        Form::Check {
+            machine,
+            record_file,
+        } => prepare_check(alloc, files, machine, record_file),
         Form::Asm { source } => prepare_asm(alloc, files, source),
         Form::NoForm => Err(Fault::Usage),
     }
@@ -139,7 +167,8 @@ fn answer<T: Store, K: Sink>(alloc: Global, words: &[String], files: &mut T, out
 
 #[tactic(auto, using(crate::proofs::Complete::exact, crate::proofs::Complete::complete))]
 /// Does what the words ask for: reads files, and writes to the sink. Refusals are tried in this order: the words, the machine
-/// file (read, length, form), each source in turn (read, length, assembling), the instruction words, the output. Nothing is written before the output.
+/// file (read, length, form), each source in turn (read, length, assembling), the instruction words, the record file (read, length, form,
+/// steps, states), the output. Nothing is written before the output.
 pub fn cell<T: Store, K: Sink>(
     alloc: Global,
     words: &[String],
