@@ -26,8 +26,8 @@ def kind_of(command, folder):
     return "tests" if "--test" in command else "proof"
 
 
-def readings():
-    """(process, crate, kind, seconds used) for each process of the prover that is there now."""
+def readings(gate):
+    """(process, crate, kind, seconds used) for each process of the prover that works for this gate now."""
     for entry in pathlib.Path("/proc").iterdir():
         if not entry.name.isdigit():
             continue
@@ -39,6 +39,8 @@ def readings():
             continue  # it ended meanwhile
         if not command[0].endswith("/rattle") or "--crate-name" not in command:
             continue
+        if not folder.startswith(f"{ROOT}/") and f"rt-edit-{gate.pid}-" not in folder:
+            continue  # it works for another checkout
         crate = command[command.index("--crate-name") + 1]
         used = (int(stat[11]) + int(stat[12])) / TICKS
         yield (entry.name, stat[19]), crate, kind_of(command, folder), used
@@ -49,7 +51,7 @@ def main():
     gate = subprocess.Popen(["rt", "ci", "--anew"], cwd=ROOT, stdout=sys.stderr)
     processes = {}
     while gate.poll() is None:
-        for process, crate, kind, used in readings():
+        for process, crate, kind, used in readings(gate):
             processes[process] = (crate, kind, used)
         time.sleep(1)
 

@@ -2,4 +2,3 @@ pub mod Loop
 pub mod Lines
 pub mod Records
 pub mod Runs
-pub mod Numbers

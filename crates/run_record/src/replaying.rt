@@ -2,7 +2,6 @@
 
 ghost use Rattle.std.specs.Prelude.{◌≡◌, ◌<◌, ℕ, Ok, Err, length, IfOk, IsErrOf};
 ghost use Rattle.cell_machine.specs.Run.{IsRun};
-ghost use Rattle.run_record.specs.Form.{AreSteps};
 ghost use Rattle.run_record.specs.Replayed.{IsRefusedAt, ReplaysOrMemory};
 ghost use Rattle.run_record.specs.declared.error.ReplayError.TheVariants.{NotARun};
 
@@ -17,8 +16,6 @@ pub fn replay(alloc: Global, setup: Setup, steps: &[Step]) -> Result<Machine, Re
     requires { 0 < length setup.entries }
     // Only a run is replayed, and the machine stands for it.
     ensures replayed { IfOk result (λ m. IsRun setup steps.now × (m ≡ record { setup = setup; steps = steps.now })) }
-    // A record can have its steps.
-    ensures recorded { IfOk result (λ m. AreSteps m.steps) }
     // Each run is replayed.
     ensures run { IsRun setup steps.now → ReplaysOrMemory result (Ok (record { setup = setup; steps = steps.now })) }
     // The place is that of the first refused step.

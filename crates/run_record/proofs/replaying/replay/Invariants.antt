@@ -1,15 +1,7 @@
 use Rattle.std.proofs.Common.{◌≡◌, take}
-use Rattle.std.specs.List.{AllByRecursion}
 use Rattle.cell_machine.specs.Run.{IsRun}
-use Rattle.run_record.specs.Form.{InBounds}
-use Rattle.run_record.proofs.Numbers.{IsMade}
 use Rattle.run_record.proofs.replaying.replay.Given as goal
 
--- the machine stands for the steps so far, which are a run, and a record can name each
+-- the machine stands for the steps so far, which are a run
 abbrev pub invariant-loop-step : goal.invariant-loop-step
-invariant-loop-step l = record {
-  stands : l.machine ≡ record { setup = l.fn.setup; steps = take l.step-index l.fn.steps };
-  run : IsRun l.fn.setup (take l.step-index l.fn.steps);
-  made : IsMade l.fn.setup (take l.step-index l.fn.steps);
-  numbers : AllByRecursion InBounds (take l.step-index l.fn.steps);
-}
+invariant-loop-step l = record { stands : l.machine ≡ record { setup = l.fn.setup; steps = take l.step-index l.fn.steps }; run : IsRun l.fn.setup (take l.step-index l.fn.steps) }
