@@ -1,4 +1,5 @@
 pub mod BytesLemmas
+pub mod BitLaws
 pub mod VectorLemmas
 pub mod LaneLemmas
 pub mod Digits

@@ -1,4 +1,5 @@
 pub mod Bytes
+pub mod Bits
 pub mod Lanes
 pub mod Numbers
 pub mod Hex

@@ -11,7 +11,7 @@ use Rattle.mfc_command.specs.declared.command.Command.{Command}
 use Rattle.mfc_command.specs.Order.{goes_before, precedes}
 use Rattle.mfc_queue.specs.declared.Held.{Held}
 use Rattle.mfc_queue.specs.declared.place_set.PlaceSet.{PlaceSet}
-use Rattle.mfc_queue.specs.Sets.{has_bit}
+use Rattle.cell_base.specs.Bits.{has_bit}
 use Rattle.mfc_queue.specs.declared.Queue.{Queue}
 use Rattle.mfc_queue.specs.Calls.{Call, issued, may_begin}
 use Rattle.mfc_queue.specs.Stands.{StandsFor, Holds, Entry, entry, goes_at, KnowsBefore}

@@ -8,8 +8,8 @@ use Rattle.std.proofs.lemmas.Nat.Bits.{bit_at_or, bit_at-lt, bit_at-pow_same, bi
 use Rattle.mfc_command.specs.declared.command.Command.{Command}
 use Rattle.mfc_command.specs.Order.{busy_groups, with_group}
 use Rattle.mfc_queue.specs.Calls.{Call, issued, is_of_tag, outstanding, busy, has_outstanding}
-use Rattle.mfc_queue.specs.Sets.{has_bit}
-use Rattle.mfc_queue.proofs.SetLemmas.{bit-none}
+use Rattle.cell_base.specs.Bits.{has_bit}
+use Rattle.cell_base.proofs.BitLaws.{bit-none}
 
 or_bit : (a b k : ℕ) → has_bit (bit_or a b) k ≡ (has_bit a k || has_bit b k)
 unfolding has_bit

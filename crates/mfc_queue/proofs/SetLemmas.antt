@@ -1,65 +1,14 @@
 -- Sets of numbers, as bits.
-use Rattle.std.proofs.Common.{◌≡◌, ◌≢◌, ℕ, zero, suc, ◌+◌, ◌-◌, ◌*◌, ◌/◌, ◌%◌, ◌^◌, ◌<◌, ◌≤◌, ◌==◌, Bool, true, false, ◌||◌, ◌&&◌, List, [], ◌∷◌, length, slice_index_or, slice_set, bit_and, bit_or, w16, w64, arith, refl, sym, ◌∙◌, ap, subst}
+use Rattle.std.proofs.Common.{◌≡◌, ◌≢◌, ℕ, zero, suc, ◌+◌, ◌-◌, ◌*◌, ◌/◌, ◌%◌, ◌^◌, ◌<◌, ◌≤◌, ◌==◌, Bool, true, false, ◌||◌, ◌&&◌, List, [], ◌∷◌, length, slice_index_or, slice_set, bit_or, w16, w64, arith, refl, sym, ◌∙◌, ap, subst}
 use Rattle.std.specs.Prelude.{nat_le, nat_lt, not}
-use Rattle.std.specs.Int.{Width, bit_at, bit_not, trailing_zeros}
+use Rattle.std.specs.Int.{bit_at, trailing_zeros}
 use Rattle.std.specs.List.{list_all, list_any, range_with_len}
-use mir.Val.{bits}
 use Rattle.std.proofs.lemmas.List.{get_or-set_same, get_or-set_other}
 use Rattle.std.proofs.lemmas.Bool.Decides.{nat_tests}
-use Rattle.std.proofs.lemmas.Nat.Bits.{bit_at-zero, bit_at_set_same, bit_at_set_other, bit_at_clear_same, bit_at_clear_other, bit_at-trailing_zeros, shr_and_one}
-use Rattle.mfc_queue.specs.Sets.{has_bit, has_part}
-
-or_true : (b : Bool) → (b || true) ≡ true
-or_true true = refl
-or_true false = refl
-
-or_false : (b : Bool) → (b || false) ≡ b
-or_false true = refl
-or_false false = refl
-
--- no bit is set in 0
-pub bit-none : (k : ℕ) → has_bit 0 k ≡ false
-unfolding has_bit
-bit-none k = ap (λ b. b == 1) (bit_at-zero k)
-
--- one bit more
-pub bit-set : (w : Width) (n j k : ℕ) → j < bits w → has_bit (bit_or n (1 * 2 ^ j % 2 ^ bits w)) k ≡ (has_bit n k || j == k)
-unfolding has_bit
-bit-set w n j k within = on (j == k) refl
-  where
-    on : (b : Bool) → (j == k) ≡ b → (bit_at (bit_or n (1 * 2 ^ j % 2 ^ bits w)) k == 1) ≡ (bit_at n k == 1 || b)
-    on true e =
-        let same : j ≡ k = grind (arith, nat_tests) in
-        ap (λ b. b == 1) (subst (λ i. bit_at (bit_or n (1 * 2 ^ j % 2 ^ bits w)) i ≡ 1) same (bit_at_set_same w n j within)) ∙ sym (or_true (bit_at n k == 1))
-    on false e =
-        let apart : k ≢ j = grind (arith, nat_tests) in
-        ap (λ b. b == 1) (bit_at_set_other w n j within k apart) ∙ sym (or_false (bit_at n k == 1))
-
-and_true : (b : Bool) → (b && true) ≡ b
-and_true true = refl
-and_true false = refl
-
-and_false : (b : Bool) → (b && false) ≡ false
-and_false true = refl
-and_false false = refl
-
--- one bit less, of sixteen
-pub bit-clear : (n j k : ℕ) → j < 16 → k < 16 → has_bit (bit_and n (bit_not w16 (1 * 2 ^ j % 2 ^ 16))) k ≡ (has_bit n k && not (j == k))
-unfolding has_bit
-bit-clear n j k within low = on (j == k) refl
-  where
-    on : (b : Bool) → (j == k) ≡ b → (bit_at (bit_and n (bit_not w16 (1 * 2 ^ j % 2 ^ 16))) k == 1) ≡ (bit_at n k == 1 && not b)
-    on true e =
-        let same : j ≡ k = grind (arith, nat_tests) in
-        ap (λ b. b == 1) (subst (λ i. bit_at (bit_and n (bit_not w16 (1 * 2 ^ j % 2 ^ 16))) i ≡ 0) same (bit_at_clear_same w16 n j within)) ∙ sym (and_false (bit_at n k == 1))
-    on false e =
-        let apart : k ≢ j = grind (arith, nat_tests) in
-        ap (λ b. b == 1) (bit_at_clear_other w16 n j within k low apart) ∙ sym (and_true (bit_at n k == 1))
-
--- the test of one bit
-pub bit-test : (n k : ℕ) → (bit_and (n / 2 ^ k) 1 == 1) ≡ has_bit n k
-unfolding has_bit
-bit-test n k = ap (λ b. b == 1) (shr_and_one n k)
+use Rattle.std.proofs.lemmas.Nat.Bits.{bit_at-trailing_zeros}
+use Rattle.cell_base.specs.Bits.{has_bit}
+use Rattle.cell_base.proofs.BitLaws.{or_true, or_false, and_false, bit-none, bit-set}
+use Rattle.mfc_queue.specs.Sets.{has_part}
 
 pub part-none : (k : ℕ) → has_part (0 ∷ 0 ∷ 0 ∷ []) k ≡ false
 unfolding has_part

@@ -1,10 +1,6 @@
 -- Sets of numbers, as bits.
-use Rattle.std.specs.Prelude.{ℕ, ◌/◌, ◌%◌, ◌==◌, Bool, List, slice_index_or}
-use Rattle.std.specs.Int.{bit_at}
-
--- whether the bit of value 2^k is 1
-unfoldable pub has_bit : ℕ → ℕ → Bool
-has_bit bits k = bit_at bits k == 1
+use Rattle.std.specs.Prelude.{ℕ, ◌/◌, ◌%◌, Bool, List, slice_index_or}
+use Rattle.cell_base.specs.Bits.{has_bit}
 
 -- whether k is in a set of words of 64 bits, the first of which has 0 to 63
 unfoldable pub has_part : List ℕ → ℕ → Bool

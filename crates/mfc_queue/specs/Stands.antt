@@ -7,7 +7,8 @@ use Rattle.mfc_queue.specs.declared.Held.{Held}
 use Rattle.mfc_queue.specs.declared.place_set.PlaceSet.{PlaceSet}
 use Rattle.mfc_command.specs.declared.command.Command.{Command}
 use Rattle.mfc_command.specs.Order.{precedes}
-use Rattle.mfc_queue.specs.Sets.{has_bit, has_part}
+use Rattle.cell_base.specs.Bits.{has_bit}
+use Rattle.mfc_queue.specs.Sets.{has_part}
 use Rattle.mfc_queue.specs.Calls.{Call, issued, is_retired, is_outstanding, outstanding, parts, is_marked}
 
 -- the command of this number, its parts, and those done

@@ -7,7 +7,7 @@ ghost use Rattle.std.specs.Option.{option_and_then};
 ghost use Rattle.mfc_command.specs.Order.{precedes};
 ghost use Rattle.mfc_queue.specs.Places.{ArePlaces};
 ghost use Rattle.mfc_queue.specs.At.{IsAt};
-ghost use Rattle.mfc_queue.specs.Sets.{has_bit};
+ghost use Rattle.cell_base.specs.Bits.{has_bit};
 ghost use Rattle.mfc_queue.specs.Calls.{Call, Issue, SetParts, Mark, Retire, issued, is_outstanding, outstanding, parts, is_marked, left, all_marked, may_begin, busy, has_outstanding};
 
 mod part_set;

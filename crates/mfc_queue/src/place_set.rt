@@ -1,7 +1,7 @@
 // A set of places of a queue, as bits.
 ghost use Rattle.std.specs.Prelude.{◌≡◌, ℕ, ◌<◌, ◌&&◌, ◌||◌, not, ◌==◌, false};
 ghost use Rattle.std.specs.List.{list_any, range_with_len};
-ghost use Rattle.mfc_queue.specs.Sets.{has_bit};
+ghost use Rattle.cell_base.specs.Bits.{has_bit};
 
 /// A set of places below 16: place k is the bit of value 2^k.
 #[derive(Clone, Copy)]

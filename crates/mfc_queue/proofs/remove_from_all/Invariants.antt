@@ -1,6 +1,6 @@
 use Rattle.std.proofs.Common.{◌≡◌, ℕ, ◌<◌, ◌≤◌, ◌==◌, ◌&&◌, not, length, slice_index_or}
 use Rattle.mfc_queue.specs.declared.place_set.PlaceSet.{PlaceSet}
-use Rattle.mfc_queue.specs.Sets.{has_bit}
+use Rattle.cell_base.specs.Bits.{has_bit}
 use Rattle.mfc_queue.proofs.remove_from_all.Given as goal
 
 abbrev pub invariant-loop-k : goal.invariant-loop-k

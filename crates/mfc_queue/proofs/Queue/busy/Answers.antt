@@ -2,7 +2,7 @@ use Rattle.std.proofs.Common.{ap, sym, ◌∙◌, arith, ◌+◌}
 use Rattle.std.specs.Prelude.{fold, bit_or}
 use Rattle.mfc_command.specs.Order.{with_group}
 use Rattle.mfc_queue.specs.Calls.{issued}
-use Rattle.mfc_queue.specs.Sets.{has_bit}
+use Rattle.cell_base.specs.Bits.{has_bit}
 use Rattle.mfc_queue.proofs.Groups.{busy-groups}
 use Rattle.mfc_queue.proofs.Walks.{numbers_from, numbers-on, numbers-end}
 use Rattle.mfc_queue.proofs.Holding.{busy-is, group-held, held-at, shifted}

@@ -1,7 +1,7 @@
 use Rattle.std.proofs.Common.{◌≡◌, ℕ, ◌==◌, ◌&&◌, take}
 use Rattle.std.specs.List.{list_any}
 use Rattle.mfc_command.specs.Order.{precedes}
-use Rattle.mfc_queue.specs.Sets.{has_bit}
+use Rattle.cell_base.specs.Bits.{has_bit}
 use Rattle.mfc_queue.proofs.Queue.places_before.Given as goal
 
 abbrev pub invariant-loop-i : goal.invariant-loop-i

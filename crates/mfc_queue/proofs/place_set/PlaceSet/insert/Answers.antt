@@ -1,5 +1,5 @@
 use Rattle.std.proofs.Common.{w16}
-use Rattle.mfc_queue.proofs.SetLemmas.{bit-set}
+use Rattle.cell_base.proofs.BitLaws.{bit-set}
 use Rattle.mfc_queue.proofs.place_set.PlaceSet.insert.Goals as goal
 
 pub returns : goal.returns

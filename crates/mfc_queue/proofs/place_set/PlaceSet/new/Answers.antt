@@ -1,4 +1,4 @@
-use Rattle.mfc_queue.proofs.SetLemmas.{bit-none}
+use Rattle.cell_base.proofs.BitLaws.{bit-none}
 use Rattle.mfc_queue.proofs.place_set.PlaceSet.new.Goals as goal
 
 pub returns : goal.returns

@@ -1,4 +1,4 @@
-use Rattle.mfc_queue.proofs.SetLemmas.{bit-clear}
+use Rattle.cell_base.proofs.BitLaws.{bit-clear}
 use Rattle.mfc_queue.proofs.place_set.PlaceSet.remove.Goals as goal
 
 pub returns : goal.returns
