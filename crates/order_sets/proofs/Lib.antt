@@ -1,0 +1,2 @@
+pub mod AnySet
+pub mod SetLaws

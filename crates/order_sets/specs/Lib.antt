@@ -1,0 +1,4 @@
+pub mod Between
+pub mod Facts
+pub mod Holds
+pub mod Stands

@@ -1,0 +1,241 @@
+//! The set of known steps.
+
+ghost use Rattle.std.specs.Prelude.{◌≡◌, ℕ, [], ◌∷◌, ◌++◌, ◌<◌, ◌≤◌, ◌^◌, ◌*◌, ◌+◌, ◌||◌, List, length, OnOk, OnErr, IfOk, max, nat_lt, slice_index, ◌≢◌};
+ghost use Rattle.std.specs.List.{list_any};
+ghost use Rattle.order_sets.specs.declared.facts.At.{At};
+ghost use Rattle.order_sets.specs.declared.facts.Fact.{Fact};
+ghost use Rattle.order_sets.specs.Between.{IsBetween};
+ghost use Rattle.order_sets.specs.Facts.{covers, is_at};
+ghost use Rattle.order_sets.specs.Holds.{in_run, in_part};
+ghost use Rattle.order_sets.specs.Stands.{has_at, holds_at, StandsFor, Fits, AreAlike};
+
+use crate::facts::{At, Fact};
+use crate::ones;
+use crate::parts::{self, Part};
+use crate::run::Run;
+use crate::runs;
+use std::alloc::{AllocError, AllocFailed, Global};
+use thiserror::Error;
+
+/// A call found no memory.
+#[derive(Clone, Copy, Debug, PartialEq, Eq, Error)]
+pub enum KnownError {
+    #[error("out of memory")]
+    Memory,
+}
+
+impl From<AllocError> for KnownError {
+    fn from(_: AllocError) -> KnownError {
+        KnownError::Memory
+    }
+}
+
+impl<T: Drop> From<AllocFailed<T>> for KnownError {
+    fn from(_: AllocFailed<T>) -> KnownError {
+        KnownError::Memory
+    }
+}
+
+/// A set of steps, which stands for a list of facts: it has the steps that one of them covers.
+#[derive(Drop)]
+pub struct Known {
+    // of each chain one more than the last place that is known, or 0
+    ends: Vec<u32>,
+    runs: Vec<Run>,
+    parts: Vec<Part>,
+    ones: Vec<At>,
+}
+
+/// Whether the step stands below its chain's end.
+fn is_below(ends: &[u32], at: At) -> bool
+    requires { at.chain < length ends.now }
+    ensures { result ≡ nat_lt at.place (slice_index ends.now at.chain) }
+{
+    at.place < ends[usize::from(at.chain)]
+}
+
+/// Raises each end to that of the other set.
+fn raise_all(ends: &mut [u32], other: &[u32])
+    requires { length ends.old ≡ length other.now }
+    ensures { (k : ℕ) → slice_index ends.new k ≡ max (slice_index ends.old k) (slice_index other.now k) }
+{
+    for i in 0..other.len() {
+        ends[i] = ends[i].max(other[i]);
+    }
+}
+
+/// Raises the end of the chain to behind the place.
+fn raise(ends: &mut [u32], chain: u8, place: u32)
+    requires chain { chain < length ends.old }
+    requires place { place + 1 < 2 ^ 32 }
+    ensures here { slice_index ends.new chain ≡ max (slice_index ends.old chain) (place + 1) }
+    ensures others { (k : ℕ) → k ≢ chain → slice_index ends.new k ≡ slice_index ends.old k }
+{
+    let end = &mut ends[usize::from(chain)];
+    *end = (*end).max(place + 1);
+}
+
+/// Adds the other runs; where there is no memory, some of them.
+fn join_runs(runs: &mut Vec<Run>, other: &[Run]) -> Result<(), AllocError>
+    ensures ok { OnOk result ((at : At) → list_any (in_run at) runs.new.items ≡ (list_any (in_run at) runs.old.items || list_any (in_run at) other.now)) }
+    ensures err { OnErr result ((at : At) → IsBetween (list_any (in_run at) runs.old.items) (list_any (in_run at) other.now) (list_any (in_run at) runs.new.items)) }
+{
+    for r in other {
+        runs::add(runs, *r)?;
+    }
+    Ok(())
+}
+
+/// Adds the other elements; where there is no memory, some of them.
+fn join_parts(parts: &mut Vec<Part>, other: &[Part]) -> Result<(), AllocError>
+    ensures ok { OnOk result ((at : At) → list_any (in_part at) parts.new.items ≡ (list_any (in_part at) parts.old.items || list_any (in_part at) other.now)) }
+    ensures err { OnErr result ((at : At) → IsBetween (list_any (in_part at) parts.old.items) (list_any (in_part at) other.now) (list_any (in_part at) parts.new.items)) }
+{
+    for p in other {
+        parts::add(parts, *p)?;
+    }
+    Ok(())
+}
+
+/// Adds the other steps; where there is no memory, some of them.
+fn join_ones(ones: &mut Vec<At>, other: &[At]) -> Result<(), AllocError>
+    ensures ok { OnOk result ((at : At) → list_any (λ a. is_at a at) ones.new.items ≡ (list_any (λ a. is_at a at) ones.old.items || list_any (λ a. is_at a at) other.now)) }
+    ensures err { OnErr result ((at : At) → IsBetween (list_any (λ a. is_at a at) ones.old.items) (list_any (λ a. is_at a at) other.now) (list_any (λ a. is_at a at) ones.new.items)) }
+{
+    for o in other {
+        ones::add(ones, *o)?;
+    }
+    Ok(())
+}
+
+/// Whether a run has the command.
+fn has_command(runs: &[Run], chain: u8, cmd: u32) -> bool
+    ensures { (elem place : ℕ) → result ≡ list_any (in_run (record { chain = chain; cmd = cmd; elem = elem; place = place })) runs.now }
+{
+    runs::has(
+        runs,
+        At {
+            chain,
+            cmd,
+            elem: 0,
+            place: 0,
+        },
+    )
+}
+
+/// Drops the elements of commands that a run has whole.
+fn drop_parts(parts: &mut Vec<Part>, runs: &[Run])
+    ensures { (at : At) → (list_any (in_run at) runs.now || list_any (in_part at) parts.new.items) ≡ (list_any (in_run at) runs.now || list_any (in_part at) parts.old.items) }
+{
+    parts.retain(|p| !has_command(runs, p.chain, p.cmd));
+}
+
+/// Drops the steps of commands that a run has whole.
+fn drop_ones(ones: &mut Vec<At>, runs: &[Run])
+    ensures { (at : At) → (list_any (in_run at) runs.now || list_any (λ a. is_at a at) ones.new.items) ≡ (list_any (in_run at) runs.now || list_any (λ a. is_at a at) ones.old.items) }
+{
+    ones.retain(|o| !has_command(runs, o.chain, o.cmd));
+}
+
+impl Known {
+    /// The empty set, for the chains of `spes` processors, 1 to 16.
+    pub fn new(alloc: Global, spes: u8) -> Result<Known, KnownError>
+        requires { (1 ≤ spes) × (spes ≤ 16) }
+        ensures empty { IfOk result (λ known. StandsFor known []) }
+        ensures chains { IfOk result (λ known. length known.ends.items ≡ 3 * spes + 1) }
+    {
+        let ends = vec![in alloc; 0u32; 3 * usize::from(spes) + 1]?;
+        Ok(Known {
+            ends,
+            runs: Vec::new(alloc),
+            parts: Vec::new(alloc),
+            ones: Vec::new(alloc),
+        })
+    }
+
+    /// Whether the step, which is of a chain that the set has, is in the set: exactly where a fact for which it stands covers it.
+    pub fn has(&self, at: At) -> bool
+        requires { at.chain < length self.now.ends.items }
+        ensures has { result ≡ has_at self.now at }
+        ensures covered { (facts : List Fact) → StandsFor self.now facts → result ≡ list_any (λ f. covers f at) facts }
+    {
+        is_below(self.ends.as_slice(), at) || self.holds(at)
+    }
+
+    /// Whether the step is in the set, its chain's end aside.
+    fn holds(&self, at: At) -> bool
+        ensures { result ≡ holds_at self.now at }
+    {
+        runs::has(self.runs.as_slice(), at)
+            || parts::has(self.parts.as_slice(), at)
+            || ones::has(self.ones.as_slice(), at)
+    }
+
+    /// Adds a fact, whose chain the set has and whose place is below 4,294,967,295. Where there is no memory, the set stays as it is.
+    pub fn add(&mut self, f: Fact) -> Result<(), KnownError>
+        requires { Fits self.old f }
+        ensures stands { (facts : List Fact) → StandsFor self.old facts → OnOk result (StandsFor self.new (facts ++ f ∷ [])) }
+        ensures ok { OnOk result ((at : At) → has_at self.new at ≡ (has_at self.old at || covers f at)) }
+        ensures chains { length self.new.ends.items ≡ length self.old.ends.items }
+        ensures err { OnErr result ((at : At) → has_at self.new at ≡ has_at self.old at) }
+    {
+        self.put(f)?;
+        self.drop_covered();
+        Ok(())
+    }
+
+    /// Puts in what a fact covers. Where there is no memory, the set stays as it is.
+    fn put(&mut self, f: Fact) -> Result<(), AllocError>
+        requires { Fits self.old f }
+        ensures ok { OnOk result ((at : At) → has_at self.new at ≡ (has_at self.old at || covers f at)) }
+        ensures chains { length self.new.ends.items ≡ length self.old.ends.items }
+        ensures err { OnErr result ((at : At) → has_at self.new at ≡ has_at self.old at) }
+    {
+        match f {
+            Fact::Upto { chain, place } => raise(self.ends.as_mut_slice(), chain, place),
+            Fact::Whole { chain, cmd } => runs::add(&mut self.runs, runs::single(chain, cmd))?,
+            Fact::Elements { chain, cmd, below } => {
+                parts::add(&mut self.parts, Part { chain, cmd, below })?
+            }
+            Fact::One { at } => ones::add(&mut self.ones, at)?,
+        }
+        Ok(())
+    }
+
+    /// Adds what the other set has, which was made for the same number of processors. Where there is no memory, the set has what it
+    /// had and some of that.
+    pub fn join(&mut self, other: &Known) -> Result<(), KnownError>
+        requires { AreAlike self.old other.now }
+        ensures stands { (facts more : List Fact) → StandsFor self.old facts → StandsFor other.now more → OnOk result (StandsFor self.new (facts ++ more)) }
+        ensures ok { OnOk result ((at : At) → has_at self.new at ≡ (has_at self.old at || has_at other.now at)) }
+        ensures chains { length self.new.ends.items ≡ length self.old.ends.items }
+        ensures err { OnErr result ((at : At) → IsBetween (has_at self.old at) (has_at other.now at) (has_at self.new at)) }
+    {
+        self.unite(other)?;
+        self.drop_covered();
+        Ok(())
+    }
+
+    /// Puts in all that the other set has. Where there is no memory, the set has what it had and some of that.
+    fn unite(&mut self, other: &Known) -> Result<(), AllocError>
+        requires { AreAlike self.old other.now }
+        ensures ok { OnOk result ((at : At) → has_at self.new at ≡ (has_at self.old at || has_at other.now at)) }
+        ensures chains { length self.new.ends.items ≡ length self.old.ends.items }
+        ensures err { OnErr result ((at : At) → IsBetween (has_at self.old at) (has_at other.now at) (has_at self.new at)) }
+    {
+        join_runs(&mut self.runs, &other.runs)?;
+        join_parts(&mut self.parts, &other.parts)?;
+        join_ones(&mut self.ones, &other.ones)?;
+        raise_all(self.ends.as_mut_slice(), other.ends.as_slice());
+        Ok(())
+    }
+
+    /// Drops what the runs of whole commands have anyway.
+    fn drop_covered(&mut self)
+        ensures same { (at : At) → has_at self.new at ≡ has_at self.old at }
+        ensures ends { self.new.ends ≡ self.old.ends }
+    {
+        drop_parts(&mut self.parts, &self.runs);
+        drop_ones(&mut self.ones, &self.runs);
+    }
+}

@@ -1,0 +1,93 @@
+//! Runs of whole commands.
+
+ghost use Rattle.std.specs.Prelude.{◌≡◌, ℕ, ◌||◌, true, IsTrue, ◌↔◌, OnOk, OnErr};
+ghost use Rattle.std.specs.List.{list_any};
+ghost use Rattle.order_sets.specs.declared.facts.At.{At};
+ghost use Rattle.order_sets.specs.declared.facts.Fact.TheVariants.{Whole};
+ghost use Rattle.order_sets.specs.Facts.{covers};
+ghost use Rattle.order_sets.specs.Holds.{in_run, is_inside, Touch};
+
+use crate::facts::At;
+use crate::run::Run;
+use std::alloc::AllocError;
+
+/// The run of one command.
+pub(crate) fn single(chain: u8, cmd: u32) -> Run
+    ensures { (at : At) → in_run at result ≡ covers (Whole chain cmd) at }
+{
+    Run {
+        chain,
+        first: cmd,
+        last: cmd,
+    }
+}
+
+/// Whether a run has the step's command.
+pub(crate) fn has(runs: &[Run], at: At) -> bool
+    ensures { result ≡ list_any (in_run at) runs.now }
+{
+    runs.iter().any(|r| r.chain == at.chain && r.first <= at.cmd && at.cmd <= r.last)
+}
+
+/// Whether the two runs overlap, or the one goes on from the other.
+fn touch(a: &Run, b: &Run) -> bool
+    ensures { IsTrue result ↔ Touch a.now b.now }
+{
+    a.chain == b.chain
+        && u64::from(a.first) <= u64::from(b.last) + 1
+        && u64::from(b.first) <= u64::from(a.last) + 1
+}
+
+/// Whether the first run has no command that the second one hasn't.
+fn is_inside(inner: &Run, outer: &Run) -> bool
+    ensures { result ≡ is_inside outer.now inner.now }
+{
+    inner.chain == outer.chain && outer.first <= inner.first && inner.last <= outer.last
+}
+
+/// The run that has what either of two runs has.
+fn merged(a: &Run, b: &Run) -> Run
+    requires { Touch a.now b.now }
+    ensures { (at : At) → in_run at result ≡ (in_run at a.now || in_run at b.now) }
+{
+    Run {
+        chain: a.chain,
+        first: a.first.min(b.first),
+        last: a.last.max(b.last),
+    }
+}
+
+/// The run together with those that it touches, one after the other.
+fn grown(runs: &[Run], run: Run) -> Run
+    ensures more { (at : At) → in_run at run ≡ true → in_run at result ≡ true }
+    ensures only { (at : At) → in_run at result ≡ true → (list_any (in_run at) runs.now || in_run at run) ≡ true }
+{
+    let mut whole = run;
+    for r in runs {
+        if touch(r, &whole) {
+            whole = merged(r, &whole);
+        }
+    }
+    whole
+}
+
+/// Whether one of the runs has no command less than this one.
+fn covers(runs: &[Run], run: &Run) -> bool
+    ensures { IsTrue result → (at : At) → in_run at run.now ≡ true → list_any (in_run at) runs.now ≡ true }
+{
+    runs.iter().any(|r| is_inside(run, r))
+}
+
+/// Adds a run, which takes in those that it touches. Where there is no memory, all stays as it is.
+pub(crate) fn add(runs: &mut Vec<Run>, run: Run) -> Result<(), AllocError>
+    ensures ok { OnOk result ((at : At) → list_any (in_run at) runs.new.items ≡ (list_any (in_run at) runs.old.items || in_run at run)) }
+    ensures err { OnErr result (runs.new.items ≡ runs.old.items) }
+{
+    if covers(runs.as_slice(), &run) {
+        return Ok(());
+    }
+    let whole = grown(runs.as_slice(), run);
+    runs.push(whole)?;
+    runs.retain(|r| !is_inside(r, &whole) || is_inside(&whole, r));
+    Ok(())
+}
