@@ -32,3 +32,4 @@ pub mod StepSame
 pub mod StateBytes
 pub mod HostBytes
 pub mod EffectBytes
+pub mod EffectsFitted
