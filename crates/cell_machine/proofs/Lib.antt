@@ -25,3 +25,11 @@ pub mod MemoryShown
 pub mod AtomicSteps
 pub mod LocksKept
 pub mod LocksRun
+pub mod BytesLaws
+pub mod StoreFree
+pub mod StepBytes
+pub mod StepSame
+pub mod StateBytes
+pub mod HostBytes
+pub mod EffectBytes
+pub mod EffectsFitted

@@ -19,3 +19,8 @@ pub mod Order
 pub mod Lists
 pub mod Locks
 pub mod Shows
+pub mod Effects
+pub mod Written
+pub mod EffectLaws
+pub mod Sound
+pub mod ByteRuns

@@ -4,6 +4,7 @@
 mod atomics;
 mod channels;
 mod commands;
+mod effect;
 mod error;
 mod hosts;
 mod machine;
@@ -15,6 +16,7 @@ mod transfers;
 mod walks;
 
 pub use cell_host::{Host, HostAction, Took};
+pub use effect::{Effect, Note, Place, Span};
 pub use error::MachineError;
 pub use machine::Machine;
 pub use mfc_command::DmaFault;
