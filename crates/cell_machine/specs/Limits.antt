@@ -1,5 +1,5 @@
 -- The limits of a setup.
-use Rattle.std.specs.Prelude.{ℕ, ◌+◌, ◌*◌, ◌%◌, ◌<◌, ◌≤◌, List, map, length, All}
+use Rattle.std.specs.Prelude.{◌≡◌, ℕ, ◌+◌, ◌*◌, ◌%◌, ◌<◌, ◌≤◌, List, map, length, All}
 use Rattle.spu_exec.specs.Places.{IsPlace}
 use Rattle.cell_host.specs.declared.HostAction.{HostAction}
 use Rattle.cell_host.specs.declared.HostAction.TheVariants.{Send, Take, TakeIntr, Store, Await}
@@ -28,12 +28,12 @@ FitsStore spes x = (x.spe < spes) × (x.at + length x.bytes ≤ 262144)
 abbrev pub FitsMemory : ℕ → InMemory → Type 0
 FitsMemory lines x = x.at + length x.bytes ≤ 128 * lines
 
--- the processor is there; a store has 1 to 16 bytes, within one line of memory that is there
+-- the processor is there; a store has the first 1 to 16 of 16 bytes, within one line of memory that is there
 abbrev pub FitsAction : ℕ → ℕ → HostAction → Type 0
 FitsAction lines spes (Send spe value) = spe < spes
 FitsAction lines spes (Take spe) = spe < spes
 FitsAction lines spes (TakeIntr spe) = spe < spes
-FitsAction lines spes (Store ea len bytes) = (0 < len) × (len ≤ 16) × (ea % 128 + len ≤ 128) × (ea + len ≤ 128 * lines)
+FitsAction lines spes (Store ea len bytes) = (0 < len) × (len ≤ 16) × (ea % 128 + len ≤ 128) × (ea + len ≤ 128 * lines) × (length bytes ≡ 16)
 FitsAction lines spes (Await spe) = spe < spes
 
 -- one more action may be done
