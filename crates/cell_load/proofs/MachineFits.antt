@@ -70,14 +70,16 @@ action_within c (Take spe) is = let there : nat_lt spe c.spes ≡ true = is in g
 action_within c (TakeIntr spe) is = let there : nat_lt spe c.spes ≡ true = is in grind (arith, nat_tests)
 action_within c (Await spe) is = let there : nat_lt spe c.spes ≡ true = is in grind (arith, nat_tests)
 action_within c (Store ea len bytes) is =
-    let m = both (nat_le 1 len && nat_le len 16 && nat_le (ea % 128 + len) 128) (in_memory c.lines ea len) is in
+    let b = both (nat_le 1 len && nat_le len 16 && nat_le (ea % 128 + len) 128 && in_memory c.lines ea len) (length bytes == 16) is in
+    let m = both (nat_le 1 len && nat_le len 16 && nat_le (ea % 128 + len) 128) (in_memory c.lines ea len) b.0 in
     let l = both (nat_le 1 len && nat_le len 16) (nat_le (ea % 128 + len) 128) m.0 in
     let n = both (nat_le 1 len) (nat_le len 16) l.0 in
     let some : nat_le 1 len ≡ true = n.0 in
     let few : nat_le len 16 ≡ true = n.1 in
     let line : nat_le (ea % 128 + len) 128 ≡ true = l.1 in
     let low : nat_le (ea + len) (128 * c.lines) ≡ true = m.1 in
-    (grind (arith, nat_tests), grind (arith, nat_tests), grind (arith, nat_tests), grind (arith, nat_tests))
+    let full : (length bytes == 16) ≡ true = b.1 in
+    (grind (arith, nat_tests), grind (arith, nat_tests), grind (arith, nat_tests), grind (arith, nat_tests), grind (arith, nat_tests))
 
 counted-within : (c : Counts) (e : Entry) (d : Counts) → counted c e ≡ Ok d → Within c e
 unfolding counted

@@ -38,13 +38,13 @@ is_shown len = nat_le 1 len && nat_le len 4096
 abbrev pub has_spe : Counts → Bool
 has_spe c = nat_lt 0 c.spes
 
--- the processor of a host action came before, or its bytes lie within one line
+-- the processor of a host action came before, or the bytes that it stores, of the 16 that it holds, lie within one line
 abbrev pub fits_action : Counts → HostAction → Bool
 fits_action c (Send spe value) = nat_lt spe c.spes
 fits_action c (Take spe) = nat_lt spe c.spes
 fits_action c (TakeIntr spe) = nat_lt spe c.spes
 fits_action c (Await spe) = nat_lt spe c.spes
-fits_action c (Store ea len bytes) = in_line c.lines ea len
+fits_action c (Store ea len bytes) = in_line c.lines ea len && length bytes == 16
 
 -- no line behind the first three, of which the second gave so many lines of memory
 abbrev pub nothing : ℕ → Counts
