@@ -25,3 +25,4 @@ pub mod MemoryShown
 pub mod AtomicSteps
 pub mod LocksKept
 pub mod LocksRun
+pub mod Recorded
