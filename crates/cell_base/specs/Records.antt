@@ -1,6 +1,6 @@
 -- A record of steps as text, format 1, and its one spelling.
-use Rattle.std.specs.Prelude.{ℕ, List, [], ◌∷◌, ◌++◌, length, codes}
-use Rattle.std.specs.List.{flat_map}
+use Rattle.std.specs.Prelude.{ℕ, ◌≤◌, List, [], ◌∷◌, ◌++◌, length, codes}
+use Rattle.std.specs.List.{flat_map, AllByRecursion}
 use Rattle.std.specs.Fmt.{decimal}
 use Rattle.cell_base.specs.declared.steps.Step.{Step}
 use Rattle.cell_base.specs.declared.steps.Step.TheVariants.{Exec, Piece, Elem, Retire, Atomic, Host}
@@ -49,3 +49,16 @@ count_line n = codes "steps" ++ field n ++ line_feed
 -- the one spelling of the steps
 abbrev pub spelling : List Step → List ℕ
 spelling steps = head_line ++ flat_map step_line steps ++ count_line (length steps)
+
+-- the bounds of the numbers in a step's line
+abbrev pub InBounds : Step → Type 0
+InBounds (Exec p) = p ≤ 15
+InBounds (Piece p c e k) = (p ≤ 15) × (c ≤ 999999) × (e ≤ 2047) × (k ≤ 128)
+InBounds (Elem p c) = (p ≤ 15) × (c ≤ 999999)
+InBounds (Retire p c) = (p ≤ 15) × (c ≤ 999999)
+InBounds (Atomic p) = p ≤ 15
+InBounds Host = Unit {0}
+
+-- the steps that a record can have
+abbrev pub AreSteps : List Step → Type 0
+AreSteps steps = (length steps ≤ 1000000) × AllByRecursion InBounds steps

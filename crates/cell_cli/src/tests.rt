@@ -1,7 +1,11 @@
-// What the program answers where the outside fails, and what went out by then.
+// What the program answers where the outside fails, and what went out by then; and what a copy of a setup is good for.
 use crate::fault::{Fault, FileId, Status};
 use crate::program::cell;
+use crate::reading::read_setup;
+use crate::run::run;
 use cell_io::{Cut, MemFile, MemSink, MemStore};
+use cell_report::states_text;
+use run_record::replay;
 use std::alloc::{AllocError, Global};
 use std::test::Fail;
 
@@ -12,7 +16,7 @@ const RECORD: &str = "cell-record 1\nx 0\nsteps 1\n";
 
 const STATES: &str = "end AllStopped\nspe 0 stopped 0x0007 pc 0x00004 queued 0\nhost 0 of 0\n";
 
-/// The files `m` and `s`. The fetches of these numbers fail.
+/// The files `m` and `s`, and the record `r`. The fetches of these numbers fail.
 pub(crate) fn files(
     alloc: Global,
     machine: &str,
@@ -20,37 +24,54 @@ pub(crate) fn files(
     failing: Vec<u32>,
 ) -> Result<MemStore, AllocError> {
     let mut files = Vec::new(alloc);
-    files.push(MemFile {
-        name: String::from_str(alloc, "m")?,
-        bytes: machine.as_bytes().to_vec(alloc)?,
-    })?;
-    files.push(MemFile {
-        name: String::from_str(alloc, "s")?,
-        bytes: source.as_bytes().to_vec(alloc)?,
-    })?;
+    for (name, text) in [("m", machine), ("s", source), ("r", RECORD)] {
+        files.push(MemFile {
+            name: String::from_str(alloc, name)?,
+            bytes: text.as_bytes().to_vec(alloc)?,
+        })?;
+    }
     Ok(MemStore::new(files, failing))
 }
 
-/// The answer to `run m`, and what went out.
-fn told(alloc: Global, fetches: Vec<u32>, puts: Vec<Cut>) -> Result<(Status, MemSink), Fail> {
+const RUN: [&str; 2] = ["run", "m"];
+
+const CHECK: [&str; 3] = ["check", "m", "r"];
+
+/// The answer to these words, and what went out.
+fn told(
+    alloc: Global,
+    words: &[&str],
+    fetches: Vec<u32>,
+    puts: Vec<Cut>,
+) -> Result<(Status, MemSink), Fail> {
     let mut files = files(alloc, MACHINE, "stop 7", fetches)?;
     let mut out = MemSink::new(alloc, 100, puts)?;
-    let words = [
-        String::from_str(alloc, "run")?,
-        String::from_str(alloc, "m")?,
-    ];
-    let status = cell(alloc, &words, &mut files, &mut out);
+    let mut spoken = Vec::new(alloc);
+    for word in words {
+        spoken.push(String::from_str(alloc, word)?)?;
+    }
+    let status = cell(alloc, spoken.as_slice(), &mut files, &mut out);
     Ok((status, out))
 }
 
 #[test]
 fn a_fetch_that_fails_names_its_file(rt: HostRuntime) -> Result<(), Fail> {
     let alloc = rt.alloc();
-    let named = [FileId::Machine, FileId::Source(0), FileId::Source(1)];
+    let named = [
+        FileId::Machine,
+        FileId::Source(0),
+        FileId::Source(1),
+        FileId::Rec,
+    ];
     for (call, file) in named.into_iter().enumerate() {
-        let (status, out) = told(alloc, vec![in alloc; call as u32]?, Vec::new(alloc))?;
-        assert_eq!(rt; status, Status::Refused(Fault::ReadFault { file }));
+        let wanted = Status::Refused(Fault::ReadFault { file });
+        let (status, out) = told(alloc, &CHECK, vec![in alloc; call as u32]?, Vec::new(alloc))?;
+        assert_eq!(rt; status, wanted);
         assert_eq!(rt; out.bytes(), b"".as_slice());
+        // A run reads no record.
+        let (status, _) = told(alloc, &RUN, vec![in alloc; call as u32]?, Vec::new(alloc))?;
+        let done = file == FileId::Rec;
+        assert_eq!(rt; status, if done { Status::Done } else { wanted });
     }
     Ok(())
 }
@@ -59,14 +80,50 @@ fn a_fetch_that_fails_names_its_file(rt: HostRuntime) -> Result<(), Fail> {
 fn a_put_that_fails_is_told(rt: HostRuntime) -> Result<(), Fail> {
     let alloc = rt.alloc();
     let whole = format!(in alloc; "{RECORD}{STATES}")?;
-    let (status, out) = told(alloc, Vec::new(alloc), Vec::new(alloc))?;
+    let (status, out) = told(alloc, &RUN, Vec::new(alloc), Vec::new(alloc))?;
     assert_eq!(rt; status, Status::Done);
     assert_eq!(rt; out.bytes(), whole.as_bytes());
     // The record is put first, and then the states.
     for (call, bytes, taken) in [(0, 0, 0), (0, 5, 5), (1, 0, 26), (1, 5, 31)] {
-        let (status, out) = told(alloc, Vec::new(alloc), vec![in alloc; Cut { call, bytes }]?)?;
+        let (status, out) = told(
+            alloc,
+            &RUN,
+            Vec::new(alloc),
+            vec![in alloc; Cut { call, bytes }]?,
+        )?;
         assert_eq!(rt; status, Status::Refused(Fault::WriteFault));
         assert_eq!(rt; Some(out.bytes()), whole.as_bytes().get(..taken));
     }
+    for (bytes, taken) in [(0, 0), (5, 5)] {
+        let cut = vec![in alloc; Cut { call: 0, bytes }]?;
+        let (status, out) = told(alloc, &CHECK, Vec::new(alloc), cut)?;
+        assert_eq!(rt; status, Status::Refused(Fault::WriteFault));
+        assert_eq!(rt; Some(out.bytes()), b"replayed 1\n".get(..taken));
+    }
+    Ok(())
+}
+
+/// Two processors raise a counter in memory three times each; each tells the last number that it wrote. Bytes are placed in stores and in memory.
+const COUNTER: &str =
+    "cell-machine 1\nlines 2\nbudget 1000\nspe\nsource s\nbytes 0x2000 0102\nspe\nsource s\nmem 0x3 10\nhost send 0 7\nhost store 0x82 bbcc\nhost take 1\nhost await 0\nshow mem 0 4\nshow ls 0 0x2000 2\nshow mem 0x81 4\n";
+
+const RAISE: &str =
+    "ila $5,0x1000\nil $7,3\nloop: wrch $ch16,$5\nwrch $ch18,$0\nil $8,0xD0\nwrch $ch21,$8\nrdch $9,$ch27\nlqd $10,0($5)\nai $10,$10,1\nstqd $10,0($5)\nil $8,0xB4\nwrch $ch21,$8\nrdch $9,$ch27\nbrnz $9,loop\nai $7,$7,-1\nbrnz $7,loop\nwrch $ch28,$10\nstop 0\n";
+
+const SHOWN: &[u8] = b"\nmem 0x00000000 00000016\nls 0 0x02000 0102\nmem 0x00000081 00bbcc00\n";
+
+#[test]
+fn a_copy_of_a_setup_replays_the_same_steps(rt: HostRuntime) -> Result<(), Fail> {
+    let alloc = rt.alloc();
+    let mut files = files(alloc, COUNTER, RAISE, Vec::new(alloc))?;
+    let Ok(setup) = read_setup(alloc, &mut files, "m") else {
+        return Err(Fail::new("the machine is refused"));
+    };
+    let copy = setup.copy(alloc)?;
+    let machine = run(alloc, setup)?;
+    let states = states_text(alloc, &machine)?;
+    let again = replay(alloc, copy, machine.steps())?;
+    assert_eq!(rt; states_text(alloc, &again)?.as_slice(), states.as_slice());
+    assert!(rt; states.as_slice().ends_with(SHOWN));
     Ok(())
 }

@@ -33,3 +33,4 @@ pub mod StateBytes
 pub mod HostBytes
 pub mod EffectBytes
 pub mod EffectsFitted
+pub mod Recorded

@@ -78,12 +78,12 @@ replay-count M (s ∷ steps) N run =
     let acted = next-act M s first.0 first.1 in
     replay-count first.0 steps N first.2 ∙ ap length (sym acted.2) ∙ act-length M s acted.0 acted.1
 
-get-there : {X : Type 0} (xs : List X) (i : ℕ) → i < length xs → (x : X) × (slice_get xs i ≡ Some x)
+pub get-there : {X : Type 0} (xs : List X) (i : ℕ) → i < length xs → (x : X) × (slice_get xs i ≡ Some x)
 get-there [] i h = absurd (omega (arith, h))
 get-there (x ∷ xs) zero h = (x, refl)
 get-there (x ∷ xs) (suc i) h = get-there xs i (omega (arith, h))
 
-opening-moves : (S : Opening) (p : ℕ) (P : Spe) → slice_get (opening S).spes p ≡ Some P → P.moves ≡ no_moves
+pub opening-moves : (S : Opening) (p : ℕ) (P : Spe) → slice_get (opening S).spes p ≡ Some P → P.moves ≡ no_moves
 unfolding opening
 opening-moves S p P at = let g = map-got (opening_spe S) (enumerate_from 0 S.entries) p P at in ap (λ (Q : Spe). Q.moves) (sym g.2)
 
@@ -106,7 +106,7 @@ follows-none p P same = record {
   done = λ c n k. ap (λ (m : Moves). one_if (is_done m.done c n k)) (sym same);
 }
 
-run-follows : (S : Opening) (steps : List Step) (N : State) (p : ℕ) (Q : Spe) → replay (opening S) steps ≡ Some N → slice_get N.spes p ≡ Some Q → Follows p steps Q
+pub run-follows : (S : Opening) (steps : List Step) (N : State) (p : ℕ) (Q : Spe) → replay (opening S) steps ≡ Some N → slice_get N.spes p ≡ Some Q → Follows p steps Q
 run-follows S steps N p Q run at =
     let within = get-within N.spes p Q at in
     let count = replay-count (opening S) steps N run in

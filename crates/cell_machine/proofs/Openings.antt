@@ -88,7 +88,7 @@ fits-memory n pieces all k d h =
     let within : k < length (shown_memory pieces) = rw length-map h in
     subst (FitsMemory n) (get_or-map in_memory pieces k d) (all k (in_memory d) within)
 
-length-enumerate : {A : Type 0} (f : ℕ × ℕ → A) (n : ℕ) (xs : List ℕ) → length (map f (enumerate_from n xs)) ≡ length xs
+pub length-enumerate : {A : Type 0} (f : ℕ × ℕ → A) (n : ℕ) (xs : List ℕ) → length (map f (enumerate_from n xs)) ≡ length xs
 length-enumerate f n [] = refl
 length-enumerate f n (x ∷ xs) = ap suc (length-enumerate f (n + 1) xs)
 

@@ -2,6 +2,7 @@
 
 ghost use Rattle.std.specs.Prelude.{◌≡◌, ℕ, ◌+◌, ◌*◌, ◌<◌, ◌≤◌, ◌↔◌, Bool, List, [], ◌∷◌, ◌++◌, Some, None, length, IfOk, IsOk, OnErr, OnOk, IsSome, IsSomeAnd, IfSome, IfNone, MatchBool, All, slice_get};
 ghost use Rattle.std.specs.Bool.{OnFalse};
+ghost use Rattle.cell_base.specs.Records.{AreSteps};
 ghost use Rattle.cell_base.specs.declared.steps.Step.{Step};
 ghost use Rattle.cell_machine.specs.State.{State};
 ghost use Rattle.cell_machine.specs.Next.{act, settled_in};
@@ -274,13 +275,14 @@ impl Machine {
     /// before it are complete (CBEA, "Command ordering"), what is complete stays complete, and a command keeps its number.
     /// The elements of a list are read in their order, each after the one before it was copied and, where the list stalls behind
     /// it, that was acknowledged. A PUTLLC stores exactly where its processor's latest GETLLAR or PUTLLC was a GETLLAR of that line
-    /// and no store has touched the line since.
+    /// and no store has touched the line since. A record can have each of them, in its number of steps and in each number of a step.
     pub fn steps(&self) -> &[Step]
         ensures steps { result.now ≡ self.now.steps }
         ensures run { IsRun self.now.setup self.now.steps }
         ensures order { IsInOrder self.now }
         ensures lists { ListsAreInOrder self.now }
         ensures locks { AreLocksKept self.now }
+        ensures recorded { AreSteps self.now.steps }
     {
         &self.steps
     }

@@ -1,13 +1,14 @@
 //! What a machine begins with.
 
-ghost use Rattle.std.specs.Prelude.{All, ◌≡◌, ℕ, ◌+◌, ◌*◌, ◌%◌, ◌<◌, ◌≤◌, ◌↔◌, [], ◌∷◌, ◌++◌, length, slice_set, IfOk, IsTrue, OnErr, OnOk};
+ghost use Rattle.std.specs.Prelude.{All, ◌≡◌, ℕ, ◌+◌, ◌*◌, ◌%◌, ◌<◌, ◌≤◌, ◌↔◌, [], ◌∷◌, ◌++◌, length, slice_set, Err, IfOk, IsTrue, OnErr, OnOk};
 ghost use Rattle.spu_exec.specs.Places.{IsPlace};
-ghost use Rattle.cell_machine.specs.Limits.{AreMachineLimits, FitsShow, MayShow, FitsAction, MayAct};
+ghost use Rattle.cell_machine.specs.Limits.{AreMachineLimits, FitsShow, MayShow, FitsAction, MayAct, shown, shown_memory};
+ghost use Rattle.cell_machine.specs.declared.setup.SetupError.TheVariants as setup_error;
 
 use cell_host::{HostAction, MAX_ACTIONS};
 use local_store::STORE_BYTES;
 use main_memory::LINE_BYTES;
-use std::alloc::Global;
+use std::alloc::{AllocError, AllocFailed, Global};
 use std::marker::Model;
 
 /// How many processors a machine may have.
@@ -81,6 +82,55 @@ pub enum SetupError {
     Memory,
 }
 
+impl From<AllocError> for SetupError {
+    ghost from_gives = { λ _ e. e ≡ setup_error.Memory };
+
+    fn from(_: AllocError) -> SetupError {
+        SetupError::Memory
+    }
+}
+
+impl<T: Drop> From<AllocFailed<T>> for SetupError {
+    ghost from_gives = { λ _ e. e ≡ setup_error.Memory };
+
+    fn from(_: AllocFailed<T>) -> SetupError {
+        SetupError::Memory
+    }
+}
+
+/// The same bytes for processors' stores, in their order.
+fn copy_placed(alloc: Global, pieces: &[PlacedBytes]) -> Result<Vec<PlacedBytes>, SetupError>
+    ensures same { IfOk result (λ copies. shown copies.items ≡ shown pieces.now) }
+    ensures memory { OnErr result (result ≡ Err SetupError.Memory) }
+{
+    let mut copies = Vec::new(alloc);
+    for piece in pieces {
+        let bytes = piece.bytes.to_vec(alloc)?;
+        copies.push(PlacedBytes {
+            spe: piece.spe,
+            at: piece.at,
+            bytes,
+        })?;
+    }
+    Ok(copies)
+}
+
+/// The same bytes for main memory, in their order.
+fn copy_memory(alloc: Global, pieces: &[MemoryBytes]) -> Result<Vec<MemoryBytes>, SetupError>
+    ensures same { IfOk result (λ copies. shown_memory copies.items ≡ shown_memory pieces.now) }
+    ensures memory { OnErr result (result ≡ Err SetupError.Memory) }
+{
+    let mut copies = Vec::new(alloc);
+    for piece in pieces {
+        let bytes = piece.bytes.to_vec(alloc)?;
+        copies.push(MemoryBytes {
+            at: piece.at,
+            bytes,
+        })?;
+    }
+    Ok(copies)
+}
+
 impl Setup {
     /// A setup with no processor, of 1 to 32,768 lines and with a budget of 1 to 1,000,000 steps; `Limit` exactly outside of these.
     /// It takes no memory.
@@ -100,6 +150,23 @@ impl Setup {
             memory: Vec::new(alloc),
             actions: Vec::new(alloc),
             shows: Vec::new(alloc),
+            alloc,
+        })
+    }
+
+    /// A setup with the same contents, which takes its memory from `alloc`. Want of memory is its only refusal.
+    pub fn copy(&self, alloc: Global) -> Result<Setup, SetupError>
+        ensures same { IfOk result (λ s. s ≡ self.now) }
+        ensures memory { OnErr result (result ≡ Err SetupError.Memory) }
+    {
+        Ok(Setup {
+            lines: self.lines,
+            budget: self.budget,
+            entries: self.entries.to_vec(alloc)?,
+            placed: copy_placed(alloc, &self.placed)?,
+            memory: copy_memory(alloc, &self.memory)?,
+            actions: self.actions.to_vec(alloc)?,
+            shows: self.shows.to_vec(alloc)?,
             alloc,
         })
     }

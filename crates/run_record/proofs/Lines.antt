@@ -8,8 +8,7 @@ use Rattle.cell_base.specs.Numbers.{◌>>=◌, number_at, Reads}
 use Rattle.cell_base.proofs.Digits.{IsEnded, number_takes, number_again}
 use Rattle.cell_base.specs.declared.steps.Step.{Step}
 use Rattle.cell_base.specs.declared.steps.Step.TheVariants.{Exec, Piece, Elem, Retire, Atomic, Host}
-use Rattle.cell_base.specs.Records.{field, letter_x, letter_p, letter_e, letter_r, letter_a, letter_h, step_line, count_line}
-use Rattle.run_record.specs.Form.{InBounds}
+use Rattle.cell_base.specs.Records.{field, letter_x, letter_p, letter_e, letter_r, letter_a, letter_h, step_line, count_line, InBounds}
 use Rattle.run_record.specs.Reading.{after, field_at, end_at, exec_at, atomic_at, elem_at, retire_at, piece_at, host_at, step_at, count_at}
 
 pub bind_some : {A B : Type 0} (o : Option A) (f : A → Option B) (y : B) → (o >>= f) ≡ Some y → (x : A) × (o ≡ Some x) × (f x ≡ Some y)

@@ -7,8 +7,8 @@ use Rattle.std.proofs.lemmas.List.Concat.{flat_map-cons}
 use Rattle.cell_base.specs.declared.steps.Step.{Step}
 use Rattle.run_record.specs.declared.error.RecordError.{RecordError}
 use Rattle.run_record.specs.declared.error.RecordError.TheVariants as errors
-use Rattle.cell_base.specs.Records.{step_line, count_line, head_line, spelling}
-use Rattle.run_record.specs.Form.{Reading, InBounds, AreSteps, BeginsWith, MayFollow, IsFault, IsOrMemory}
+use Rattle.cell_base.specs.Records.{step_line, count_line, head_line, spelling, InBounds, AreSteps}
+use Rattle.run_record.specs.Form.{Reading, BeginsWith, MayFollow, IsFault, IsOrMemory}
 use Rattle.run_record.specs.Reading.{after, step_at, count_at, ending, with_step, either, steps_at, behind_head, record_at, Fails}
 use Rattle.run_record.proofs.Lines.{after_takes, after_again, step_takes, step_again, count_takes, count_again}
 

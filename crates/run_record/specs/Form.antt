@@ -1,9 +1,8 @@
 -- What a record is as text, and where a text stops being one.
 use Rattle.std.specs.Prelude.{◌≡◌, ◌≢◌, ℕ, ◌+◌, ◌<◌, ◌≤◌, ◌⊎◌, List, ◌++◌, length, drop, Result, Err}
-use Rattle.std.specs.List.{flat_map, AllByRecursion}
+use Rattle.std.specs.List.{flat_map}
 use Rattle.cell_base.specs.declared.steps.Step.{Step}
-use Rattle.cell_base.specs.declared.steps.Step.TheVariants.{Exec, Piece, Elem, Retire, Atomic, Host}
-use Rattle.cell_base.specs.Records.{step_line, head_line, count_line, spelling}
+use Rattle.cell_base.specs.Records.{step_line, head_line, count_line, spelling, InBounds, AreSteps}
 use Rattle.run_record.specs.declared.error.RecordError.{RecordError}
 use Rattle.run_record.specs.declared.error.RecordError.TheVariants.{Memory}
 
@@ -11,19 +10,6 @@ use Rattle.run_record.specs.declared.error.RecordError.TheVariants.{Memory}
 pub record Reading : Type 0 where
   pub steps : List Step
   pub end : ℕ
-
--- the bounds of the numbers in a step's line
-abbrev pub InBounds : Step → Type 0
-InBounds (Exec p) = p ≤ 15
-InBounds (Piece p c e k) = (p ≤ 15) × (c ≤ 999999) × (e ≤ 2047) × (k ≤ 128)
-InBounds (Elem p c) = (p ≤ 15) × (c ≤ 999999)
-InBounds (Retire p c) = (p ≤ 15) × (c ≤ 999999)
-InBounds (Atomic p) = p ≤ 15
-InBounds Host = Unit {0}
-
--- the steps that a record can have
-abbrev pub AreSteps : List Step → Type 0
-AreSteps steps = (length steps ≤ 1000000) × AllByRecursion InBounds steps
 
 -- the text begins with the record of these steps, which ends here
 abbrev pub BeginsWith : List ℕ → Reading → Type 0

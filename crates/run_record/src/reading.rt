@@ -2,9 +2,9 @@
 
 ghost use Rattle.std.specs.Prelude.{◌≡◌, ℕ, ◌+◌, ◌-◌, ◌≤◌, ◌<◌, ◌++◌, ◌∷◌, [], List, Ok, Err, codes, length, IfSome, IfOk, IsErrOf};
 ghost use Rattle.cell_base.specs.Numbers.{Reads};
-ghost use Rattle.cell_base.specs.Records.{spelling};
+ghost use Rattle.cell_base.specs.Records.{spelling, AreSteps};
 ghost use Rattle.cell_base.specs.declared.steps.Step.{Step};
-ghost use Rattle.run_record.specs.Form.{AreSteps, BeginsWith, IsFault, IsOrMemory};
+ghost use Rattle.run_record.specs.Form.{BeginsWith, IsFault, IsOrMemory};
 ghost use Rattle.run_record.specs.Reading.{after, field_at, end_at, exec_at, piece_at, elem_at, retire_at, atomic_at, host_at, step_at, count_at, steps_at, record_at, Gives};
 ghost use Rattle.run_record.specs.declared.error.RecordError.TheVariants.{BadLine};
 
