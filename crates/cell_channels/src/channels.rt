@@ -160,6 +160,13 @@ impl Channels {
         self.stalls |= 1 << tag;
     }
 
+    /// The tag groups with an unread stall, where group t is bit value 2^t.
+    pub fn stalls(&self) -> u32
+        ensures { result ≡ self.now.stalls }
+    {
+        self.stalls
+    }
+
     /// Whether a bit of the stall status is set.
     pub fn has_stall(&self) -> bool
         ensures { result ≡ not (self.now.stalls == 0) }

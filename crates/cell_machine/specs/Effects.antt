@@ -8,24 +8,23 @@ use Rattle.cell_base.specs.declared.steps.Step.TheVariants.{Exec, Piece, Elem, R
 use Rattle.cell_host.specs.declared.HostAction.{HostAction}
 use Rattle.cell_host.specs.declared.HostAction.TheVariants.{Send, Take as TakeOut, TakeIntr, Store, Await}
 use Rattle.spu_decode.specs.declared.Instr.{Instr}
-use Rattle.spu_decode.specs.declared.row.Row.{Row}
-use Rattle.spu_decode.specs.declared.row.Row.TheVariants.{Lqd, Lqx, Lqa, Lqr}
 use Rattle.spu_decode.specs.Spelling.{instr_of}
 use Rattle.spu_regs.specs.Registers.{register}
-use Rattle.spu_exec.specs.Meaning.{displaced, indexed, absolute, relative, stored_at}
+use Rattle.spu_exec.specs.Meaning.{loaded_at, stored_at}
 use Rattle.local_store.specs.Store.{line_of, word_at}
 use Rattle.mfc_command.specs.declared.command.Command.{Command}
 use Rattle.mfc_command.specs.declared.command.AtomicOp.{AtomicOp}
 use Rattle.mfc_command.specs.declared.command.DmaFault.{DmaFault}
 use Rattle.mfc_command.specs.declared.range.Part.{Part}
 use Rattle.mfc_lists.specs.declared.Element.{Element}
+use Rattle.tag_groups.specs.declared.Tags.{Tags}
 use Rattle.tag_groups.specs.Settle.{is_met}
 use Rattle.cell_machine.specs.declared.effect.Place.TheVariants.{Memory, Local}
 use Rattle.cell_machine.specs.declared.effect.Span.{Span}
 use Rattle.cell_machine.specs.declared.effect.Note.{Note}
 use Rattle.cell_machine.specs.declared.effect.Note.TheVariants.{Nothing, Issue, AtomicIssue, TagRead, StallRead, Ack, AtomicRead, Put, Take, Ended, Awaited, Element as Reading}
 use Rattle.cell_machine.specs.declared.effect.Effect.{Effect}
-use Rattle.cell_machine.specs.Spe.{Spe, is_running}
+use Rattle.cell_machine.specs.Spe.{Spe, Moves, is_running}
 use Rattle.cell_machine.specs.State.{State}
 use Rattle.cell_machine.specs.Moves.{busy, present, parts_in}
 use Rattle.cell_machine.specs.Exec.{exec, asks}
@@ -52,14 +51,6 @@ quad_in p None = nowhere
 quad_in p (Some at) = in_store p (line_of at) 16
 
 -- ---- an instruction
-
--- the address at which a row loads, if it loads
-abbrev pub loaded_at : Row → ℕ → ℕ → List ℕ → List ℕ → Option ℕ
-loaded_at Lqd imm pc a b = Some (displaced imm a)
-loaded_at Lqx imm pc a b = Some (indexed a b)
-loaded_at Lqa imm pc a b = Some (absolute imm)
-loaded_at Lqr imm pc a b = Some (relative imm pc)
-loaded_at row imm pc a b = None
 
 -- the next instruction of P, where the word at its PC spells one
 abbrev pub instr : Spe → Option Instr
@@ -100,9 +91,12 @@ told p P Q op = if ends P Q then Ended else option_map_or (told_by p P Q) op Not
 
 -- ---- the steps of one processor, before it and after it
 
--- whether a tag status is fixed at the end of the step
+-- whether a tag status is fixed at the end of a step after which the tags and the commands are these
+abbrev pub is_fixed : Tags → Moves → Bool
+is_fixed t m = option_map_or (is_met (busy m)) t.request false
+
 abbrev pub fixes : Spe → Bool
-fixes Q = option_map_or (is_met (busy Q.moves)) Q.tags.request false
+fixes Q = is_fixed Q.tags Q.moves
 
 abbrev pub exec_effect : ℕ → Spe → Spe → Effect
 exec_effect p P Q = record {

@@ -30,7 +30,7 @@ const PUTLLUC_DONE: u32 = 2;
 const GETLLAR_DONE: u32 = 4;
 
 /// The line of an atomic command as a part.
-fn line_part(a: AtomicOp) -> Part
+pub(crate) fn line_part(a: AtomicOp) -> Part
     requires { a.line < 524288 }
     ensures { result ≡ line_part a }
 {

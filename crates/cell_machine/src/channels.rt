@@ -46,7 +46,7 @@ pub(crate) fn operation(i: Instr, registers: &Regs) -> Option<ChannelOp>
 }
 
 /// Whether a channel holds a parameter of the next command.
-fn is_param(ch: u8) -> bool
+pub(crate) fn is_param(ch: u8) -> bool
     ensures { result ≡ (nat_le 16 ch && nat_le ch 20) }
 {
     ch >= MFC_LSA && ch <= MFC_TAG_ID
@@ -247,7 +247,7 @@ impl Processor {
     }
 
     /// Whether a command may be asked for: an atomic one where the slot is free, every other where the queue has a free place.
-    fn may_command(&self, op: u32) -> bool
+    pub(crate) fn may_command(&self, op: u32) -> bool
         ensures may { (P : Spe) → ShowsChannels self.now P → result ≡ may_write P 21 op }
         ensures free { OnTrue result (is_atomic op ≡ false → (calls : List Call) → StandsFor self.now.commands.queue calls → length (outstanding calls) < 16) }
         ensures slot { OnTrue result (is_atomic op ≡ true → self.now.channels.slot ≡ None) }

@@ -103,6 +103,16 @@ impl Commands {
         }
     }
 
+    /// The same commands once more.
+    pub(crate) fn copy(&self) -> Commands
+        ensures { result ≡ self.now }
+    {
+        Commands {
+            queue: self.queue.copy(),
+            lists: self.lists,
+        }
+    }
+
     /// Issues a command, where the queue has a free place.
     pub(crate) fn issue(&mut self, lines: u32, command: Command)
         requires number { CanIssue self.old }

@@ -16,12 +16,16 @@ ghost use Rattle.cell_host.specs.Script.{Progress};
 ghost use Rattle.cell_machine.specs.Opening.{Opening, opening_spes, filled};
 ghost use Rattle.cell_machine.specs.Limits.{shown, shown_memory};
 ghost use Rattle.cell_machine.specs.Run.{Ran, IsRun, state_of, next_of, spe_of, picked_of, first_of, first_allowed, picked, allowed, is_quiet, IsEnd};
+ghost use Rattle.cell_machine.specs.Effects.{effect_in};
+ghost use Rattle.cell_machine.specs.EffectLaws.{FixesOnce};
 ghost use Rattle.cell_machine.specs.Order.{IsInOrder};
 ghost use Rattle.cell_machine.specs.Lists.{ListsAreInOrder};
 ghost use Rattle.cell_machine.specs.Locks.{AreLocksKept};
 ghost use Rattle.lock_lines.specs.Stands.{HasSameSize};
 ghost use Rattle.cell_machine.specs.Shows.{Shows, AllTwo, ShowsSpe, IsFit, CanGo, AreSettled};
 
+use crate::effect::Effect;
+use crate::effects::effect_of;
 use crate::error::MachineError;
 use crate::hosts::{act_host, may_act_host};
 use crate::memory::SharedMemory;
@@ -379,6 +383,19 @@ impl Machine {
             return None;
         }
         first_step(&self.processors, &self.host)
+    }
+
+    /// What a step would do, None exactly where `step` would refuse it: the bytes that it fetches, reads and writes, what it tells, and
+    /// whether a tag status is fixed at its end. Nothing changes, and it takes no memory.
+    pub fn effect(&self, s: Step) -> Option<Effect>
+        ensures effect { result ≡ effect_in self.now s }
+        ensures allowed { IsSome result ↔ IsSome (next_of self.now s) }
+        ensures fixed { FixesOnce }
+    {
+        if self.steps.len() >= self.setup.budget() as usize {
+            return None;
+        }
+        effect_of(&self.processors, &self.memory, &self.host, s)
     }
 
     /// How the run ended; None where a step is allowed under the budget.

@@ -26,7 +26,7 @@ use mfc_lists::Element;
 const PIECE_BYTES: usize = 128;
 
 /// Whether a command of this kind copies from the store to the memory.
-fn is_put(kind: Kind) -> bool
+pub(crate) fn is_put(kind: Kind) -> bool
     ensures { result ≡ is_put kind }
 {
     match kind {

@@ -61,7 +61,7 @@ impl LocalStore {
     pub fn quad(&self, at: u32) -> Quad
         ensures { result ≡ quad_at self.now at }
     {
-        let at = line_of(at);
+        let at = line_of(at) as usize;
         let mut quad = [0; 16];
         quad.copy_from_slice(&self.bytes[at..at + 16]);
         Quad::of_bytes(&quad)
@@ -71,7 +71,7 @@ impl LocalStore {
     pub fn set_quad(&mut self, at: u32, q: Quad)
         ensures { self.new ≡ put self.old (line_of at) q }
     {
-        let at = line_of(at);
+        let at = line_of(at) as usize;
         self.bytes[at..at + 16].copy_from_slice(&q.bytes());
     }
 
@@ -106,12 +106,13 @@ impl LocalStore {
     }
 }
 
+/// The address of the quadword that holds an address, of which the bits outside 0x3FFF0 are ignored.
 #[inline(always)]
-fn line_of(at: u32) -> usize
+pub fn line_of(at: u32) -> u32
     ensures value { result ≡ line_of at }
     ensures within { result + 16 ≤ 262144 }
 {
-    (at & 0x3_fff0) as usize
+    at & 0x3_fff0
 }
 
 #[cfg(test)]

@@ -85,6 +85,22 @@ impl Queue {
         }
     }
 
+    /// The same queue once more.
+    pub fn copy(&self) -> Queue
+        ensures { result ≡ self.now }
+    {
+        let mut held = ArrayVec::new();
+        let _ = held.try_extend_from_slice(&self.held);
+        let mut vacant = ArrayVec::new();
+        let _ = vacant.try_extend_from_slice(&self.vacant);
+        Queue {
+            issued: self.issued,
+            held,
+            vacant,
+            before: self.before,
+        }
+    }
+
     /// How many commands were issued.
     pub fn issued(&self) -> u32
         ensures { (calls : List Call) → StandsFor self.now calls → result ≡ length (issued calls) }

@@ -55,6 +55,15 @@ stored_at Stqa imm pc a b = Some (absolute imm)
 stored_at Stqr imm pc a b = Some (relative imm pc)
 stored_at row imm pc a b = None
 
+-- ---- the address at which a quadword is loaded, if the row loads one
+
+abbrev pub loaded_at : Row → ℕ → ℕ → List ℕ → List ℕ → Option ℕ
+loaded_at Lqd imm pc a b = Some (displaced imm a)
+loaded_at Lqx imm pc a b = Some (indexed a b)
+loaded_at Lqa imm pc a b = Some (absolute imm)
+loaded_at Lqr imm pc a b = Some (relative imm pc)
+loaded_at row imm pc a b = None
+
 -- ---- what comes next
 
 -- direct targets are masked with 0x3FFFF, indirect ones with 0x3FFFC

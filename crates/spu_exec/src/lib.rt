@@ -8,6 +8,7 @@ ghost use Rattle.spu_exec.specs.Meaning.{meaning, Outcome, with_value, with_stor
 ghost use Rattle.spu_exec.specs.Places.{IsPlace, LeadsToPlace, RegisterFits};
 
 mod address;
+mod ahead;
 mod branch;
 mod compute;
 mod flow;
@@ -16,6 +17,7 @@ mod tests;
 mod transfer;
 
 pub use address::next_pc;
+pub use ahead::{leads_to, loads_at, stores_at};
 use branch::flow_of;
 use cell_base::Quad;
 pub use flow::Flow;

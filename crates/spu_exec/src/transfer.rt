@@ -2,7 +2,7 @@
 
 ghost use Rattle.std.specs.Prelude.{◌≡◌, ◌<◌, ◌^◌};
 ghost use Rattle.spu_decode.specs.Spelling.{FieldsFit};
-ghost use Rattle.spu_exec.specs.Meaning.{stored_at, value_of};
+ghost use Rattle.spu_exec.specs.Meaning.{loaded_at, stored_at, value_of};
 
 use crate::address::{absolute, displaced, indexed, next_pc, relative};
 use crate::compute::computed;
@@ -34,6 +34,21 @@ pub(crate) fn value_of(
         Row::Brasl => Some(Quad::in_first_word(next_pc(pc))),
         Row::Bisl => Some(Quad::in_first_word(next_pc(pc))),
         row => computed(row, i.imm, a, b, c, t),
+    }
+}
+
+/// The address at which a quadword is loaded, if the row loads one.
+#[tactic(auto, unfolding(spu_decode::specs::Table::entry_of))]
+pub(crate) fn loaded_at(i: Instr, pc: u32, a: Quad, b: Quad) -> Option<u32>
+    requires { FieldsFit i }
+    ensures { result ≡ loaded_at i.row i.imm pc a b }
+{
+    match i.row {
+        Row::Lqd => Some(displaced(i.imm, a)),
+        Row::Lqx => Some(indexed(a, b)),
+        Row::Lqa => Some(absolute(i.imm)),
+        Row::Lqr => Some(relative(i.imm, pc)),
+        _ => None,
     }
 }
 

@@ -1,7 +1,8 @@
 //! The tag groups of a processor: the mask, an update request, and the status that it comes to.
 #![tactic(auto)]
 
-ghost use Rattle.std.specs.Prelude.{◌≡◌, ◌≤◌, ◌<◌, ◌^◌, ◌↔◌, ℕ, Some, None, OnErr, IfOk, IfErr, IsTrue, IsSome, IsSomeAnd, is_some, is_ok};
+ghost use Rattle.std.specs.Prelude.{◌≡◌, ◌≤◌, ◌<◌, ◌^◌, ◌↔◌, ℕ, Some, None, false, OnErr, IfOk, IfErr, IsTrue, IsSome, IsSomeAnd, is_some, is_ok};
+ghost use Rattle.std.specs.Option.{option_map_or};
 ghost use Rattle.tag_groups.specs.Settle.{opening_tags, requested, settled_tags, is_met, idle_groups, AreIdle};
 ghost use Rattle.tag_groups.specs.declared.Request.{Request};
 
@@ -89,6 +90,23 @@ impl Tags {
         }
     }
 
+    /// Whether a request is pending.
+    pub fn pending(&self) -> bool
+        ensures { result ≡ is_some self.now.request }
+    {
+        self.request.is_some()
+    }
+
+    /// Whether `settle` would fix a status with these groups busy: a request is pending and its condition holds.
+    pub fn would_settle(&self, busy: u32) -> bool
+        ensures { result ≡ option_map_or (is_met busy) self.now.request false }
+    {
+        match self.request {
+            Some(request) => is_met(&request, busy),
+            None => false,
+        }
+    }
+
     /// Whether a status is fixed and wasn't read yet.
     pub fn ready(&self) -> bool
         ensures { result ≡ is_some self.now.status }
@@ -151,6 +169,8 @@ mod tests {
             tags.set_mask(mask);
             tags.request(how);
             tags.set_mask(0xffff_ffff);
+            assert_eq!(rt; tags.pending(), true);
+            assert_eq!(rt; tags.would_settle(busy), want.is_some(), "at {mask} {how} {busy}");
             tags.settle(busy, 9);
             assert_eq!(rt; tags.ready(), want.is_some(), "at {mask} {how} {busy}");
             let groups = tags.read().ok().map(|status| status.groups);

@@ -1,0 +1,227 @@
+//! What the next instruction of a processor would do.
+
+ghost use Rattle.std.specs.Prelude.{◌≡◌, ◌≢◌, ℕ, ◌≤◌, List, Option, Some, true};
+ghost use Rattle.std.specs.Option.{option_map, option_map_or};
+ghost use Rattle.cell_base.specs.declared.steps.ChannelOp.{ChannelOp};
+ghost use Rattle.cell_machine.specs.Spe.{Spe, is_running};
+ghost use Rattle.cell_machine.specs.Exec.{exec, followed, op_of};
+ghost use Rattle.cell_machine.specs.Channels.{channel};
+ghost use Rattle.cell_machine.specs.declared.effect.Note.TheVariants.{Nothing, TagRead};
+ghost use Rattle.cell_machine.specs.Effects.{quad_in, told, fixes, exec_effect};
+
+use crate::channels::is_param;
+use crate::effect::{Effect, Note, Span};
+use crate::effects::{INBOUND, INTERRUPT, OUTBOUND, in_store, nowhere};
+use crate::processor::Processor;
+use cell_base::ChannelOp;
+use cell_channels::{
+    MFC_CMD, MFC_RD_ATOMIC_STAT, MFC_RD_LIST_STALL_STAT, MFC_RD_TAG_MASK, MFC_RD_TAG_STAT,
+    MFC_WR_LIST_STALL_ACK, MFC_WR_TAG_MASK, MFC_WR_TAG_UPDATE, SPU_RD_IN_MBOX,
+    SPU_WR_OUT_INTR_MBOX, SPU_WR_OUT_MBOX, way,
+};
+use local_store::line_of;
+use mfc_command::{Order, check};
+use spu_decode::decode;
+use spu_exec::{Flow, leads_to, loads_at, stores_at};
+
+/// How many bytes of the store an instruction has, and a quadword.
+const WORD_BYTES: u32 = 4;
+
+const QUAD_BYTES: u32 = 16;
+
+/// The quadword of a store that holds an address, if there is one.
+fn quad_in(spe: u8, at: Option<u32>) -> Span
+    ensures { result ≡ quad_in spe at }
+{
+    match at {
+        Some(at) => in_store(spe, line_of(at), QUAD_BYTES),
+        None => nowhere(),
+    }
+}
+
+impl Processor {
+    ghost use Rattle.cell_machine.specs.Shows.{ShowsSpe, CanIssue};
+
+    /// What the next instruction would do.
+    pub(crate) fn exec_effect(&self, lines: u32, spe: u8) -> Option<Effect>
+        requires number { CanIssue self.now.commands }
+        requires lines { lines ≤ 524288 }
+        ensures { (P : Spe) → ShowsSpe self.now P → result ≡ option_map (exec_effect spe P) (exec lines P) }
+    {
+        if !self.may_exec() {
+            return None;
+        }
+        let fetch = in_store(spe, self.pc, WORD_BYTES);
+        let Some(instruction) = decode(self.store.word(self.pc)) else {
+            return Some(Effect {
+                fetch,
+                reads: nowhere(),
+                writes: nowhere(),
+                note: Note::Ended,
+                fixed: self.fixes(),
+            });
+        };
+        let flow = leads_to(instruction, self.pc, &self.registers);
+        Some(Effect {
+            fetch,
+            reads: quad_in(spe, loads_at(instruction, self.pc, &self.registers)),
+            writes: quad_in(spe, stores_at(instruction, self.pc, &self.registers)),
+            note: self.tells(lines, spe, flow),
+            fixed: self.fixes_by(lines, flow),
+        })
+    }
+
+    // ---- what is told
+
+    /// What an instruction that leads there tells, where it is allowed.
+    fn tells(&self, lines: u32, spe: u8, flow: Flow) -> Note
+        requires { lines ≤ 524288 }
+        ensures { (P Q : Spe) (registers : List (List ℕ)) (store : List ℕ) → ShowsSpe self.now P → is_running P.status ≡ true → followed lines (record P { registers = registers; store = store }) flow ≡ Some Q → result ≡ told spe P Q (op_of flow) }
+    {
+        match flow {
+            Flow::Next(_) => Note::Nothing,
+            Flow::Stop { .. } => Note::Ended,
+            Flow::Halt { .. } => Note::Ended,
+            Flow::Channel(ChannelOp::Read { ch, .. }) => self.read_tells(spe, ch),
+            Flow::Channel(ChannelOp::Count { ch, .. }) => count_tells(ch),
+            Flow::Channel(ChannelOp::Write { ch, value }) => {
+                self.write_tells(lines, spe, ch, value)
+            }
+        }
+    }
+
+    /// What a read of a channel tells, where it is allowed.
+    fn read_tells(&self, spe: u8, ch: u8) -> Note
+        ensures { (lines : ℕ) (P Q : Spe) (registers : List (List ℕ)) (store : List ℕ) (rt : ℕ) → ShowsSpe self.now P → is_running P.status ≡ true → channel lines (record P { registers = registers; store = store }) (ChannelOp.Read rt ch) ≡ Some Q → result ≡ told spe P Q (Some (ChannelOp.Read rt ch)) }
+    {
+        match ch {
+            MFC_RD_TAG_MASK => Note::Nothing,
+            MFC_RD_TAG_STAT => self.status_told(),
+            MFC_RD_LIST_STALL_STAT => Note::StallRead {
+                groups: self.channels.stalls(),
+            },
+            MFC_RD_ATOMIC_STAT => Note::AtomicRead,
+            SPU_RD_IN_MBOX => Note::Take {
+                spe,
+                mailbox: INBOUND,
+            },
+            _ => Note::Ended,
+        }
+    }
+
+    /// What a read of the tag status tells.
+    fn status_told(&self) -> Note
+        ensures { result ≡ option_map_or (λ t. TagRead t.groups t.issued) self.now.tags.status Nothing }
+    {
+        let mut tags = self.tags;
+        match tags.read() {
+            Ok(status) => Note::TagRead {
+                groups: status.groups,
+                issued: status.issued,
+            },
+            Err(_) => Note::Nothing,
+        }
+    }
+
+    /// What a write to a channel tells, where it is allowed.
+    fn write_tells(&self, lines: u32, spe: u8, ch: u8, value: u32) -> Note
+        requires { lines ≤ 524288 }
+        ensures { (P Q : Spe) (registers : List (List ℕ)) (store : List ℕ) → ShowsSpe self.now P → is_running P.status ≡ true → channel lines (record P { registers = registers; store = store }) (ChannelOp.Write ch value) ≡ Some Q → result ≡ told spe P Q (Some (ChannelOp.Write ch value)) }
+    {
+        match ch {
+            MFC_CMD => self.command_tells(lines, value),
+            MFC_WR_TAG_MASK => Note::Nothing,
+            MFC_WR_TAG_UPDATE => Note::Nothing,
+            MFC_WR_LIST_STALL_ACK => Note::Ack { tag: value },
+            SPU_WR_OUT_MBOX => Note::Put {
+                spe,
+                mailbox: OUTBOUND,
+            },
+            SPU_WR_OUT_INTR_MBOX => Note::Put {
+                spe,
+                mailbox: INTERRUPT,
+            },
+            _ => param_tells(ch),
+        }
+    }
+
+    /// What a write to MFC_Cmd tells, where it is allowed.
+    fn command_tells(&self, lines: u32, op: u32) -> Note
+        requires { lines ≤ 524288 }
+        ensures { (spe : ℕ) (P Q : Spe) (registers : List (List ℕ)) (store : List ℕ) → ShowsSpe self.now P → is_running P.status ≡ true → channel lines (record P { registers = registers; store = store }) (ChannelOp.Write 21 op) ≡ Some Q → result ≡ told spe P Q (Some (ChannelOp.Write 21 op)) }
+    {
+        match check(self.channels.params(), op, lines) {
+            Ok(Order::Queued(command)) => Note::Issue {
+                cmd: self.commands.queue.issued(),
+                command,
+            },
+            Ok(Order::Atomic(_)) => Note::AtomicIssue,
+            Err(_) => Note::Ended,
+        }
+    }
+
+    // ---- whether a tag status is fixed
+
+    /// Whether an instruction that leads there fixes a tag status at its end, where it is allowed.
+    fn fixes_by(&self, lines: u32, flow: Flow) -> bool
+        requires number { CanIssue self.now.commands }
+        requires lines { lines ≤ 524288 }
+        ensures { (P Q : Spe) (registers : List (List ℕ)) (store : List ℕ) → ShowsSpe self.now P → followed lines (record P { registers = registers; store = store }) flow ≡ Some Q → result ≡ fixes Q }
+    {
+        match flow {
+            Flow::Channel(ChannelOp::Write { ch, value }) => self.fixes_by_write(lines, ch, value),
+            _ => self.fixes(),
+        }
+    }
+
+    /// Whether a write to a channel does, where it is allowed.
+    fn fixes_by_write(&self, lines: u32, ch: u8, value: u32) -> bool
+        requires number { CanIssue self.now.commands }
+        requires lines { lines ≤ 524288 }
+        ensures { (P Q : Spe) (registers : List (List ℕ)) (store : List ℕ) → ShowsSpe self.now P → channel lines (record P { registers = registers; store = store }) (ChannelOp.Write ch value) ≡ Some Q → result ≡ fixes Q }
+    {
+        match ch {
+            MFC_CMD => self.fixes_by_command(lines, value),
+            MFC_WR_TAG_UPDATE => self.fixes_by_request(value),
+            MFC_WR_LIST_STALL_ACK => self.fixes_by_acknowledgement(value),
+            _ => self.fixes(),
+        }
+    }
+
+    /// Whether a write to MFC_Cmd does, where it is allowed.
+    fn fixes_by_command(&self, lines: u32, op: u32) -> bool
+        requires number { CanIssue self.now.commands }
+        requires lines { lines ≤ 524288 }
+        ensures { (P Q : Spe) (registers : List (List ℕ)) (store : List ℕ) → ShowsSpe self.now P → channel lines (record P { registers = registers; store = store }) (ChannelOp.Write 21 op) ≡ Some Q → result ≡ fixes Q }
+    {
+        if !self.may_command(op) {
+            return false;
+        }
+        match check(self.channels.params(), op, lines) {
+            Ok(Order::Queued(command)) => self.fixes_by_issue(lines, command),
+            _ => self.fixes(),
+        }
+    }
+}
+
+/// What a read of a channel's count tells: nothing, where the channel is there.
+fn count_tells(ch: u8) -> Note
+    ensures { (lines spe : ℕ) (P Q : Spe) (registers : List (List ℕ)) (store : List ℕ) (rt : ℕ) → is_running P.status ≡ true → channel lines (record P { registers = registers; store = store }) (ChannelOp.Count rt ch) ≡ Some Q → result ≡ told spe P Q (Some (ChannelOp.Count rt ch)) }
+{
+    match way(ch) {
+        Some(_) => Note::Nothing,
+        None => Note::Ended,
+    }
+}
+
+/// What a write to another channel tells: nothing, where the channel holds a parameter.
+fn param_tells(ch: u8) -> Note
+    requires { (ch ≢ 21) × (ch ≢ 22) × (ch ≢ 23) × (ch ≢ 26) × (ch ≢ 28) × (ch ≢ 30) }
+    ensures { (lines spe value : ℕ) (P Q : Spe) (registers : List (List ℕ)) (store : List ℕ) → is_running P.status ≡ true → channel lines (record P { registers = registers; store = store }) (ChannelOp.Write ch value) ≡ Some Q → result ≡ told spe P Q (Some (ChannelOp.Write ch value)) }
+{
+    if is_param(ch) {
+        Note::Nothing
+    } else {
+        Note::Ended
+    }
+}
