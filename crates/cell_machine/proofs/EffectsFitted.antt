@@ -42,11 +42,12 @@ use Rattle.cell_machine.specs.Effects.{effect_of, host_effect, instr, loads_at, 
 use Rattle.cell_machine.specs.EffectLaws.{bytes_of, new_bytes, new_of, same_place, maker}
 use Rattle.cell_machine.specs.Written.{stored_by, host_bytes, line_written, written_by}
 use Rattle.cell_machine.specs.Sound.{AreFew, IsWhole, IsSound, Fits, EachByte}
+use Rattle.cell_machine.proofs.Same.{some_same}
 use Rattle.cell_machine.proofs.Elements.{part-is, element-is, list-elements}
 use Rattle.cell_machine.proofs.Controllers.{element-fits}
 use Rattle.cell_machine.proofs.Bounds.{passes}
 use Rattle.cell_machine.proofs.BytesLaws.{length-range, get-put}
-use Rattle.cell_machine.proofs.StepBytes.{own_effect, own_bytes, own_range, own_new, some_is, none_is, of_map, of_then, exec-is, piece-is, elem-is, retire-is, atomic-is, has-left, written_at}
+use Rattle.cell_machine.proofs.StepBytes.{own_effect, own_bytes, own_range, own_new, none_is, of_map, of_then, exec-is, piece-is, elem-is, retire-is, atomic-is, has-left, written_at}
 use Rattle.cell_machine.proofs.StepSame.{looks-own}
 use Rattle.cell_machine.proofs.StateBytes.{effect-own, new-own, bytes-own, there}
 use Rattle.cell_machine.proofs.EffectBytes.{writes-alone}
@@ -112,7 +113,7 @@ unfolding may_piece
 piece_fits p q c e0 k lines n P m x e long store bounded is effect =
     piece-is p q c e0 k m P x e (λ y f. OwnFits (own_range f.reads m.bytes P.store) P m f) is effect (λ d z may at there.
     let of = part-is P.moves c e0 k d (passes P c (has_part P.moves c e0 k) d may at) in
-    let same : of.element ≡ z = some_is of.element z (sym of.there ∙ there) in
+    let same : of.element ≡ z = some_same of.element z (sym of.there ∙ there) in
     let fits = element-fits lines n P c d z bounded at of.moved there in
     let within = part_within lines z k fits (subst (λ y. k < parts_in y) same of.within) in
     copy_fits p P (piece_of m P c k d z).spe m lines (part_in z k) (is_put d.kind) long store within.0 within.1)

@@ -19,8 +19,9 @@ use Rattle.cell_machine.specs.Next.{next, ended_by}
 use Rattle.cell_machine.specs.Effects.{effect_of, host_effect, host_writes}
 use Rattle.cell_machine.specs.EffectLaws.{bytes_of, new_bytes, put_in, at_store, bare, SameBut, DoesTheSame}
 use Rattle.cell_machine.specs.Written.{host_bytes, written_by}
+use Rattle.cell_machine.proofs.Same.{some_same}
 use Rattle.cell_machine.proofs.BytesLaws.{length-put-same}
-use Rattle.cell_machine.proofs.StepBytes.{some_is, none_is}
+use Rattle.cell_machine.proofs.StepBytes.{none_is}
 use Rattle.cell_machine.proofs.StateBytes.{store_of, store-settled, store-set, same-at, bare-set, same-ended}
 
 -- what an action takes of a processor has nothing to do with its store
@@ -52,7 +53,7 @@ given_moved (Await p) P s = unless_moved s (is_running P.status) (record { spe =
 
 given_store : (P : Spe) (o : Option HostGiven) (g : HostGiven) → o ≡ option_map (moved_to P.store) o → o ≡ Some g → g.spe.store ≡ P.store
 given_store P None g h is = none_is _ g is
-given_store P (Some k) g h is = ap (λ (x : HostGiven). x.spe.store) (sym (some_is k g is)) ∙ ap (λ (x : HostGiven). x.spe.store) (some_is k _ h)
+given_store P (Some k) g h is = ap (λ (x : HostGiven). x.spe.store) (sym (some_same k g is)) ∙ ap (λ (x : HostGiven). x.spe.store) (some_same k _ h)
 
 -- ---- the bytes after it
 
@@ -64,7 +65,7 @@ some_act M p (Some P) f d Q h k = on (f P) refl h
   where
     on : (o : Option HostGiven) → f P ≡ o → option_map (λ g. record { state = with_spe M p g.spe; took = g.took }) o ≡ Some d → Q
     on None e h = none_is Q d h
-    on (Some g) e h = k P g refl e (some_is _ d h)
+    on (Some g) e h = k P g refl e (some_same _ d h)
 
 at_frame : (M : State) (p : ℕ) (a : HostAction) (d : Acted) (place : Place) → at_spe M p (given a) ≡ Some d → bytes_of d.state place ≡ bytes_of M place
 at_frame M p a d place h =
@@ -84,8 +85,8 @@ acted_frame M (Send p value) d place h = at_frame M p (Send p value) d place h �
 acted_frame M (TakeOut p) d place h = at_frame M p (TakeOut p) d place h ∙ sym (put_nowhere place _)
 acted_frame M (TakeIntr p) d place h = at_frame M p (TakeIntr p) d place h ∙ sym (put_nowhere place _)
 acted_frame M (Await p) d place h = at_frame M p (Await p) d place h ∙ sym (put_nowhere place _)
-acted_frame M (Store ea len bytes) d Memory h = ap (λ (k : Acted). k.state.memory.bytes) (sym (some_is _ d h))
-acted_frame M (Store ea len bytes) d (Local q) h = ap (λ (k : Acted). store_of k.state.spes q) (sym (some_is _ d h))
+acted_frame M (Store ea len bytes) d Memory h = ap (λ (k : Acted). k.state.memory.bytes) (sym (some_same _ d h))
+acted_frame M (Store ea len bytes) d (Local q) h = ap (λ (k : Acted). store_of k.state.spes q) (sym (some_same _ d h))
 
 bytes_ended : (M : State) (s : Step) (d : Acted) (place : Place) → bytes_of (ended_by M s (after_action d)) place ≡ bytes_of d.state place
 bytes_ended M s d Memory = refl
@@ -102,7 +103,7 @@ host_did M N e is effect = on (slice_get M.host.script M.host.done) refl is effe
     made : (a : HostAction) (o : Option Acted) → slice_get M.host.script M.host.done ≡ Some a → acted M a ≡ o
         → option_map (ended_by M Host) (option_map after_action o) ≡ Some N → option_map (λ d. host_effect a) o ≡ Some e → HostDid M N e
     made a None at does is effect = none_is _ N is
-    made a (Some d) at does is effect = (a, d, at, does, some_is _ N is, some_is _ e effect)
+    made a (Some d) at does is effect = (a, d, at, does, some_same _ N is, some_same _ e effect)
 
     on : (o : Option HostAction) → slice_get M.host.script M.host.done ≡ o → option_map (ended_by M Host) (option_and_then (λ a. option_map after_action (acted M a)) o) ≡ Some N
         → option_and_then (λ a. option_map (λ d. host_effect a) (acted M a)) o ≡ Some e → HostDid M N e
@@ -149,7 +150,7 @@ acts_same M N (Send p value) d same h = let r = at_same M N p (Send p value) d s
 acts_same M N (TakeOut p) d same h = let r = at_same M N p (TakeOut p) d same h in record { other = r.0; does = r.1; took = r.2; spes = r.3; long = r.4; versions = r.5; host = r.6 }
 acts_same M N (TakeIntr p) d same h = let r = at_same M N p (TakeIntr p) d same h in record { other = r.0; does = r.1; took = r.2; spes = r.3; long = r.4; versions = r.5; host = r.6 }
 acts_same M N (Await p) d same h = let r = at_same M N p (Await p) d same h in record { other = r.0; does = r.1; took = r.2; spes = r.3; long = r.4; versions = r.5; host = r.6 }
-acts_same M N (Store ea len bytes) d same h = subst (ActsSame N (Store ea len bytes)) (some_is _ d h) (record {
+acts_same M N (Store ea len bytes) d same h = subst (ActsSame N (Store ea len bytes)) (some_same _ d h) (record {
   other = record { state = record N { memory = stored N.memory ea (take len bytes) }; took = None };
   does = refl;
   took = refl;

@@ -21,9 +21,10 @@ use Rattle.cell_machine.specs.Next.{act, next, ended_by, own, with_left}
 use Rattle.cell_machine.specs.Effects.{effect_of}
 use Rattle.cell_machine.specs.EffectLaws.{bytes_of, bytes_in, new_bytes, same_place, put_in, at_store, bare, SameBut, DoesTheSame, maker}
 use Rattle.cell_machine.specs.Written.{written_by}
+use Rattle.cell_machine.proofs.Same.{some_same}
 use Rattle.cell_machine.proofs.CommandsShown.{set-here, set-other}
 use Rattle.cell_machine.proofs.BytesLaws.{length-put-same}
-use Rattle.cell_machine.proofs.StepBytes.{own_effect, own_written, own_bytes, own_range, own_new, Leaves, own-leaves, some_is, none_is}
+use Rattle.cell_machine.proofs.StepBytes.{own_effect, own_written, own_bytes, own_range, own_new, Leaves, own-leaves, none_is}
 use Rattle.cell_machine.proofs.StepSame.{OwnSame, own-same, IsOwn, looks-own}
 
 -- ---- lists of processors
@@ -72,29 +73,29 @@ frame_at M s p P x (Local r) at new is l (Local q) =
 -- ---- a step as one of its processor
 
 pub act-own : (M : State) (s : Step) (p : ℕ) (P : Spe) → maker s ≡ Some p → slice_get M.spes p ≡ Some P → act M s ≡ option_map (with_left M p) (own M.memory s P)
-act-own M (Exec q) p P h at = let e : q ≡ p = some_is q p h in rw (e, at) refl
-act-own M (Piece q c e0 k) p P h at = let e : q ≡ p = some_is q p h in rw (e, at) refl
-act-own M (Elem q c) p P h at = let e : q ≡ p = some_is q p h in rw (e, at) refl
-act-own M (Retire q c) p P h at = let e : q ≡ p = some_is q p h in rw (e, at) refl
-act-own M (Atomic q) p P h at = let e : q ≡ p = some_is q p h in rw (e, at) refl
+act-own M (Exec q) p P h at = let e : q ≡ p = some_same q p h in rw (e, at) refl
+act-own M (Piece q c e0 k) p P h at = let e : q ≡ p = some_same q p h in rw (e, at) refl
+act-own M (Elem q c) p P h at = let e : q ≡ p = some_same q p h in rw (e, at) refl
+act-own M (Retire q c) p P h at = let e : q ≡ p = some_same q p h in rw (e, at) refl
+act-own M (Atomic q) p P h at = let e : q ≡ p = some_same q p h in rw (e, at) refl
 act-own M Host p P h at = none_is _ p h
 
 pub effect-own : (M : State) (s : Step) (p : ℕ) (P : Spe) → maker s ≡ Some p → slice_get M.spes p ≡ Some P → effect_of M s ≡ own_effect p M.memory s P
 unfolding effect_of
-effect-own M (Exec q) p P h at = let e : q ≡ p = some_is q p h in rw (e, at) refl
-effect-own M (Piece q c e0 k) p P h at = let e : q ≡ p = some_is q p h in rw (e, at) refl
-effect-own M (Elem q c) p P h at = let e : q ≡ p = some_is q p h in rw (e, at) refl
-effect-own M (Retire q c) p P h at = let e : q ≡ p = some_is q p h in rw (e, at) refl
-effect-own M (Atomic q) p P h at = let e : q ≡ p = some_is q p h in rw (e, at) refl
+effect-own M (Exec q) p P h at = let e : q ≡ p = some_same q p h in rw (e, at) refl
+effect-own M (Piece q c e0 k) p P h at = let e : q ≡ p = some_same q p h in rw (e, at) refl
+effect-own M (Elem q c) p P h at = let e : q ≡ p = some_same q p h in rw (e, at) refl
+effect-own M (Retire q c) p P h at = let e : q ≡ p = some_same q p h in rw (e, at) refl
+effect-own M (Atomic q) p P h at = let e : q ≡ p = some_same q p h in rw (e, at) refl
 effect-own M Host p P h at = none_is _ p h
 
 written-own : (M : State) (s : Step) (p : ℕ) (P : Spe) → maker s ≡ Some p → slice_get M.spes p ≡ Some P → written_by M s ≡ own_written M.memory s P
 unfolding written_by
-written-own M (Exec q) p P h at = let e : q ≡ p = some_is q p h in rw (e, at) refl
+written-own M (Exec q) p P h at = let e : q ≡ p = some_same q p h in rw (e, at) refl
 written-own M (Piece q c e0 k) p P h at = refl
 written-own M (Elem q c) p P h at = refl
 written-own M (Retire q c) p P h at = refl
-written-own M (Atomic q) p P h at = let e : q ≡ p = some_is q p h in rw (e, at) refl
+written-own M (Atomic q) p P h at = let e : q ≡ p = some_same q p h in rw (e, at) refl
 written-own M Host p P h at = none_is _ p h
 
 bytes_own_at : (M : State) (p : ℕ) (P : Spe) (w : Place) → slice_get M.spes p ≡ Some P → IsOwn p w → bytes_of M w ≡ own_bytes w M.memory.bytes P.store
@@ -109,7 +110,7 @@ range-own M p P x is own = ap (λ b. slice_range b x.at (x.at + x.len)) (bytes-o
 
 own_next : (M N : State) (s : Step) (p : ℕ) (o : Option Left) → option_map (ended_by M s) (option_map (with_left M p) o) ≡ Some N → (x : Left) × (o ≡ Some x) × (ended_by M s (with_left M p x) ≡ N)
 own_next M N s p None h = none_is _ N h
-own_next M N s p (Some x) h = (x, refl, some_is _ N h)
+own_next M N s p (Some x) h = (x, refl, some_same _ N h)
 
 -- what an allowed step of processor p left
 next-own : (M N : State) (s : Step) (p : ℕ) (P : Spe) → maker s ≡ Some p → slice_get M.spes p ≡ Some P → next M s ≡ Some N → (x : Left) × (own M.memory s P ≡ Some x) × (ended_by M s (with_left M p x) ≡ N)
@@ -131,11 +132,11 @@ frame-own M N s p P e by at is effect place =
 -- a step that no processor that is there makes has no effect
 absent : (M : State) (s : Step) (p : ℕ) (e : Effect) (Q : Type 0) → maker s ≡ Some p → slice_get M.spes p ≡ None → effect_of M s ≡ Some e → Q
 unfolding effect_of
-absent M (Exec q) p e Q h at is = let f : q ≡ p = some_is q p h in none_is Q e (rw (f, at) at is)
-absent M (Piece q c e0 k) p e Q h at is = let f : q ≡ p = some_is q p h in none_is Q e (rw (f, at) at is)
-absent M (Elem q c) p e Q h at is = let f : q ≡ p = some_is q p h in none_is Q e (rw (f, at) at is)
-absent M (Retire q c) p e Q h at is = let f : q ≡ p = some_is q p h in none_is Q e (rw (f, at) at is)
-absent M (Atomic q) p e Q h at is = let f : q ≡ p = some_is q p h in none_is Q e (rw (f, at) at is)
+absent M (Exec q) p e Q h at is = let f : q ≡ p = some_same q p h in none_is Q e (rw (f, at) at is)
+absent M (Piece q c e0 k) p e Q h at is = let f : q ≡ p = some_same q p h in none_is Q e (rw (f, at) at is)
+absent M (Elem q c) p e Q h at is = let f : q ≡ p = some_same q p h in none_is Q e (rw (f, at) at is)
+absent M (Retire q c) p e Q h at is = let f : q ≡ p = some_same q p h in none_is Q e (rw (f, at) at is)
+absent M (Atomic q) p e Q h at is = let f : q ≡ p = some_same q p h in none_is Q e (rw (f, at) at is)
 absent M Host p e Q h at is = none_is Q p h
 
 -- the processor of a step that has an effect
@@ -154,7 +155,7 @@ bare_settled (P ∷ spes) = ap (λ xs. settled (bare P) ∷ xs) (bare_settled sp
 
 bare_found : (o : Option Spe) (P : Spe) → option_map bare o ≡ Some (bare P) → (s : List ℕ) × (o ≡ Some (at_store P s))
 bare_found None P h = none_is _ (bare P) h
-bare_found (Some Q) P h = (Q.store, ap (λ X. Some (at_store X Q.store)) (some_is (bare Q) (bare P) h))
+bare_found (Some Q) P h = (Q.store, ap (λ X. Some (at_store X Q.store)) (some_same (bare Q) (bare P) h))
 
 -- the processor at p of the other state
 pub same-at : (M N : State) (p : ℕ) (P : Spe) → SameBut M N → slice_get M.spes p ≡ Some P → (s : List ℕ) × (slice_get N.spes p ≡ Some (at_store P s))

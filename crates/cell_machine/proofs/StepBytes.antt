@@ -27,6 +27,7 @@ use Rattle.cell_machine.specs.Next.{left, own}
 use Rattle.cell_machine.specs.Effects.{instr, stores_at, exec_effect, piece_effect, elem_effect, plain_effect, copy_effect, line_effect, quad_in, of_command}
 use Rattle.cell_machine.specs.EffectLaws.{at_store, new_of}
 use Rattle.cell_machine.specs.Written.{Written, Given, Copy, stored_by, line_written}
+use Rattle.cell_machine.proofs.Same.{some_same}
 use Rattle.cell_machine.proofs.StoreFree.{exec-moved, store_after, of_if}
 
 -- the effect of a step of P, which is processor p, and the bytes that it writes; the host's step has none
@@ -59,9 +60,6 @@ own_new m s P e = new_of (own_written m s P) (own_range e.reads m.bytes P.store)
 
 -- ---- what is so of an option's value
 
-pub some_is : {X : Type 0} (x y : X) → Some x ≡ Some y → x ≡ y
-some_is x y h = cc
-
 pub none_is : {X : Type 0} (Q : Type 0) (x : X) → None ≡ Some x → Q
 none_is Q x h = absurd (cc)
 
@@ -70,7 +68,7 @@ then_is f o x y e h = sym (ap (option_and_then f) e) ∙ h
 
 pub of_map : {X Y : Type 0} (f : X → Y) (o : Option X) (y : Y) (R : Y → Type 0) → option_map f o ≡ Some y → ((x : X) → o ≡ Some x → R (f x)) → R y
 of_map f None y R h k = none_is _ y h
-of_map f (Some x) y R h k = subst R (some_is (f x) y h) (k x refl)
+of_map f (Some x) y R h k = subst R (some_same (f x) y h) (k x refl)
 
 pub of_then : {X Y : Type 0} (f : X → Option Y) (o : Option X) (y : Y) (R : Y → Type 0) → option_and_then f o ≡ Some y → ((x : X) → o ≡ Some x → f x ≡ Some y → R y) → R y
 of_then f None y R h k = none_is _ y h
@@ -86,7 +84,7 @@ pub exec-is : (p q : ℕ) (m : MainMemory) (P : Spe) (x : Left) (e : Effect) (R 
     → ((Q : Spe) → exec (lines_of m) P ≡ Some Q → R (left m Q) (exec_effect p P Q)) → R x e
 exec-is p q m P x e R is effect k =
     of_map (left m) (exec (lines_of m) P) x (λ y. R y e) is (λ Q at.
-    subst (λ f. R (left m Q) f) (some_is (exec_effect p P Q) e (sym (ap (option_map (exec_effect p P)) at) ∙ effect)) (k Q at))
+    subst (λ f. R (left m Q) f) (some_same (exec_effect p P Q) e (sym (ap (option_map (exec_effect p P)) at) ∙ effect)) (k Q at))
 
 pub piece-is : (p q c e0 k : ℕ) (m : MainMemory) (P : Spe) (x : Left) (e : Effect) (R : Left → Effect → Type 0) → own m (Piece q c e0 k) P ≡ Some x → own_effect p m (Piece q c e0 k) P ≡ Some e
     → ((d : Command) (z : Element) → may_piece P c e0 k ≡ true → slice_get P.moves.issued c ≡ Some d → present P.moves.read c d ≡ Some z
@@ -100,7 +98,7 @@ piece-is p q c e0 k m P x e R is effect r =
     (λ z there g.
     let y = piece_of m P c k d z in
     let f = copy_effect p (is_put d.kind) (part_in z k) y.spe in
-    subst (R y) (some_is f e (sym (ap (option_map (λ x. copy_effect p (is_put d.kind) (part_in x k) y.spe)) there) ∙ g)) (r d z may at there))
+    subst (R y) (some_same f e (sym (ap (option_map (λ x. copy_effect p (is_put d.kind) (part_in x k) y.spe)) there) ∙ g)) (r d z may at there))
     (then_is _ _ d e at told)))
 
 pub elem-is : (p q c : ℕ) (m : MainMemory) (P : Spe) (x : Left) (e : Effect) (R : Left → Effect → Type 0) → own m (Elem q c) P ≡ Some x → own_effect p m (Elem q c) P ≡ Some e
@@ -116,7 +114,7 @@ elem-is p q c m P x e R is effect r =
     (λ d at g.
     let K = after_element P c d (next_element (lines_of m) P c d) in
     let f = elem_effect (lines_of m) p c P K d in
-    subst (R (left m K)) (some_is f e (then_is _ _ d e at g)) (r d may at))
+    subst (R (left m K)) (some_same f e (then_is _ _ d e at g)) (r d may at))
     told))
 
 pub retire-is : (p q c : ℕ) (m : MainMemory) (P : Spe) (x : Left) (e : Effect) (R : Left → Effect → Type 0) → own m (Retire q c) P ≡ Some x → own_effect p m (Retire q c) P ≡ Some e
@@ -124,9 +122,9 @@ pub retire-is : (p q c : ℕ) (m : MainMemory) (P : Spe) (x : Left) (e : Effect)
 unfolding retire
 retire-is p q c m P x e R is effect r =
     of_map (left m) (retire P c) x (λ y. R y e) is (λ Q made.
-    let told : plain_effect Q ≡ e = some_is _ e (sym (ap (option_map plain_effect) made) ∙ effect) in
+    let told : plain_effect Q ≡ e = some_same _ e (sym (ap (option_map plain_effect) made) ∙ effect) in
     of_test (may_retire P c) _ Q _ made (λ may made2.
-    let same : record P { moves = with_retired P.moves c } ≡ Q = some_is _ Q made2 in
+    let same : record P { moves = with_retired P.moves c } ≡ Q = some_same _ Q made2 in
     subst (R (left m Q)) told (subst (λ (K : Spe). R (left m K) (plain_effect K)) same (r may))))
 
 pub atomic-is : (p q : ℕ) (m : MainMemory) (P : Spe) (x : Left) (e : Effect) (R : Left → Effect → Type 0) → own m (Atomic q) P ≡ Some x → own_effect p m (Atomic q) P ≡ Some e
@@ -139,7 +137,7 @@ atomic-is p q m P x e R is effect r =
     (λ a at g.
     let y = after_atomic m P a in
     let f = line_effect p a y.spe (fate m P a) in
-    subst (R y) (some_is f e (sym (ap (option_map (λ a. line_effect p a y.spe (fate m P a))) at) ∙ g)) (r a may at))
+    subst (R y) (some_same f e (sym (ap (option_map (λ a. line_effect p a y.spe (fate m P a))) at) ∙ g)) (r a may at))
     told)
 
 -- a step that has an effect leaves something
@@ -175,8 +173,8 @@ exec_leaves : (p lines : ℕ) (P : Spe) (m : MainMemory) (o : Option Spe) (Q : S
     → o ≡ Some Q → LeavesAs p (stored_by P (instr P)) P m (left m Q) (exec_effect p P Q)
 exec_leaves p lines P m None Q same is = none_is _ Q is
 exec_leaves p lines P m (Some K) Q same is =
-    let k : K ≡ Q = some_is K Q is in
-    let st : K.store ≡ store_after P (instr P) P.store = ap (λ (X : Spe). X.store) (some_is K _ same) in
+    let k : K ≡ Q = some_same K Q is in
+    let st : K.store ≡ store_after P (instr P) P.store = ap (λ (X : Spe). X.store) (some_same K _ same) in
     store_leaves p P Q m (instr P) (ap (λ (X : Spe). X.store) (sym k) ∙ st)
 
 -- a copy by a processor K that has P's store
