@@ -25,3 +25,5 @@ pub mod MemoryShown
 pub mod AtomicSteps
 pub mod LocksKept
 pub mod LocksRun
+pub mod Sizes
+pub mod Sounds

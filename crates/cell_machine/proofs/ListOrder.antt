@@ -106,7 +106,7 @@ follows-none p P same = record {
   done = λ c n k. ap (λ (m : Moves). one_if (is_done m.done c n k)) (sym same);
 }
 
-run-follows : (S : Opening) (steps : List Step) (N : State) (p : ℕ) (Q : Spe) → replay (opening S) steps ≡ Some N → slice_get N.spes p ≡ Some Q → Follows p steps Q
+pub run-follows : (S : Opening) (steps : List Step) (N : State) (p : ℕ) (Q : Spe) → replay (opening S) steps ≡ Some N → slice_get N.spes p ≡ Some Q → Follows p steps Q
 run-follows S steps N p Q run at =
     let within = get-within N.spes p Q at in
     let count = replay-count (opening S) steps N run in

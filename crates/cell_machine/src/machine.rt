@@ -18,6 +18,7 @@ ghost use Rattle.cell_machine.specs.Run.{Ran, IsRun, state_of, next_of, spe_of, 
 ghost use Rattle.cell_machine.specs.Order.{IsInOrder};
 ghost use Rattle.cell_machine.specs.Lists.{ListsAreInOrder};
 ghost use Rattle.cell_machine.specs.Locks.{AreLocksKept};
+ghost use Rattle.cell_machine.specs.Sound.{IsSound};
 ghost use Rattle.lock_lines.specs.Stands.{HasSameSize};
 ghost use Rattle.cell_machine.specs.Shows.{Shows, AllTwo, ShowsSpe, IsFit, CanGo, AreSettled};
 
@@ -274,13 +275,15 @@ impl Machine {
     /// before it are complete (CBEA, "Command ordering"), what is complete stays complete, and a command keeps its number.
     /// The elements of a list are read in their order, each after the one before it was copied and, where the list stalls behind
     /// it, that was acknowledged. A PUTLLC stores exactly where its processor's latest GETLLAR or PUTLLC was a GETLLAR of that line
-    /// and no store has touched the line since.
+    /// and no store has touched the line since. The state after them is sound: its memory, local stores and registers have their
+    /// sizes, all commands, elements and actions of the script fit, and no list has more elements read than it has.
     pub fn steps(&self) -> &[Step]
         ensures steps { result.now ≡ self.now.steps }
         ensures run { IsRun self.now.setup self.now.steps }
         ensures order { IsInOrder self.now }
         ensures lists { ListsAreInOrder self.now }
         ensures locks { AreLocksKept self.now }
+        ensures sound { IsSomeAnd (state_of self.now) (IsSound self.now.setup.lines (length self.now.steps)) }
     {
         &self.steps
     }

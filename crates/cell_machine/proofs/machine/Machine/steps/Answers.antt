@@ -1,6 +1,7 @@
 use Rattle.cell_machine.proofs.Completion.{machine-in_order}
 use Rattle.cell_machine.proofs.ListOrder.{machine-lists_in_order}
 use Rattle.cell_machine.proofs.LocksRun.{machine-locks_kept}
+use Rattle.cell_machine.proofs.Sounds.{machine-sound}
 use Rattle.cell_machine.proofs.machine.Machine.steps.Goals as goal
 
 pub returns-clause-order : goal.returns-clause-order
@@ -11,3 +12,6 @@ returns-clause-lists c = machine-lists_in_order _ _ _ _ _ _ _ c.self.invariant c
 
 pub returns-clause-locks : goal.returns-clause-locks
 returns-clause-locks c = machine-locks_kept _ _ _ _ _ _ _ c.self.invariant c.self.view_is
+
+pub returns-clause-sound : goal.returns-clause-sound
+returns-clause-sound c = machine-sound _ _ _ _ _ _ _ c.self.invariant c.self.view_is
