@@ -25,12 +25,12 @@ use Rattle.cell_machine.proofs.SpeShown.{PartLeft, part-facts, and_off, complete
 
 -- ---- one state is put
 
-set-here : {X : Type 0} (xs : List X) (i : ℕ) (x : X) → i < length xs → slice_get (slice_set xs i x) i ≡ Some x
+pub set-here : {X : Type 0} (xs : List X) (i : ℕ) (x : X) → i < length xs → slice_get (slice_set xs i x) i ≡ Some x
 set-here [] i x h = absurd (omega arith)
 set-here (y ∷ xs) zero x h = refl
 set-here (y ∷ xs) (suc i) x h = set-here xs i x (omega arith)
 
-set-other : {X : Type 0} (xs : List X) (i j : ℕ) (x : X) → i ≢ j → slice_get (slice_set xs i x) j ≡ slice_get xs j
+pub set-other : {X : Type 0} (xs : List X) (i j : ℕ) (x : X) → i ≢ j → slice_get (slice_set xs i x) j ≡ slice_get xs j
 set-other [] i j x h = refl
 set-other (y ∷ xs) zero zero x h = absurd (h refl)
 set-other (y ∷ xs) zero (suc j) x h = refl

@@ -27,3 +27,11 @@ pub mod LocksKept
 pub mod LocksRun
 pub mod Sizes
 pub mod Sounds
+pub mod BytesLaws
+pub mod StoreFree
+pub mod StepBytes
+pub mod StepSame
+pub mod StateBytes
+pub mod HostBytes
+pub mod EffectBytes
+pub mod EffectsFitted
