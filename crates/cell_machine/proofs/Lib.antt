@@ -35,3 +35,4 @@ pub mod StateBytes
 pub mod HostBytes
 pub mod EffectBytes
 pub mod EffectsFitted
+pub mod ByteRunning

@@ -19,6 +19,7 @@ ghost use Rattle.cell_machine.specs.Order.{IsInOrder};
 ghost use Rattle.cell_machine.specs.Lists.{ListsAreInOrder};
 ghost use Rattle.cell_machine.specs.Locks.{AreLocksKept};
 ghost use Rattle.cell_machine.specs.Sound.{IsSound};
+ghost use Rattle.cell_machine.specs.ByteRuns.{RunsOnBytes};
 ghost use Rattle.lock_lines.specs.Stands.{HasSameSize};
 ghost use Rattle.cell_machine.specs.Shows.{Shows, AllTwo, ShowsSpe, IsFit, CanGo, AreSettled};
 
@@ -276,7 +277,8 @@ impl Machine {
     /// The elements of a list are read in their order, each after the one before it was copied and, where the list stalls behind
     /// it, that was acknowledged. A PUTLLC stores exactly where its processor's latest GETLLAR or PUTLLC was a GETLLAR of that line
     /// and no store has touched the line since. The state after them is sound: its memory, local stores and registers have their
-    /// sizes, all commands, elements and actions of the script fit, and no list has more elements read than it has.
+    /// sizes, all commands, elements and actions of the script fit, and no list has more elements read than it has. What the steps
+    /// read and write by their effects, done on the opening bytes alone, reads what the machine reads and leaves the machine's bytes.
     pub fn steps(&self) -> &[Step]
         ensures steps { result.now ≡ self.now.steps }
         ensures run { IsRun self.now.setup self.now.steps }
@@ -284,6 +286,7 @@ impl Machine {
         ensures lists { ListsAreInOrder self.now }
         ensures locks { AreLocksKept self.now }
         ensures sound { IsSomeAnd (state_of self.now) (IsSound self.now.setup.lines (length self.now.steps)) }
+        ensures bytes { RunsOnBytes self.now }
     {
         &self.steps
     }

@@ -1,3 +1,4 @@
+use Rattle.cell_machine.proofs.ByteRunning.{machine-bytes}
 use Rattle.cell_machine.proofs.Completion.{machine-in_order}
 use Rattle.cell_machine.proofs.ListOrder.{machine-lists_in_order}
 use Rattle.cell_machine.proofs.LocksRun.{machine-locks_kept}
@@ -15,3 +16,6 @@ returns-clause-locks c = machine-locks_kept _ _ _ _ _ _ _ c.self.invariant c.sel
 
 pub returns-clause-sound : goal.returns-clause-sound
 returns-clause-sound c = machine-sound _ _ _ _ _ _ _ c.self.invariant c.self.view_is
+
+pub returns-clause-bytes : goal.returns-clause-bytes
+returns-clause-bytes c = machine-bytes _ _ _ _ _ _ _ c.self.invariant c.self.view_is
