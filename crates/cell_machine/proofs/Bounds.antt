@@ -57,11 +57,11 @@ use Rattle.cell_machine.proofs.Elements.{part-is, element-is}
 use Rattle.cell_machine.proofs.Steps.{settled-set}
 
 -- what holds of each outcome holds of the one that comes
-if_cond : {X : Type 0} (b : Bool) (x y : Option X) (R : X → Type 0) → IfSome x R → IfSome y R → IfSome (cond b x y) R
+pub if_cond : {X : Type 0} (b : Bool) (x y : Option X) (R : X → Type 0) → IfSome x R → IfSome y R → IfSome (cond b x y) R
 if_cond true x y R h k = h
 if_cond false x y R h k = k
 
-on_cond : {X : Type 0} (b : Bool) (x y : X) (R : X → Type 0) → R x → R y → R (cond b x y)
+pub on_cond : {X : Type 0} (b : Bool) (x y : X) (R : X → Type 0) → R x → R y → R (cond b x y)
 on_cond true x y R h k = h
 on_cond false x y R h k = k
 
@@ -505,7 +505,7 @@ host-made processors memory host M true all h = on (host_step M) refl h
     on (Some N) e shows = record { spes = subst (AllTwo ShowsSpe processors) (sym (host-settled M N e all)) shows.spes; memory_is = subst (λ spes. ShowsMemory memory N.memory (reservations spes)) (sym (host-settled M N e all)) shows.memory_is; host_is = shows.host_is }
 
 -- and the commands stay bounded
-set_cases : {X : Type 0} (xs : List X) (p q : ℕ) (y x : X) (G : Type 0) → slice_get (slice_set xs p y) q ≡ Some x → (x ≡ y → G) → (slice_get xs q ≡ Some x → G) → G
+pub set_cases : {X : Type 0} (xs : List X) (p q : ℕ) (y x : X) (G : Type 0) → slice_get (slice_set xs p y) q ≡ Some x → (x ≡ y → G) → (slice_get xs q ≡ Some x → G) → G
 set_cases [] p q y x G h new old = absurd (cc)
 set_cases (z ∷ xs) zero zero y x G h new old = new (cc)
 set_cases (z ∷ xs) zero (suc q) y x G h new old = old h

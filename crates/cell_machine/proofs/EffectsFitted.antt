@@ -180,10 +180,10 @@ own_fits p lines n m Host P x e long whole bounded is effect = none_is _ x is
 -- ---- in the whole state
 
 -- what a step writes and reads lies in its places, and it writes as many bytes as it says
-record FitsSpans (M : State) (s : Step) (e : Effect) : Type 0 where
-  new : length (new_bytes M s e) ≡ e.writes.len
-  writes : e.writes.at + e.writes.len ≤ length (bytes_of M e.writes.place)
-  reads : e.reads.at + e.reads.len ≤ length (bytes_of M e.reads.place)
+pub record FitsSpans (M : State) (s : Step) (e : Effect) : Type 0 where
+  pub new : length (new_bytes M s e) ≡ e.writes.len
+  pub writes : e.writes.at + e.writes.len ≤ length (bytes_of M e.writes.place)
+  pub reads : e.reads.at + e.reads.len ≤ length (bytes_of M e.reads.place)
 
 fits_own : (lines n : ℕ) (M : State) (s : Step) (p : ℕ) (P : Spe) (e : Effect) → maker s ≡ Some p → slice_get M.spes p ≡ Some P → IsSound lines n M → effect_of M s ≡ Some e → FitsSpans M s e
 fits_own lines n M s p P e by at sound effect =
@@ -225,7 +225,7 @@ fits_host lines n M e sound effect = on (slice_get M.host.script M.host.done) re
           reads = omega arith;
         })
 
-fits_spans : (lines n : ℕ) (M : State) (s : Step) (e : Effect) → IsSound lines n M → effect_of M s ≡ Some e → FitsSpans M s e
+pub fits_spans : (lines n : ℕ) (M : State) (s : Step) (e : Effect) → IsSound lines n M → effect_of M s ≡ Some e → FitsSpans M s e
 fits_spans lines n M (Exec p) e sound effect = there M (Exec p) p e _ refl effect (λ P at. fits_own lines n M (Exec p) p P e refl at sound effect)
 fits_spans lines n M (Piece p c e0 k) e sound effect = there M (Piece p c e0 k) p e _ refl effect (λ P at. fits_own lines n M (Piece p c e0 k) p P e refl at sound effect)
 fits_spans lines n M (Elem p c) e sound effect = there M (Elem p c) p e _ refl effect (λ P at. fits_own lines n M (Elem p c) p P e refl at sound effect)

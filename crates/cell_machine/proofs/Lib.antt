@@ -25,6 +25,8 @@ pub mod MemoryShown
 pub mod AtomicSteps
 pub mod LocksKept
 pub mod LocksRun
+pub mod Sizes
+pub mod Sounds
 pub mod BytesLaws
 pub mod StoreFree
 pub mod StepBytes
@@ -34,3 +36,4 @@ pub mod HostBytes
 pub mod EffectBytes
 pub mod EffectsFitted
 pub mod Recorded
+pub mod ByteRunning

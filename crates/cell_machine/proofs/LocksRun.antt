@@ -48,7 +48,7 @@ use Rattle.cell_machine.proofs.LocksKept.{raised_by, raised-own, raised-other, I
 
 -- ---- the bytes that a step stores
 
-put-length : (bytes part : List ℕ) (at : ℕ) → at + length part ≤ length bytes → length (put bytes at part) ≡ length bytes
+pub put-length : (bytes part : List ℕ) (at : ℕ) → at + length part ≤ length bytes → length (put bytes at part) ≡ length bytes
 put-length bytes part at h =
     let outer = length-append (take at bytes) (part ++ drop (at + length part) bytes) in
     let inner = length-append part (drop (at + length part) bytes) in
@@ -59,11 +59,11 @@ put-length bytes part at h =
 take-few : (n : ℕ) (xs : List ℕ) → length (take n xs) ≤ n
 take-few n xs = let e = length-take n xs in omega arith
 
-range-few : (xs : List ℕ) (at len : ℕ) → length (slice_range xs at (at + len)) ≤ len
+pub range-few : (xs : List ℕ) (at len : ℕ) → length (slice_range xs at (at + len)) ≤ len
 range-few xs at len = let few = take-few (at + len - at) (drop at xs) in omega arith
 
 -- what a step does to the memory, of so many lines: nothing, or the store of bytes that are there to this line
-data Touches (lines : ℕ) (m n : MainMemory) (line : Option ℕ) : Type 0 where
+pub data Touches (lines : ℕ) (m n : MainMemory) (line : Option ℕ) : Type 0 where
   leaves : n ≡ m → line ≡ None → Touches lines m n line
   stores : (at : ℕ) (bytes : List ℕ) → n ≡ stored m at bytes → line ≡ Some (at / 128) → at < 128 * lines → at + length bytes ≤ 128 * lines → Touches lines m n line
 
@@ -125,9 +125,9 @@ left_touches lines m None = tt
 left_touches lines m (Some P) = leaves refl refl
 
 -- what a step does to the memory and to the script
-record Acts (lines : ℕ) (s : Step) (M N : State) : Type 0 where
-  touches : Touches lines M.memory N.memory (stored_by M s)
-  script : N.host.script ≡ M.host.script
+pub record Acts (lines : ℕ) (s : Step) (M N : State) : Type 0 where
+  pub touches : Touches lines M.memory N.memory (stored_by M s)
+  pub script : N.host.script ≡ M.host.script
 
 -- a step of a processor
 in_acts : (lines p : ℕ) (s : Step) (M : State) → ((P : Spe) → slice_get M.spes p ≡ Some P → IfSome (own M.memory s P) (λ x. Touches lines M.memory x.memory (stored_by M s))) → IfSome (act_in M p s) (Acts lines s M)
@@ -170,13 +170,13 @@ host_acts lines spes M fits =
     (subst (FitsAction lines spes) is (fits M.host.done a (slice_get_within M.host.script M.host.done a at)))
     (ap (option_and_then stored_by_action) at))
 
-act_acts : (lines n spes : ℕ) (M : State) (s : Step) → AreBounded lines n M.spes → All (FitsAction lines spes) M.host.script → IfSome (act M s) (Acts lines s M)
-act_acts lines n spes M (Exec p) bounded fits = in_acts lines p (Exec p) M (λ P at. left_touches lines M.memory (exec (lines_of M.memory) P))
-act_acts lines n spes M (Piece p c e k) bounded fits = in_acts lines p (Piece p c e k) M (λ P at. rw at (piece_touches lines n M.memory P c e k (bounded p P at)))
-act_acts lines n spes M (Elem p c) bounded fits = in_acts lines p (Elem p c) M (λ P at. left_touches lines M.memory (elem (lines_of M.memory) P c))
-act_acts lines n spes M (Retire p c) bounded fits = in_acts lines p (Retire p c) M (λ P at. left_touches lines M.memory (retire P c))
-act_acts lines n spes M (Atomic p) bounded fits = in_acts lines p (Atomic p) M (λ P at. rw at (atomic_touches lines n M.memory P (bounded p P at)))
-act_acts lines n spes M Host bounded fits = host_acts lines spes M fits
+pub act-acts : (lines n spes : ℕ) (M : State) (s : Step) → AreBounded lines n M.spes → All (FitsAction lines spes) M.host.script → IfSome (act M s) (Acts lines s M)
+act-acts lines n spes M (Exec p) bounded fits = in_acts lines p (Exec p) M (λ P at. left_touches lines M.memory (exec (lines_of M.memory) P))
+act-acts lines n spes M (Piece p c e k) bounded fits = in_acts lines p (Piece p c e k) M (λ P at. rw at (piece_touches lines n M.memory P c e k (bounded p P at)))
+act-acts lines n spes M (Elem p c) bounded fits = in_acts lines p (Elem p c) M (λ P at. left_touches lines M.memory (elem (lines_of M.memory) P c))
+act-acts lines n spes M (Retire p c) bounded fits = in_acts lines p (Retire p c) M (λ P at. left_touches lines M.memory (retire P c))
+act-acts lines n spes M (Atomic p) bounded fits = in_acts lines p (Atomic p) M (λ P at. rw at (atomic_touches lines n M.memory P (bounded p P at)))
+act-acts lines n spes M Host bounded fits = host_acts lines spes M fits
 
 -- ---- what holds of every state of a run
 
@@ -188,10 +188,10 @@ record Holds (S : Opening) (M : State) : Type 0 where
   fits : All (FitsAction S.lines (length S.entries)) M.host.script
   past : (p : ℕ) (P : Spe) → slice_get M.spes p ≡ Some P → IsPast M.memory.versions P.reserved
 
-touched_long : (lines : ℕ) (m n : MainMemory) (line : Option ℕ) → Touches lines m n line → length m.bytes ≡ 128 * lines → length n.bytes ≡ 128 * lines
+pub touched-long : (lines : ℕ) (m n : MainMemory) (line : Option ℕ) → Touches lines m n line → length m.bytes ≡ 128 * lines → length n.bytes ≡ 128 * lines
 unfolding stored
-touched_long lines m n line (leaves same none) long = ap (λ (k : MainMemory). length k.bytes) same ∙ long
-touched_long lines m n line (stores at bytes same one low within) long =
+touched-long lines m n line (leaves same none) long = ap (λ (k : MainMemory). length k.bytes) same ∙ long
+touched-long lines m n line (stores at bytes same one low within) long =
     ap (λ (k : MainMemory). length k.bytes) same ∙ put-length m.bytes bytes at (subst (λ k. at + length bytes ≤ k) (sym long) within) ∙ long
 
 touched_versions : (lines : ℕ) (m n : MainMemory) (line : Option ℕ) → Touches lines m n line → n.versions ≡ raised_by m.versions line
@@ -282,12 +282,12 @@ seen-reserved M s K p P Q e at got (goes g) = on s e g.moved g.reserved
 
 -- ---- one step of a run
 
-map-is : {X Y : Type 0} (f : X → Y) (o : Option X) (y : Y) → option_map f o ≡ Some y → (x : X) × (o ≡ Some x) × (f x ≡ y)
+pub map-is : {X Y : Type 0} (f : X → Y) (o : Option X) (y : Y) → option_map f o ≡ Some y → (x : X) × (o ≡ Some x) × (f x ≡ y)
 map-is f None y h = absurd (cc)
 map-is f (Some x) y h = (x, refl, (cc))
 
 step_acts : (S : Opening) (M : State) (s : Step) (K : State) → Holds S M → act M s ≡ Some K → Acts S.lines s M K
-step_acts S M s K holds e = if_is (act M s) K (Acts S.lines s M) e (act_acts S.lines holds.issued (length S.entries) M s holds.bounded holds.fits)
+step_acts S M s K holds e = if_is (act M s) K (Acts S.lines s M) e (act-acts S.lines holds.issued (length S.entries) M s holds.bounded holds.fits)
 
 act-stepped : (S : Opening) (M : State) (s : Step) (K : State) (p : ℕ) (Q : Spe) → Holds S M → act M s ≡ Some K → slice_get (map settled K.spes) p ≡ Some Q
     → (P : Spe) × (slice_get M.spes p ≡ Some P) × Stepped M s (ended_by M s K) p P Q
@@ -354,7 +354,7 @@ next-holds S M s N holds e =
     let K = map-is (ended_by M s) (act M s) N e in
     let does = step_acts S M s K.0 holds K.1 in
     subst (Holds S) K.2 (record {
-      long = touched_long S.lines M.memory K.0.memory (stored_by M s) does.touches holds.long;
+      long = touched-long S.lines M.memory K.0.memory (stored_by M s) does.touches holds.long;
       versions = ap length (touched_versions S.lines M.memory K.0.memory (stored_by M s) does.touches) ∙ raised_count M.memory.versions (stored_by M s) ∙ holds.versions;
       issued = holds.issued + 1;
       bounded = act-bounded M s K.0 S.lines holds.issued (lines-are S M holds) K.1 holds.bounded;
@@ -364,7 +364,7 @@ next-holds S M s N holds e =
 
 -- ---- a run
 
-fill-length : (n : ℕ) (memory : List ℕ) (pieces : List InMemory) → length memory ≡ 128 * n → All (FitsMemory n) pieces → length (filled memory pieces) ≡ 128 * n
+pub fill-length : (n : ℕ) (memory : List ℕ) (pieces : List InMemory) → length memory ≡ 128 * n → All (FitsMemory n) pieces → length (filled memory pieces) ≡ 128 * n
 fill-length n memory [] long fits = long
 fill-length n memory (x ∷ pieces) long fits =
     let within : x.at + length x.bytes ≤ 128 * n = fits 0 x (omega arith) in

@@ -93,9 +93,9 @@ length-enumerate f n [] = refl
 length-enumerate f n (x ∷ xs) = ap suc (length-enumerate f (n + 1) xs)
 
 -- at the start all processors are settled, and no command was issued
-opening_settled : (S : Opening) (xs : List (ℕ × ℕ)) → map settled (map (opening_spe S) xs) ≡ map (opening_spe S) xs
-opening_settled S [] = refl
-opening_settled S (x ∷ xs) = ap (λ ys. opening_spe S x ∷ ys) (opening_settled S xs)
+pub opening-settled : (S : Opening) (xs : List (ℕ × ℕ)) → map settled (map (opening_spe S) xs) ≡ map (opening_spe S) xs
+opening-settled S [] = refl
+opening-settled S (x ∷ xs) = ap (λ ys. opening_spe S x ∷ ys) (opening-settled S xs)
 
 pub opening_bounded : (S : Opening) → AreBounded S.lines 0 (opening_spes S)
 opening_bounded S p P at =
@@ -135,7 +135,7 @@ machine-new S processors memory host steps capacity is shows fills size begins n
       state = opening S;
       replayed = ap (replay (opening S)) none;
       shown = record { spes = shows; memory_is = subst (ShowsMemory memory (opening_memory S)) reserved fills; host_is = begins };
-      settled = opening_settled S (enumerate_from 0 S.entries);
+      settled = opening-settled S (enumerate_from 0 S.entries);
       bounded = rw none (opening_bounded S);
       size = (size.0, size.1 ∙ sym many);
       script = ap (λ (h : Progress). h.script) (sym begins);

@@ -21,6 +21,8 @@ ghost use Rattle.cell_machine.specs.EffectLaws.{FixesOnce};
 ghost use Rattle.cell_machine.specs.Order.{IsInOrder};
 ghost use Rattle.cell_machine.specs.Lists.{ListsAreInOrder};
 ghost use Rattle.cell_machine.specs.Locks.{AreLocksKept};
+ghost use Rattle.cell_machine.specs.Sound.{IsSound};
+ghost use Rattle.cell_machine.specs.ByteRuns.{RunsOnBytes};
 ghost use Rattle.lock_lines.specs.Stands.{HasSameSize};
 ghost use Rattle.cell_machine.specs.Shows.{Shows, AllTwo, ShowsSpe, IsFit, CanGo, AreSettled};
 
@@ -279,7 +281,10 @@ impl Machine {
     /// before it are complete (CBEA, "Command ordering"), what is complete stays complete, and a command keeps its number.
     /// The elements of a list are read in their order, each after the one before it was copied and, where the list stalls behind
     /// it, that was acknowledged. A PUTLLC stores exactly where its processor's latest GETLLAR or PUTLLC was a GETLLAR of that line
-    /// and no store has touched the line since. A record can have each of them, in its number of steps and in each number of a step.
+    /// and no store has touched the line since. The state after them is sound: its memory, local stores and registers have their
+    /// sizes, all commands, elements and actions of the script fit, and no list has more elements read than it has. What the steps
+    /// read and write by their effects, done on the opening bytes alone, reads what the machine reads and leaves the machine's bytes.
+    /// A record can have each of them, in its number of steps and in each number of a step.
     pub fn steps(&self) -> &[Step]
         ensures steps { result.now ≡ self.now.steps }
         ensures run { IsRun self.now.setup self.now.steps }
@@ -287,6 +292,8 @@ impl Machine {
         ensures lists { ListsAreInOrder self.now }
         ensures locks { AreLocksKept self.now }
         ensures recorded { AreSteps self.now.steps }
+        ensures sound { IsSomeAnd (state_of self.now) (IsSound self.now.setup.lines (length self.now.steps)) }
+        ensures bytes { RunsOnBytes self.now }
     {
         &self.steps
     }
