@@ -17,6 +17,7 @@ returns-clause-locks c = machine-locks_kept _ _ _ _ _ _ _ c.self.invariant c.sel
 
 pub returns-clause-recorded : goal.returns-clause-recorded
 returns-clause-recorded c = machine-recorded _ _ _ _ _ _ _ c.self.invariant c.self.view_is
+
 pub returns-clause-sound : goal.returns-clause-sound
 returns-clause-sound c = machine-sound _ _ _ _ _ _ _ c.self.invariant c.self.view_is
 
