@@ -1,4 +1,4 @@
--- A step leaves as many registers, each of 16 bytes, and as long a store.
+-- A step leaves as many registers, each of 16 bytes, as long a store, and the PC at a place.
 use Rattle.std.proofs.Common.{◌≡◌, ℕ, zero, suc, ◌+◌, ◌-◌, ◌/◌, ◌<◌, ◌≤◌, ◌==◌, Bool, true, false, List, [], ◌∷◌, length, map, slice_set, arith, refl, sym, ◌∙◌, ap, subst}
 use Rattle.std.specs.Prelude.{Option, Some, None, IfSome, is_some, slice_get, slice_range, option_map, cond, nat_lt, Result, Ok, Err}
 use Rattle.std.proofs.lemmas.Bool.Decides.{nat_tests}
@@ -28,6 +28,8 @@ use Rattle.spu_decode.specs.Spelling.{instr_of}
 use Rattle.spu_exec.specs.declared.flow.Flow.{Flow}
 use Rattle.spu_exec.specs.declared.flow.Flow.TheVariants.{Next, Stop, Halt, Channel}
 use Rattle.spu_exec.specs.Meaning.{meaning, value_of, with_value, with_stored, stored_at, displaced, indexed, absolute, relative}
+use Rattle.spu_exec.specs.Places.{IsPlace, LeadsToPlace, next_pc}
+use Rattle.spu_exec.proofs.FlowPlaces.{next-place, flow-leads}
 use Rattle.spu_exec.proofs.RowLengths.{computed-long, first_long}
 use Rattle.spu_regs.specs.Registers.{register}
 use Rattle.tag_groups.specs.declared.TagStatus.{TagStatus}
@@ -48,39 +50,45 @@ use Rattle.cell_machine.proofs.Elements.{part-is}
 use Rattle.cell_machine.proofs.Controllers.{element-fits}
 use Rattle.cell_machine.proofs.LocksRun.{put-length, range-few}
 
--- 128 registers of 16 bytes, and a store of 262,144
-pub record AreSized (registers : List (List ℕ)) (bytes : List ℕ) : Type 0 where
+-- 128 registers of 16 bytes, a store of 262,144, and an address at which an instruction may stand
+pub record AreSized (pc : ℕ) (registers : List (List ℕ)) (bytes : List ℕ) : Type 0 where
+  pub place : IsPlace pc
   pub many : length registers ≡ 128
   pub quads : (r : ℕ) (q : List ℕ) → slice_get registers r ≡ Some q → length q ≡ 16
   pub store : length bytes ≡ 262144
 
 abbrev pub IsSized : Spe → Type 0
-IsSized P = AreSized P.registers P.store
+IsSized P = AreSized P.pc P.registers P.store
 
 abbrev pub AllSized : List Spe → Type 0
 AllSized spes = (p : ℕ) (P : Spe) → slice_get spes p ≡ Some P → IsSized P
 
 -- ---- a register is set, and bytes are stored
 
-with_quad : (regs : List (List ℕ)) (store : List ℕ) (rt : ℕ) (q : List ℕ) → AreSized regs store → length q ≡ 16 → AreSized (slice_set regs rt q) store
-with_quad regs store rt q all long = record {
+with_quad : (pc : ℕ) (regs : List (List ℕ)) (store : List ℕ) (rt : ℕ) (q : List ℕ) → AreSized pc regs store → length q ≡ 16 → AreSized pc (slice_set regs rt q) store
+with_quad pc regs store rt q all long = record {
+  place = all.place;
   many = length-set regs rt q ∙ all.many;
   quads = λ r y at. set_cases regs rt r q y (length y ≡ 16) at (λ same. ap length same ∙ long) (all.quads r y);
   store = all.store;
 }
 
-with_bytes : (regs : List (List ℕ)) (store bytes : List ℕ) (at : ℕ) → AreSized regs store → at + length bytes ≤ 262144 → AreSized regs (put store at bytes)
-with_bytes regs store bytes at all within = record {
+with_bytes : (pc : ℕ) (regs : List (List ℕ)) (store bytes : List ℕ) (at : ℕ) → AreSized pc regs store → at + length bytes ≤ 262144 → AreSized pc regs (put store at bytes)
+with_bytes pc regs store bytes at all within = record {
+  place = all.place;
   many = all.many;
   quads = all.quads;
   store = put-length store bytes at (let long = all.store in omega arith) ∙ all.store;
 }
 
+with_pc : (pc next : ℕ) (regs : List (List ℕ)) (store : List ℕ) → AreSized pc regs store → IsPlace next → AreSized next regs store
+with_pc pc next regs store all place = record { place = place; many = all.many; quads = all.quads; store = all.store }
+
 -- ---- instructions
 
-with_result : (regs : List (List ℕ)) (store : List ℕ) (rt : ℕ) (v : Option (List ℕ)) → AreSized regs store → IfSome v (λ q. length q ≡ 16) → AreSized (with_value rt v regs) store
-with_result regs store rt None all long = all
-with_result regs store rt (Some q) all long = with_quad regs store rt q all long
+with_result : (pc : ℕ) (regs : List (List ℕ)) (store : List ℕ) (rt : ℕ) (v : Option (List ℕ)) → AreSized pc regs store → IfSome v (λ q. length q ≡ 16) → AreSized pc (with_value rt v regs) store
+with_result pc regs store rt None all long = all
+with_result pc regs store rt (Some q) all long = with_quad pc regs store rt q all long
 
 quad_long : (store : List ℕ) (at : ℕ) → length store ≡ 262144 → length (quad_at store at) ≡ 16
 quad_long store at long =
@@ -102,24 +110,27 @@ register_few [] r all = omega arith
 register_few (x ∷ regs) zero all = let long = all 0 x refl in omega arith
 register_few (x ∷ regs) (suc r) all = register_few regs r (λ k q at. all (suc k) q at)
 
-with_stored_sized : (regs : List (List ℕ)) (store t : List ℕ) (o : Option ℕ) → AreSized regs store → length t ≤ 16 → AreSized regs (with_stored o t store)
-with_stored_sized regs store t None all few = all
-with_stored_sized regs store t (Some at) all few = with_bytes regs store t (line_of at) all (omega arith)
+with_quad_stored : (pc : ℕ) (regs : List (List ℕ)) (store t : List ℕ) (o : Option ℕ) → AreSized pc regs store → length t ≤ 16 → AreSized pc regs (with_stored o t store)
+with_quad_stored pc regs store t None all few = all
+with_quad_stored pc regs store t (Some at) all few = with_bytes pc regs store t (line_of at) all (omega arith)
 
 module _ (lines : ℕ) (P : Spe) (all : IsSized P) where
+  went : AreSized (next_pc P.pc) P.registers P.store
+  went = with_pc P.pc (next_pc P.pc) P.registers P.store all (next-place P.pc all.place)
+
   given_sized : (rt value : ℕ) → IsSized (with_given P rt value)
-  given_sized rt value = with_quad P.registers P.store rt _ all (first_long value)
+  given_sized rt value = with_quad (next_pc P.pc) P.registers P.store rt _ went (first_long value)
 
   issued_sized : (r : Result Order Fault) → IsSized (issued_by P r)
-  issued_sized (Ok (Queued d)) = all
-  issued_sized (Ok (AtomicOrder a)) = all
+  issued_sized (Ok (Queued d)) = went
+  issued_sized (Ok (AtomicOrder a)) = went
   issued_sized (Err kind) = all
 
   written_sized : (ch value : ℕ) → IsSized (written lines P ch value)
   unfolding written commanded acknowledged
   written_sized ch value =
       on_cond (ch == 21) _ _ IsSized (issued_sized (checked P.channels.params value lines))
-      (on_cond (ch == 22) _ _ IsSized all (on_cond (ch == 23) _ _ IsSized all (on_cond (ch == 26) _ _ IsSized all (on_cond (ch == 28) _ _ IsSized all (on_cond (ch == 30) _ _ IsSized all all)))))
+      (on_cond (ch == 22) _ _ IsSized went (on_cond (ch == 23) _ _ IsSized went (on_cond (ch == 26) _ _ IsSized went (on_cond (ch == 28) _ _ IsSized went (on_cond (ch == 30) _ _ IsSized went went)))))
 
   status_sized : (rt : ℕ) (o : Option TagStatus) → IfSome (read_status P rt o) IsSized
   status_sized rt None = tt
@@ -146,11 +157,11 @@ module _ (lines : ℕ) (P : Spe) (all : IsSized P) where
   channel_sized (Count rt ch) = if_cond (is_some (way_of ch)) (Some (with_given P rt (count P ch))) _ IsSized (given_sized rt (count P ch)) all
   channel_sized (Write ch value) = if_cond (is_write (way_of ch)) _ _ IsSized (if_cond (may_write P ch value) _ _ IsSized (written_sized ch value) tt) all
 
-  followed_sized : (flow : Flow) → IfSome (followed lines P flow) IsSized
-  followed_sized (Next pc) = all
-  followed_sized (Stop code next) = all
-  followed_sized (Halt next) = all
-  followed_sized (Channel op) = channel_sized op
+  followed_sized : (flow : Flow) → LeadsToPlace flow → IfSome (followed lines P flow) IsSized
+  followed_sized (Next pc) leads = with_pc P.pc pc P.registers P.store all leads
+  followed_sized (Stop code next) leads = with_pc P.pc next P.registers P.store all leads
+  followed_sized (Halt next) leads = with_pc P.pc next P.registers P.store all leads
+  followed_sized (Channel op) leads = channel_sized op
 
 instr_sized : (lines : ℕ) (P : Spe) (o : Option Instr) → IsSized P → IfSome (exec_instr lines P o) IsSized
 unfolding meaning
@@ -161,10 +172,10 @@ instr_sized lines P (Some i) all =
     let b = register P.registers i.rb in
     let t = register P.registers i.rt in
     followed_sized lines (record P { registers = n.regs; store = n.store })
-    (with_stored_sized n.regs P.store t (stored_at i.row i.imm P.pc a b)
-    (with_result P.registers P.store i.rt _ all (value_long i.row i.imm P.pc a b (register P.registers i.rc) t P.store all.store))
+    (with_quad_stored P.pc n.regs P.store t (stored_at i.row i.imm P.pc a b)
+    (with_result P.pc P.registers P.store i.rt _ all (value_long i.row i.imm P.pc a b (register P.registers i.rc) t P.store all.store))
     (register_few P.registers i.rt all.quads))
-    n.flow
+    n.flow (flow-leads i i.row P.pc a b t all.place)
 
 exec_sized : (lines : ℕ) (P : Spe) → IsSized P → IfSome (exec lines P) IsSized
 unfolding exec
@@ -182,7 +193,7 @@ unfolding copied
 copied_sized memory P true x all within = all
 copied_sized memory P false x all within =
     let few = range-few memory.bytes x.ea x.len in
-    with_bytes P.registers P.store (slice_range memory.bytes x.ea (x.ea + x.len)) x.ls all (omega arith)
+    with_bytes P.pc P.registers P.store (slice_range memory.bytes x.ea (x.ea + x.len)) x.ls all (omega arith)
 
 part_fits : (lines : ℕ) (x : Element) (k : ℕ) → ElementFits lines x → k < parts_in x → (part_in x k).ls + (part_in x k).len ≤ 262144
 part_fits lines x k fits h = on (x.size == 0) refl h

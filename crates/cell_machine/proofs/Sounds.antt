@@ -6,9 +6,11 @@ use Rattle.std.proofs.lemmas.List.{length-replicate}
 use Rattle.cell_base.specs.Bytes.{put, zeros}
 use Rattle.cell_base.specs.declared.steps.Step.{Step}
 use Rattle.cell_host.specs.Script.{Progress}
+use Rattle.spu_exec.specs.Places.{IsPlace}
 use Rattle.spu_regs.specs.Registers.{zero_registers}
 use Rattle.cell_machine.specs.declared.memory.SharedMemory.{SharedMemory}
 use Rattle.cell_machine.specs.declared.processor.Processor.{Processor}
+use Rattle.cell_machine.specs.Spe.{Spe}
 use Rattle.cell_machine.specs.State.{State}
 use Rattle.cell_machine.specs.Memory.{lines_of}
 use Rattle.cell_machine.specs.Next.{act, next, ended_by}
@@ -73,10 +75,16 @@ zero_count : length zero_registers ≡ 128
 unfolding zero_registers
 zero_count = length-replicate 128 (zeros 16)
 
+entry_place : (n : ℕ) (entries : List ℕ) (p : ℕ) (x : ℕ × ℕ) → slice_get (enumerate_from n entries) p ≡ Some x → All IsPlace entries → IsPlace x.1
+entry_place n [] p x at each = absurd (cc)
+entry_place n (entry ∷ entries) zero x at each = let same : (n, entry) ≡ x = cc in subst (λ y. IsPlace y.1) same (each 0 entry (omega arith))
+entry_place n (entry ∷ entries) (suc p) x at each = entry_place (n + 1) entries p x at (λ i d less. each (suc i) d (omega arith))
+
 opening_sized : (S : Opening) → IsOpening S → AllSized (opening_spes S)
 opening_sized S is p P at =
     let g = map-got (opening_spe S) (enumerate_from 0 S.entries) p P at in
     subst IsSized g.2 (record {
+      place = entry_place 0 S.entries p g.0 g.1 is.entries;
       many = zero_count;
       quads = zero_quads;
       store = placed_long (length S.entries) g.0.0 (zeros 262144) S.placed (length-zeros 262144) is.placed;
@@ -122,6 +130,10 @@ runs-are-sound S steps M is run =
       settled = has.are_settled;
       actions = subst (λ n. All (FitsAction S.lines n) M.host.script) (sym has.many) has.fits;
     }
+
+-- and each processor's PC is an address at which an instruction may stand
+pub runs-at-places : (S : Opening) (steps : List Step) (M : State) → IsOpening S → replay (opening S) steps ≡ Some M → (p : ℕ) (P : Spe) → slice_get M.spes p ≡ Some P → IsPlace P.pc
+runs-at-places S steps M is run p P at = ((run_carries S 0 (opening S) steps M (opening_carries S is) run).sized p P at).place
 
 -- so is that of a machine
 pub machine-sound : (setup : Opening) (steps : List Step) (capacity : ℕ) (processors : List Processor) (memory : SharedMemory) (host : Progress) (m : Ran)
