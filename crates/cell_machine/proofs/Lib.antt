@@ -25,3 +25,9 @@ pub mod MemoryShown
 pub mod AtomicSteps
 pub mod LocksKept
 pub mod LocksRun
+pub mod EffectsDefined
+pub mod StatusesFixed
+pub mod Telling
+pub mod Fixed
+pub mod InstructionEffects
+pub mod StepEffects
