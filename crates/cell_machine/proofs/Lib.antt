@@ -31,3 +31,4 @@ pub mod Telling
 pub mod Fixed
 pub mod InstructionEffects
 pub mod StepEffects
+pub mod MachineEffects

@@ -25,7 +25,7 @@ use Rattle.cell_machine.specs.Moves.{present, parts_in, is_stalled}
 use Rattle.cell_machine.specs.Transfers.{may_piece, may_elem, may_retire, piece, piece_of, elem, retire, after_element, next_element, next_at, notified, told, copied, is_put, part_in, with_done, with_read, with_retired}
 use Rattle.cell_machine.specs.Atomic.{Fate, Got, Stored, Lost, atomic, fate, holds, line_part, moved, answered, after_atomic}
 use Rattle.cell_machine.specs.Hosts.{Acted, acted, host, after_action}
-use Rattle.cell_machine.specs.Effects.{nowhere, in_memory, in_store, is_fixed, fixes, of_spe, of_command, copy_effect, piece_effect, told_element, elem_effect, plain_effect, line_effect, host_effect, effect_of}
+use Rattle.cell_machine.specs.Effects.{nowhere, in_memory, in_store, is_fixed, fixes, of_spe, of_command, copy_effect, piece_effect, told_element, elem_effect, plain_effect, line_effect, host_writes, host_tells, host_effect, effect_of}
 use Rattle.cell_machine.specs.Shows.{Shows, ShowsSpe}
 use Rattle.cell_machine.proofs.AllTwo.{two_at, two_none}
 use Rattle.cell_machine.proofs.Controllers.{piece-off, piece-on, elem-off, elem-on, retire-off, retire-on}
@@ -147,19 +147,32 @@ host-none M off = on (slice_get M.host.script M.host.done) off
         lacks None h = refl
         lacks (Some d) h = absurd (true≢false h)
 
-pub host-some : (M : State) (a : HostAction) → is_some (host M) ≡ true → slice_get M.host.script M.host.done ≡ Some a → Some (host_effect a) ≡ effect_of M Host
+pub host-ended : (M : State) → slice_get M.host.script M.host.done ≡ None → None ≡ effect_of M Host
+unfolding effect_of
+host-ended M none = rw none refl
+
+-- an effect that only writes
+abbrev puts : Span → Span → Span → Note → Effect
+puts fetch reads writes note = record { fetch = fetch; reads = reads; writes = writes; note = note; fixed = false }
+
+puts_same : (a b c d e f : Span) (n o : Note) → a ≡ b → c ≡ d → e ≡ f → n ≡ o → puts a c e n ≡ puts b d f o
+puts_same a b c d e f n o g h k l = rw (g, h, k, l) refl
+
+pub host-some : (M : State) (a : HostAction) (fetch reads writes : Span) (note : Note) → is_some (host M) ≡ true → slice_get M.host.script M.host.done ≡ Some a
+    → fetch ≡ nowhere → reads ≡ nowhere → writes ≡ host_writes a → note ≡ host_tells a → Some (puts fetch reads writes note) ≡ effect_of M Host
 unfolding host effect_of
-host-some M a on at =
+host-some M a fetch reads writes note on at fetch_is reads_is writes_is note_is =
     let allowed : is_some (option_map after_action (acted M a)) ≡ true = ap (λ o. is_some (option_and_then (λ b. option_map after_action (acted M b)) o)) (sym at) ∙ on in
-    then_some after_action (acted M a) (host_effect a) allowed ∙ ap (option_and_then (λ b. option_map (λ d. host_effect b) (acted M b))) (sym at)
+    ap Some (puts_same fetch _ reads _ writes _ note _ fetch_is reads_is writes_is note_is)
+    ∙ then_some after_action (acted M a) (host_effect a) allowed ∙ ap (option_and_then (λ b. option_map (λ d. host_effect b) (acted M b))) (sym at)
 
 -- ---- the processor of a step
 
-pub effect-at : {memory : SharedMemory} {host_is : Progress} (processors : List Processor) (M : State) (p : ℕ) (d : Processor) (r : Option Effect) (f : Spe → Option Effect) → Shows processors memory host_is M → p < length processors
-    → ((P : Spe) → slice_get M.spes p ≡ Some P → ShowsSpe (slice_index_or processors p d) P → r ≡ f P) → r ≡ of_spe M p f
-effect-at processors M p d r f shows h is =
-    let two = two_at ShowsSpe processors M.spes p d shows.spes h in
-    is two.0 two.1 two.2 ∙ ap (option_and_then f) (sym two.1)
+pub effect-at : {memory : SharedMemory} {host_is : Progress} (processors : List Processor) (M : State) (p : ℕ) (x : Processor) (r : Option Effect) (f : Spe → Option Effect) → Shows processors memory host_is M → p < length processors
+    → x ≡ slice_index_or processors p x → ((P : Spe) → slice_get M.spes p ≡ Some P → ShowsSpe x P → r ≡ f P) → r ≡ of_spe M p f
+effect-at processors M p x r f shows h at is =
+    let two = two_at ShowsSpe processors M.spes p x shows.spes h in
+    is two.0 two.1 (subst (λ y. ShowsSpe y two.0) (sym at) two.2) ∙ ap (option_and_then f) (sym two.1)
 
 pub effect-absent : {memory : SharedMemory} {host_is : Progress} (processors : List Processor) (M : State) (p : ℕ) (f : Spe → Option Effect) → Shows processors memory host_is M → length processors ≤ p → None ≡ of_spe M p f
 effect-absent processors M p f shows h = ap (option_and_then f) (sym (two_none ShowsSpe processors M.spes p shows.spes h))
