@@ -82,7 +82,7 @@ atomic-free m P free = rw free (on (not (is_faulted P.status) && false))
     on true = refl
     on false = refl
 
-atomic-is : (m : MainMemory) (P : Spe) (a : AtomicOp) → is_faulted P.status ≡ false → P.channels.slot ≡ Some a → atomic m P ≡ Some (after_atomic m P a)
+pub atomic-is : (m : MainMemory) (P : Spe) (a : AtomicOp) → is_faulted P.status ≡ false → P.channels.slot ≡ Some a → atomic m P ≡ Some (after_atomic m P a)
 unfolding atomic may_atomic
 atomic-is m P a sound at = rw (sound, at) refl
 

@@ -37,3 +37,10 @@ pub mod EffectBytes
 pub mod EffectsFitted
 pub mod Recorded
 pub mod ByteRunning
+pub mod EffectsDefined
+pub mod StatusesFixed
+pub mod Telling
+pub mod Fixed
+pub mod InstructionEffects
+pub mod StepEffects
+pub mod MachineEffects

@@ -35,7 +35,7 @@ index-got (y ∷ ys) zero x d h = cc
 index-got (y ∷ ys) (suc i) x d h = index-got ys i x d h
 
 -- whether the processor holds the line
-held-is : (m : MainMemory) (reserved : List (Option Reserved)) (P : Spe) (spe line : ℕ) → slice_get reserved spe ≡ Some P.reserved → is_reserved (versions_of m reserved) spe line ≡ holds m P line
+pub held-is : (m : MainMemory) (reserved : List (Option Reserved)) (P : Spe) (spe line : ℕ) → slice_get reserved spe ≡ Some P.reserved → is_reserved (versions_of m reserved) spe line ≡ holds m P line
 unfolding is_reserved
 held-is m reserved P spe line at = ap (λ o. option_map_or (is_current m.versions line) o false) (index-got reserved spe P.reserved None at)
 

@@ -1,6 +1,6 @@
 //! What the steps of flow controllers and of the host would do.
 
-ghost use Rattle.std.specs.Prelude.{◌≡◌, ℕ, ◌+◌, ◌≤◌, ◌<◌, List, Option, Some, slice_get, if◌then◌else◌};
+ghost use Rattle.std.specs.Prelude.{◌≡◌, ℕ, ◌+◌, ◌≤◌, ◌<◌, List, Option, Some, length, slice_get, if◌then◌else◌};
 ghost use Rattle.std.specs.Option.{option_map, option_and_then};
 ghost use Rattle.lock_lines.specs.Stands.{line_count};
 ghost use Rattle.lock_lines.specs.Versions.{Reserved};
@@ -120,6 +120,7 @@ fn looking(reads: Span, note: Note, fixed: bool) -> Effect
 fn line_effect(memory: &SharedMemory, spe: u8, a: AtomicOp, fixed: bool) -> Effect
     requires fits { OrderFits (line_count memory.now.locks) (Atomic a) }
     requires spe { spe < memory.now.locks.spes }
+    requires small { length memory.now.bytes ≤ 67108864 }
     ensures { (P Q : Spe) (m : MainMemory) (reserved : List (Option Reserved)) → ShowsMemory memory.now m reserved → slice_get reserved spe ≡ Some P.reserved → fixed ≡ fixes Q → result ≡ line_effect spe a Q (fate m P a) }
 {
     match a.kind {
@@ -211,6 +212,7 @@ impl Processor {
     fn atomic_effect(&self, memory: &SharedMemory, spe: u8) -> Option<Effect>
         requires can { CanStep (line_count memory.now.locks) self.now }
         requires spe { spe < memory.now.locks.spes }
+        requires small { length memory.now.bytes ≤ 67108864 }
         ensures { (P : Spe) (m : MainMemory) (reserved : List (Option Reserved)) → ShowsSpe self.now P → ShowsMemory memory.now m reserved → slice_get reserved spe ≡ Some P.reserved → result ≡ option_and_then (λ x. option_map (λ a. line_effect spe a x.spe (fate m P a)) P.channels.slot) (atomic m P) }
     {
         if self.is_faulted() {
@@ -272,7 +274,7 @@ fn host_tells(action: HostAction) -> Note
 
 /// What the next action of the script would do.
 fn host_effect(processors: &[Processor], script: &Host) -> Option<Effect>
-    ensures { (memory : SharedMemory) (M : State) → Shows processors.now memory script.now M → result ≡ effect_of M Host }
+    ensures { (memory : SharedMemory) (M : State) → Shows processors.now memory script.now M → result ≡ effect_of M Step.Host }
 {
     if !may_act_host(processors, script) {
         return None;

@@ -2,7 +2,7 @@
 //!
 //! What a step makes of the queue is made of a copy, and only where a request is pending.
 
-ghost use Rattle.std.specs.Prelude.{◌≡◌, ℕ, ◌≤◌, ◌<◌, List, Some, true, length, slice_get};
+ghost use Rattle.std.specs.Prelude.{◌≡◌, ℕ, ◌≤◌, ◌<◌, List, Some, true, false, length, slice_get};
 ghost use Rattle.mfc_command.specs.declared.command.Command.{Command};
 ghost use Rattle.mfc_command.specs.declared.command.Order.TheVariants.{Queued};
 ghost use Rattle.mfc_command.specs.Check.{OrderFits};

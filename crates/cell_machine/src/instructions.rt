@@ -82,11 +82,19 @@ impl Processor {
             Flow::Next(_) => Note::Nothing,
             Flow::Stop { .. } => Note::Ended,
             Flow::Halt { .. } => Note::Ended,
-            Flow::Channel(ChannelOp::Read { ch, .. }) => self.read_tells(spe, ch),
-            Flow::Channel(ChannelOp::Count { ch, .. }) => count_tells(ch),
-            Flow::Channel(ChannelOp::Write { ch, value }) => {
-                self.write_tells(lines, spe, ch, value)
-            }
+            Flow::Channel(op) => self.operation_tells(lines, spe, op),
+        }
+    }
+
+    /// What a channel operation tells, where it is allowed.
+    fn operation_tells(&self, lines: u32, spe: u8, op: ChannelOp) -> Note
+        requires { lines ≤ 524288 }
+        ensures { (P Q : Spe) (registers : List (List ℕ)) (store : List ℕ) → ShowsSpe self.now P → is_running P.status ≡ true → channel lines (record P { registers = registers; store = store }) op ≡ Some Q → result ≡ told spe P Q (Some op) }
+    {
+        match op {
+            ChannelOp::Read { ch, .. } => self.read_tells(spe, ch),
+            ChannelOp::Count { ch, .. } => count_tells(ch),
+            ChannelOp::Write { ch, value } => self.write_tells(lines, spe, ch, value),
         }
     }
 
@@ -169,7 +177,19 @@ impl Processor {
         ensures { (P Q : Spe) (registers : List (List ℕ)) (store : List ℕ) → ShowsSpe self.now P → followed lines (record P { registers = registers; store = store }) flow ≡ Some Q → result ≡ fixes Q }
     {
         match flow {
-            Flow::Channel(ChannelOp::Write { ch, value }) => self.fixes_by_write(lines, ch, value),
+            Flow::Channel(op) => self.fixes_by_operation(lines, op),
+            _ => self.fixes(),
+        }
+    }
+
+    /// Whether a channel operation does, where it is allowed.
+    fn fixes_by_operation(&self, lines: u32, op: ChannelOp) -> bool
+        requires number { CanIssue self.now.commands }
+        requires lines { lines ≤ 524288 }
+        ensures { (P Q : Spe) (registers : List (List ℕ)) (store : List ℕ) → ShowsSpe self.now P → channel lines (record P { registers = registers; store = store }) op ≡ Some Q → result ≡ fixes Q }
+    {
+        match op {
+            ChannelOp::Write { ch, value } => self.fixes_by_write(lines, ch, value),
             _ => self.fixes(),
         }
     }
@@ -199,7 +219,8 @@ impl Processor {
         }
         match check(self.channels.params(), op, lines) {
             Ok(Order::Queued(command)) => self.fixes_by_issue(lines, command),
-            _ => self.fixes(),
+            Ok(Order::Atomic(_)) => self.fixes(),
+            Err(_) => self.fixes(),
         }
     }
 }

@@ -1,0 +1,32 @@
+-- The effect of one more step of a run.
+use Rattle.std.proofs.Common.{◌≡◌, ℕ, ◌<◌, ◌≤◌, length, arith, refl, sym, ◌∙◌, ap, Bool, true, false}
+use Rattle.std.specs.Prelude.{Option, Some, None, is_some, IsSome, ◌↔◌, nat_lt, cond}
+use Rattle.std.specs.Option.{option_and_then}
+use Rattle.std.proofs.lemmas.Bool.Decides.{nat_tests}
+use Rattle.cell_base.specs.declared.steps.Step.{Step}
+use Rattle.cell_machine.specs.declared.effect.Effect.{Effect}
+use Rattle.cell_machine.specs.State.{State}
+use Rattle.cell_machine.specs.Next.{next}
+use Rattle.cell_machine.specs.Run.{Ran, state_of, next_of}
+use Rattle.cell_machine.specs.Effects.{effect_of, effect_in}
+use Rattle.cell_machine.proofs.EffectsDefined.{has-effects}
+
+pub effect-spent : (m : Ran) (s : Step) → m.setup.budget ≤ length m.steps → None ≡ effect_in m s
+effect-spent m s spent =
+    let e : nat_lt (length m.steps) m.setup.budget ≡ false = grind (arith, nat_tests) in rw e refl
+
+pub effect-within : (m : Ran) (M : State) (s : Step) (r : Option Effect) → state_of m ≡ Some M → length m.steps < m.setup.budget → r ≡ effect_of M s → r ≡ effect_in m s
+effect-within m M s r stands within is =
+    let e : nat_lt (length m.steps) m.setup.budget ≡ true = grind (arith, nat_tests) in rw (e, stands) is
+
+allowed : (b : Bool) (o : Option State) (s : Step)
+    → is_some (cond b (option_and_then (λ M. effect_of M s) o) None) ≡ is_some (cond b (option_and_then (λ M. next M s) o) None)
+allowed true None s = refl
+allowed true (Some M) s = has-effects M s
+allowed false o s = refl
+
+-- there is one exactly where the step is allowed
+pub effect-allowed : (m : Ran) (s : Step) (r : Option Effect) → r ≡ effect_in m s → IsSome r ↔ IsSome (next_of m s)
+effect-allowed m s r is =
+    let same = ap is_some is ∙ allowed (nat_lt (length m.steps) m.setup.budget) (state_of m) s in
+    ((λ h. sym same ∙ h), (λ h. same ∙ h))

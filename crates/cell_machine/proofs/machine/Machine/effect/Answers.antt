@@ -1,0 +1,35 @@
+use Rattle.std.proofs.Common.{◌<◌, ◌≤◌, length, arith, ap}
+use Rattle.cell_machine.specs.Run.{Ran}
+use Rattle.cell_machine.proofs.AnyStep.{machine-replayed}
+use Rattle.cell_machine.proofs.Replays.{machine-can}
+use Rattle.cell_machine.proofs.StatusesFixed.{fixes-once}
+use Rattle.cell_machine.proofs.MachineEffects.{effect-spent, effect-within, effect-allowed}
+use Rattle.cell_machine.proofs.machine.Machine.effect.Goals as goal
+
+pub returns-then-len-budget-clause-effect : goal.returns-then-len-budget-clause-effect
+returns-then-len-budget-clause-effect c = effect-spent c.args.self.now c.args.s (let e = ap (λ (n : Ran). n.setup.budget) c.self.view_is in let l = ap (λ (n : Ran). length n.steps) c.self.view_is in omega arith)
+
+pub returns-then-len-budget-clause-allowed : goal.returns-then-len-budget-clause-allowed
+returns-then-len-budget-clause-allowed c = effect-allowed c.args.self.now c.args.s _
+    (effect-spent c.args.self.now c.args.s (let e = ap (λ (n : Ran). n.setup.budget) c.self.view_is in let l = ap (λ (n : Ran). length n.steps) c.self.view_is in omega arith))
+
+pub returns-then-len-budget-clause-fixed : goal.returns-then-len-budget-clause-fixed
+returns-then-len-budget-clause-fixed c = fixes-once
+
+pub effect_of-requires : goal.effect_of-requires
+effect_of-requires c = rw c.deref.ensures.value (machine-can _ _ _ _ _ _ c.self.invariant (omega arith))
+
+pub returns-clause-effect : goal.returns-clause-effect
+returns-clause-effect c =
+    effect-within c.args.self.now c.self.invariant.state c.args.s _ (machine-replayed _ _ _ _ _ c.self.invariant c.self.view_is)
+    (let e = ap (λ (n : Ran). n.setup.budget) c.self.view_is in let l = ap (λ (n : Ran). length n.steps) c.self.view_is in omega arith)
+    (c.effect_of.ensures c.self.invariant.state (rw c.deref.ensures.value c.self.invariant.shown))
+
+pub returns-clause-allowed : goal.returns-clause-allowed
+returns-clause-allowed c =
+    effect-allowed c.args.self.now c.args.s _ (effect-within c.args.self.now c.self.invariant.state c.args.s _ (machine-replayed _ _ _ _ _ c.self.invariant c.self.view_is)
+    (let e = ap (λ (n : Ran). n.setup.budget) c.self.view_is in let l = ap (λ (n : Ran). length n.steps) c.self.view_is in omega arith)
+    (c.effect_of.ensures c.self.invariant.state (rw c.deref.ensures.value c.self.invariant.shown)))
+
+pub returns-clause-fixed : goal.returns-clause-fixed
+returns-clause-fixed c = fixes-once
