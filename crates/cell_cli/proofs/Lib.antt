@@ -4,3 +4,4 @@ pub mod Steps
 pub mod Puts
 pub mod Runs
 pub mod Complete
+pub mod ReadBack

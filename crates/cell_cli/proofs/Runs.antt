@@ -3,7 +3,7 @@ use Rattle.std.proofs.Common.{◌≡◌, ℕ, ◌<◌, ◌≤◌, List, ◌++◌
 use Rattle.std.specs.Prelude.{Option, None, is_some, IsSomeAnd, nat_lt}
 use Rattle.std.proofs.lemmas.Bool.Decides.{nat_tests}
 use Rattle.cell_base.specs.declared.steps.Step.{Step}
-use Rattle.cell_base.specs.Records.{spelling}
+use Rattle.cell_base.specs.Records.{spelling, AreSteps}
 use Rattle.cell_machine.specs.declared.status.End.{End}
 use Rattle.cell_machine.specs.State.{State}
 use Rattle.cell_machine.specs.Next.{next}
@@ -32,6 +32,7 @@ pub record FollowsLaws (m : Ran) : Type 0 where
   pub order : IsInOrder m
   pub lists : ListsAreInOrder m
   pub locks : AreLocksKept m
+  pub recorded : AreSteps m.steps
 
 printed : (m : Ran) (M : State) (o : Option End) (first second : List ℕ) → state_of m ≡ Some M → length m.steps ≤ m.setup.budget → FollowsLaws m → ((s : Step) → next_of m s ≡ None)
     → IsEnd M m.setup.budget o → first ≡ spelling m.steps → second ≡ states_of M m.setup.shows o → PrintsRun m.setup (first ++ second)
@@ -45,6 +46,7 @@ printed m M (Some end) first second stands within laws none is a b = record {
   order = laws.order;
   lists = laws.lists;
   locks = laws.locks;
+  recorded = laws.recorded;
   ended = is;
   printed = ap (λ t. t ++ second) a ∙ ap (λ t. spelling m.steps ++ t) b;
 }

@@ -71,8 +71,12 @@ states_differ at (x ∷ xs) wanted = differ at (x ∷ xs) wanted
 
 -- ---- the whole
 
+-- what is written where n steps were replayed
+abbrev pub replayed_text : ℕ → List ℕ
+replayed_text n = codes "replayed " ++ decimal n ++ line_feed
+
 abbrev pub verdict : ℕ → Option ℕ → Result (List ℕ) Fault
-verdict n None = Ok (codes "replayed " ++ decimal n ++ line_feed)
+verdict n None = Ok (replayed_text n)
 verdict n (Some at) = Err (StatesDiffer at)
 
 -- the states behind the record, where they begin in the file, are those of the replay

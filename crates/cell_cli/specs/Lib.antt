@@ -9,3 +9,4 @@ pub mod Causes
 pub mod Jobs
 pub mod Code
 pub mod Runs
+pub mod ReadBack

@@ -1,7 +1,7 @@
 -- What a run prints.
 use Rattle.std.specs.Prelude.{◌≡◌, ℕ, ◌≤◌, List, ◌++◌, length, Some}
 use Rattle.cell_base.specs.declared.steps.Step.{Step}
-use Rattle.cell_base.specs.Records.{spelling}
+use Rattle.cell_base.specs.Records.{spelling, AreSteps}
 use Rattle.cell_machine.specs.declared.status.End.{End}
 use Rattle.cell_machine.specs.State.{State}
 use Rattle.cell_machine.specs.Opening.{Opening, opening}
@@ -12,7 +12,7 @@ use Rattle.cell_machine.specs.Locks.{AreLocksKept}
 use Rattle.cell_report.specs.States.{states_of}
 
 -- The record of one run of the written machine from the setup, in the order of its commands and of its lists, each PUTLLC storing
--- exactly where its line is reserved, and then its last states; the run has ended.
+-- exactly where its line is reserved, within the bounds of a record, and then its last states; the run has ended.
 pub record PrintsRun (setup : Opening) (text : List ℕ) : Type 0 where
   pub steps : List Step
   pub last : State
@@ -22,5 +22,6 @@ pub record PrintsRun (setup : Opening) (text : List ℕ) : Type 0 where
   pub order : IsInOrder (record { setup = setup; steps = steps })
   pub lists : ListsAreInOrder (record { setup = setup; steps = steps })
   pub locks : AreLocksKept (record { setup = setup; steps = steps })
+  pub recorded : AreSteps steps
   pub ended : IsEnd last setup.budget (Some end)
   pub printed : text ≡ spelling steps ++ states_of last setup.shows (Some end)

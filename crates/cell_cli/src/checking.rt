@@ -1,12 +1,10 @@
 //! Checking a record file against a setup.
 
-ghost use Rattle.std.specs.Prelude.{◌≡◌, ◌≤◌, ◌<◌, ◌+◌, ◌^◌, ◌++◌, codes, drop, length, IfErr, IfOk, OnOk, IsSomeAnd};
-ghost use Rattle.std.specs.Fmt.{decimal};
-ghost use Rattle.cell_base.specs.Records.{line_feed};
+ghost use Rattle.std.specs.Prelude.{◌≡◌, ◌≤◌, ◌<◌, ◌+◌, ◌^◌, drop, length, IfErr, IfOk, OnOk, IsSomeAnd};
 ghost use Rattle.cell_machine.specs.Run.{state_of};
 ghost use Rattle.cell_report.specs.States.{states_of};
 ghost use Rattle.cell_cli.specs.Causes.{IsOfInput};
-ghost use Rattle.cell_cli.specs.Checks.{checked, differ, end_of, states_differ, verdict, CheckGives};
+ghost use Rattle.cell_cli.specs.Checks.{checked, differ, end_of, replayed_text, states_differ, verdict, CheckGives};
 
 use crate::causes::{record_fault, replay_fault};
 use crate::fault::Fault;
@@ -70,7 +68,7 @@ fn compare_states(
 
 /// What is written where `steps` steps were replayed.
 fn replayed_text(alloc: Global, steps: u32) -> Result<Vec<u8>, AllocError>
-    ensures { IfOk result (λ text. text.items ≡ codes "replayed " ++ decimal steps ++ line_feed) }
+    ensures { IfOk result (λ text. text.items ≡ replayed_text steps) }
 {
     let mut text = Vec::new(alloc);
     text.extend_from_slice(b"replayed ")?;

@@ -16,6 +16,13 @@ const RECORD: &str = "cell-record 1\nx 0\nsteps 1\n";
 
 const STATES: &str = "end AllStopped\nspe 0 stopped 0x0007 pc 0x00004 queued 0\nhost 0 of 0\n";
 
+fn file(alloc: Global, name: &str, text: &str) -> Result<MemFile, AllocError> {
+    Ok(MemFile {
+        name: String::from_str(alloc, name)?,
+        bytes: text.as_bytes().to_vec(alloc)?,
+    })
+}
+
 /// The files `m` and `s`, and the record `r`. The fetches of these numbers fail.
 pub(crate) fn files(
     alloc: Global,
@@ -24,33 +31,39 @@ pub(crate) fn files(
     failing: Vec<u32>,
 ) -> Result<MemStore, AllocError> {
     let mut files = Vec::new(alloc);
-    for (name, text) in [("m", machine), ("s", source), ("r", RECORD)] {
-        files.push(MemFile {
-            name: String::from_str(alloc, name)?,
-            bytes: text.as_bytes().to_vec(alloc)?,
-        })?;
-    }
+    files.push(file(alloc, "m", machine)?)?;
+    files.push(file(alloc, "s", source)?)?;
+    files.push(file(alloc, "r", RECORD)?)?;
     Ok(MemStore::new(files, failing))
 }
 
-const RUN: [&str; 2] = ["run", "m"];
+/// `run m`.
+fn run_words(alloc: Global) -> Result<Vec<String>, AllocError> {
+    let mut words = Vec::new(alloc);
+    words.push(String::from_str(alloc, "run")?)?;
+    words.push(String::from_str(alloc, "m")?)?;
+    Ok(words)
+}
 
-const CHECK: [&str; 3] = ["check", "m", "r"];
+/// `check m r`.
+fn check_words(alloc: Global) -> Result<Vec<String>, AllocError> {
+    let mut words = Vec::new(alloc);
+    words.push(String::from_str(alloc, "check")?)?;
+    words.push(String::from_str(alloc, "m")?)?;
+    words.push(String::from_str(alloc, "r")?)?;
+    Ok(words)
+}
 
 /// The answer to these words, and what went out.
 fn told(
     alloc: Global,
-    words: &[&str],
+    words: Vec<String>,
     fetches: Vec<u32>,
     puts: Vec<Cut>,
 ) -> Result<(Status, MemSink), Fail> {
     let mut files = files(alloc, MACHINE, "stop 7", fetches)?;
     let mut out = MemSink::new(alloc, 100, puts)?;
-    let mut spoken = Vec::new(alloc);
-    for word in words {
-        spoken.push(String::from_str(alloc, word)?)?;
-    }
-    let status = cell(alloc, spoken.as_slice(), &mut files, &mut out);
+    let status = cell(alloc, words.as_slice(), &mut files, &mut out);
     Ok((status, out))
 }
 
@@ -65,11 +78,21 @@ fn a_fetch_that_fails_names_its_file(rt: HostRuntime) -> Result<(), Fail> {
     ];
     for (call, file) in named.into_iter().enumerate() {
         let wanted = Status::Refused(Fault::ReadFault { file });
-        let (status, out) = told(alloc, &CHECK, vec![in alloc; call as u32]?, Vec::new(alloc))?;
+        let (status, out) = told(
+            alloc,
+            check_words(alloc)?,
+            vec![in alloc; call as u32]?,
+            Vec::new(alloc),
+        )?;
         assert_eq!(rt; status, wanted);
         assert_eq!(rt; out.bytes(), b"".as_slice());
         // A run reads no record.
-        let (status, _) = told(alloc, &RUN, vec![in alloc; call as u32]?, Vec::new(alloc))?;
+        let (status, _) = told(
+            alloc,
+            run_words(alloc)?,
+            vec![in alloc; call as u32]?,
+            Vec::new(alloc),
+        )?;
         let done = file == FileId::Rec;
         assert_eq!(rt; status, if done { Status::Done } else { wanted });
     }
@@ -80,14 +103,14 @@ fn a_fetch_that_fails_names_its_file(rt: HostRuntime) -> Result<(), Fail> {
 fn a_put_that_fails_is_told(rt: HostRuntime) -> Result<(), Fail> {
     let alloc = rt.alloc();
     let whole = format!(in alloc; "{RECORD}{STATES}")?;
-    let (status, out) = told(alloc, &RUN, Vec::new(alloc), Vec::new(alloc))?;
+    let (status, out) = told(alloc, run_words(alloc)?, Vec::new(alloc), Vec::new(alloc))?;
     assert_eq!(rt; status, Status::Done);
     assert_eq!(rt; out.bytes(), whole.as_bytes());
     // The record is put first, and then the states.
     for (call, bytes, taken) in [(0, 0, 0), (0, 5, 5), (1, 0, 26), (1, 5, 31)] {
         let (status, out) = told(
             alloc,
-            &RUN,
+            run_words(alloc)?,
             Vec::new(alloc),
             vec![in alloc; Cut { call, bytes }]?,
         )?;
@@ -96,7 +119,7 @@ fn a_put_that_fails_is_told(rt: HostRuntime) -> Result<(), Fail> {
     }
     for (bytes, taken) in [(0, 0), (5, 5)] {
         let cut = vec![in alloc; Cut { call: 0, bytes }]?;
-        let (status, out) = told(alloc, &CHECK, Vec::new(alloc), cut)?;
+        let (status, out) = told(alloc, check_words(alloc)?, Vec::new(alloc), cut)?;
         assert_eq!(rt; status, Status::Refused(Fault::WriteFault));
         assert_eq!(rt; Some(out.bytes()), b"replayed 1\n".get(..taken));
     }
