@@ -19,12 +19,12 @@ use Rattle.cell_machine.specs.Effects.{effect_of}
 use Rattle.cell_machine.specs.Written.{written_by}
 use Rattle.cell_machine.specs.EffectLaws.{bytes_of, bytes_in, new_of}
 use Rattle.cell_machine.specs.Shows.{IsMachine}
-use Rattle.cell_machine.specs.Sound.{IsSound, Fits, covers, byte_of}
+use Rattle.cell_machine.specs.Sound.{IsSound, covers, byte_of}
 use Rattle.cell_machine.specs.ByteRuns.{Action, in_span, had_by, after, byte_run, action_of, actions, haves, RunsOnBytes}
-use Rattle.cell_machine.proofs.EffectsFitted.{fits_spans, effects-fit-at, each-byte}
+use Rattle.cell_machine.proofs.EffectsFitted.{fits_spans, each-byte}
 use Rattle.cell_machine.proofs.Replays.{replay-snoc}
 use Rattle.cell_machine.proofs.Same.{some_same}
-use Rattle.cell_machine.proofs.Sounds.{runs-are-sound, runs-at-places}
+use Rattle.cell_machine.proofs.Sounds.{runs-are-sound}
 
 -- the elements of a range, one by one
 one_by_one : (xs : List ℕ) (n a : ℕ) → a + n ≤ length xs → map (λ i. slice_index xs i) (range_with_len a n) ≡ take n (drop a xs)
@@ -83,10 +83,6 @@ run_on S sound before (s ∷ steps) M N made start run acts =
 
 pub runs-on-bytes : (m : Ran) → IsOpening m.setup → RunsOnBytes m
 runs-on-bytes m is M made run acts = run_on m.setup (λ before K. runs-are-sound m.setup before K is) [] m.steps (opening m.setup) M made refl run acts
-
--- and the spans of each step lie in their places
-pub run-effects-fit : (S : Opening) (steps : List Step) (M : State) (s : Step) (e : Effect) → IsOpening S → replay (opening S) steps ≡ Some M → effect_of M s ≡ Some e → Fits M s e
-run-effects-fit S steps M s e is run effect = effects-fit-at S.lines (length steps) M s e (runs-are-sound S steps M is run) (runs-at-places S steps M is run) effect
 
 -- so it is on the run of a machine
 pub machine-bytes : (setup : Opening) (steps : List Step) (capacity : ℕ) (processors : List Processor) (memory : SharedMemory) (host : Progress) (m : Ran)

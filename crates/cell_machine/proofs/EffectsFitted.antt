@@ -41,7 +41,7 @@ use Rattle.cell_machine.specs.Next.{own}
 use Rattle.cell_machine.specs.Effects.{effect_of, host_effect, instr, loads_at, stores_at, exec_effect, copy_effect, line_effect, quad_in, host_writes}
 use Rattle.cell_machine.specs.EffectLaws.{bytes_of, new_bytes, new_of, same_place, maker}
 use Rattle.cell_machine.specs.Written.{stored_by, host_bytes, line_written, written_by}
-use Rattle.cell_machine.specs.Sound.{AreFew, IsWhole, IsSound, Fits, EachByte}
+use Rattle.cell_machine.specs.Sound.{AreFew, IsWhole, IsSound, EachByte, EffectsFit}
 use Rattle.cell_machine.proofs.Same.{some_same}
 use Rattle.cell_machine.proofs.Elements.{part-is, element-is, list-elements}
 use Rattle.cell_machine.proofs.Controllers.{element-fits}
@@ -235,10 +235,6 @@ fits_spans lines n M Host e sound effect = fits_host lines n M e sound effect
 
 -- ---- the word of an instruction
 
--- each processor's PC is an address at which an instruction may stand
-abbrev pub AreAtPlaces : List Spe → Type 0
-AreAtPlaces spes = (p : ℕ) (P : Spe) → slice_get spes p ≡ Some P → IsPlace P.pc
-
 line_fetch : (p : ℕ) (P Q : Spe) (m : MainMemory) (a : AtomicOp) (f : Fate) → (line_effect p a Q f).fetch.at + (line_effect p a Q f).fetch.len ≤ length (own_bytes (line_effect p a Q f).fetch.place m.bytes P.store)
 line_fetch p P Q m a Got = omega arith
 line_fetch p P Q m a Stored = omega arith
@@ -276,20 +272,20 @@ unfolding FetchFits effect_of
 fetch_host M e effect =
     of_then _ (slice_get M.host.script M.host.done) e (FetchFits M) effect (λ a at h. of_map (λ d. host_effect a) (acted M a) e (FetchFits M) h (λ d was. omega arith))
 
-fetch_fits : (lines n : ℕ) (M : State) (s : Step) (e : Effect) → IsSound lines n M → AreAtPlaces M.spes → effect_of M s ≡ Some e → FetchFits M e
-fetch_fits lines n M (Exec p) e sound places effect = there M (Exec p) p e _ refl effect (λ P at. fetch_own lines n M (Exec p) p P e refl at sound (places p P at) effect)
-fetch_fits lines n M (Piece p c e0 k) e sound places effect = there M (Piece p c e0 k) p e _ refl effect (λ P at. fetch_own lines n M (Piece p c e0 k) p P e refl at sound (places p P at) effect)
-fetch_fits lines n M (Elem p c) e sound places effect = there M (Elem p c) p e _ refl effect (λ P at. fetch_own lines n M (Elem p c) p P e refl at sound (places p P at) effect)
-fetch_fits lines n M (Retire p c) e sound places effect = there M (Retire p c) p e _ refl effect (λ P at. fetch_own lines n M (Retire p c) p P e refl at sound (places p P at) effect)
-fetch_fits lines n M (Atomic p) e sound places effect = there M (Atomic p) p e _ refl effect (λ P at. fetch_own lines n M (Atomic p) p P e refl at sound (places p P at) effect)
-fetch_fits lines n M Host e sound places effect = fetch_host M e effect
+fetch_fits : (lines n : ℕ) (M : State) (s : Step) (e : Effect) → IsSound lines n M → effect_of M s ≡ Some e → FetchFits M e
+fetch_fits lines n M (Exec p) e sound effect = there M (Exec p) p e _ refl effect (λ P at. fetch_own lines n M (Exec p) p P e refl at sound (sound.whole p P at).place effect)
+fetch_fits lines n M (Piece p c e0 k) e sound effect = there M (Piece p c e0 k) p e _ refl effect (λ P at. fetch_own lines n M (Piece p c e0 k) p P e refl at sound (sound.whole p P at).place effect)
+fetch_fits lines n M (Elem p c) e sound effect = there M (Elem p c) p e _ refl effect (λ P at. fetch_own lines n M (Elem p c) p P e refl at sound (sound.whole p P at).place effect)
+fetch_fits lines n M (Retire p c) e sound effect = there M (Retire p c) p e _ refl effect (λ P at. fetch_own lines n M (Retire p c) p P e refl at sound (sound.whole p P at).place effect)
+fetch_fits lines n M (Atomic p) e sound effect = there M (Atomic p) p e _ refl effect (λ P at. fetch_own lines n M (Atomic p) p P e refl at sound (sound.whole p P at).place effect)
+fetch_fits lines n M Host e sound effect = fetch_host M e effect
 
--- all spans of a step lie in their places, where each PC is a place
-pub effects-fit-at : (lines n : ℕ) (M : State) (s : Step) (e : Effect) → IsSound lines n M → AreAtPlaces M.spes → effect_of M s ≡ Some e → Fits M s e
+-- all spans of a step lie in their places
+pub effects-fit : EffectsFit
 unfolding FetchFits
-effects-fit-at lines n M s e sound places effect =
+effects-fit lines n M s e sound effect =
     let f = fits_spans lines n M s e sound effect in
-    record { new = f.new; writes = f.writes; reads = f.reads; fetch = fetch_fits lines n M s e sound places effect }
+    record { new = f.new; writes = f.writes; reads = f.reads; fetch = fetch_fits lines n M s e sound effect }
 
 -- ---- each byte
 

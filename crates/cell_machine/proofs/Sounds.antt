@@ -10,7 +10,6 @@ use Rattle.spu_exec.specs.Places.{IsPlace}
 use Rattle.spu_regs.specs.Registers.{zero_registers}
 use Rattle.cell_machine.specs.declared.memory.SharedMemory.{SharedMemory}
 use Rattle.cell_machine.specs.declared.processor.Processor.{Processor}
-use Rattle.cell_machine.specs.Spe.{Spe}
 use Rattle.cell_machine.specs.State.{State}
 use Rattle.cell_machine.specs.Memory.{lines_of}
 use Rattle.cell_machine.specs.Next.{act, next, ended_by}
@@ -121,6 +120,7 @@ runs-are-sound S steps M is run =
       whole = λ p P at.
           let size = has.sized p P at in
           record {
+            place = size.place;
             store = size.store;
             many = size.many;
             quads = size.quads;
@@ -130,10 +130,6 @@ runs-are-sound S steps M is run =
       settled = has.are_settled;
       actions = subst (λ n. All (FitsAction S.lines n) M.host.script) (sym has.many) has.fits;
     }
-
--- and each processor's PC is an address at which an instruction may stand
-pub runs-at-places : (S : Opening) (steps : List Step) (M : State) → IsOpening S → replay (opening S) steps ≡ Some M → (p : ℕ) (P : Spe) → slice_get M.spes p ≡ Some P → IsPlace P.pc
-runs-at-places S steps M is run p P at = ((run_carries S 0 (opening S) steps M (opening_carries S is) run).sized p P at).place
 
 -- so is that of a machine
 pub machine-sound : (setup : Opening) (steps : List Step) (capacity : ℕ) (processors : List Processor) (memory : SharedMemory) (host : Progress) (m : Ran)

@@ -16,12 +16,12 @@ use Rattle.spu_decode.specs.declared.row.Row.TheVariants.{Lqd, Lqx, Lqa, Lqr}
 use Rattle.spu_regs.specs.Registers.{register}
 use Rattle.spu_exec.specs.declared.flow.Flow.{Flow}
 use Rattle.spu_exec.specs.declared.flow.Flow.TheVariants.{Next, Stop, Halt, Channel}
-use Rattle.spu_exec.specs.Meaning.{meaning, value_of, with_value, with_stored}
+use Rattle.spu_exec.specs.Meaning.{meaning, value_of, with_value, with_stored, loaded_at}
 use Rattle.local_store.specs.Store.{quad_at}
 use Rattle.cell_machine.specs.Spe.{Spe, is_running}
 use Rattle.cell_machine.specs.Channels.{went_on, is_read, is_write, count, may_read, may_write, channel, read_by, read_inbound, read_status, read_atomic, issued_by, commanded, acknowledged, parameterized, written}
 use Rattle.cell_machine.specs.Exec.{exec, followed, outcome}
-use Rattle.cell_machine.specs.Effects.{loaded_at, instr, loads_at, stores_at}
+use Rattle.cell_machine.specs.Effects.{instr, loads_at, stores_at}
 use Rattle.cell_machine.specs.EffectLaws.{at_store}
 
 -- f of what a test chooses

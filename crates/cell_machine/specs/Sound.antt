@@ -1,6 +1,7 @@
 -- What holds of every state of a run, and what it gives: a step's spans lie in their places, and it writes as many bytes as it says.
 use Rattle.std.specs.Prelude.{◌≡◌, ℕ, ◌+◌, ◌-◌, ◌*◌, ◌≤◌, ◌&&◌, nat_le, nat_lt, Bool, if◌then◌else◌, List, length, Some, slice_get, slice_index, All}
 use Rattle.cell_base.specs.declared.steps.Step.{Step}
+use Rattle.spu_exec.specs.Places.{IsPlace}
 use Rattle.mfc_command.specs.declared.command.Command.{Command}
 use Rattle.cell_machine.specs.declared.effect.Place.{Place}
 use Rattle.cell_machine.specs.declared.effect.Span.{Span}
@@ -20,8 +21,9 @@ use Rattle.cell_machine.specs.EffectLaws.{bytes_of, new_bytes, same_place}
 abbrev pub AreFew : Moves → Type 0
 AreFew m = (c : ℕ) (d : Command) → slice_get m.issued c ≡ Some d → length (elements_of m.read c d) ≤ elements_in d
 
--- 128 registers of 16 bytes, a store of 262,144, and no element of a list too many
+-- a PC at which an instruction may stand, 128 registers of 16 bytes, a store of 262,144, and no element of a list too many
 pub record IsWhole (P : Spe) : Type 0 where
+  pub place : IsPlace P.pc
   pub store : length P.store ≡ 262144
   pub many : length P.registers ≡ 128
   pub quads : (r : ℕ) (q : List ℕ) → slice_get P.registers r ≡ Some q → length q ≡ 16

@@ -17,11 +17,11 @@ ghost use Rattle.cell_machine.specs.Opening.{Opening, opening_spes, filled};
 ghost use Rattle.cell_machine.specs.Limits.{shown, shown_memory};
 ghost use Rattle.cell_machine.specs.Run.{Ran, IsRun, state_of, next_of, spe_of, picked_of, first_of, first_allowed, picked, allowed, is_quiet, IsEnd};
 ghost use Rattle.cell_machine.specs.Effects.{effect_in};
-ghost use Rattle.cell_machine.specs.EffectLaws.{FixesOnce};
+ghost use Rattle.cell_machine.specs.EffectLaws.{FixesOnce, LooksAlone, WritesAlone};
 ghost use Rattle.cell_machine.specs.Order.{IsInOrder};
 ghost use Rattle.cell_machine.specs.Lists.{ListsAreInOrder};
 ghost use Rattle.cell_machine.specs.Locks.{AreLocksKept};
-ghost use Rattle.cell_machine.specs.Sound.{IsSound};
+ghost use Rattle.cell_machine.specs.Sound.{EachByte, EffectsFit, IsSound};
 ghost use Rattle.cell_machine.specs.ByteRuns.{RunsOnBytes};
 ghost use Rattle.lock_lines.specs.Stands.{HasSameSize};
 ghost use Rattle.cell_machine.specs.Shows.{Shows, AllTwo, ShowsSpe, IsFit, CanGo, AreSettled};
@@ -394,9 +394,18 @@ impl Machine {
 
     /// What a step would do, None exactly where `step` would refuse it: the bytes that it fetches, reads and writes, what it tells, and
     /// whether a tag status is fixed at its end. Nothing changes, and it takes no memory.
+    ///
+    /// After the step all bytes of all places are as before, but those that the effect writes, which the step has of its own or copies
+    /// from those that it reads. Where only bytes differ that it neither fetches nor reads, the step is allowed as well, has the same
+    /// effect and writes the same bytes. In a sound state the spans lie in their places. A tag status is fixed exactly where the
+    /// processor has a request after what the step does, and none at the step's end.
     pub fn effect(&self, s: Step) -> Option<Effect>
         ensures effect { result ≡ effect_in self.now s }
         ensures allowed { IsSome result ↔ IsSome (next_of self.now s) }
+        ensures writes { WritesAlone }
+        ensures looks { LooksAlone }
+        ensures fits { EffectsFit }
+        ensures bytes { EachByte }
         ensures fixed { FixesOnce }
     {
         if self.steps.len() >= self.setup.budget() as usize {
