@@ -128,12 +128,12 @@ same-run : (S T : Opening) → run_of S ≡ run_of T → S ≡ T
 same-run S T e = cc
 
 kept-read : (files later : List File) (machine record_file text : List ℕ) (setup : Opening) → settled files (run_task machine) ≡ Ok (run_of setup) → (r : PrintsRun setup text)
-    → length text ≤ record_limit → IsKeptIn files later (run_task machine) record_file text → settled later (check_task machine record_file) ≡ Ok (text_of (replayed_text (length r.steps)))
-kept-read files later machine record_file text setup is r fits k =
+    → IsKeptIn files later (run_task machine) record_file text → settled later (check_task machine record_file) ≡ Ok (text_of (replayed_text (length r.steps)))
+kept-read files later machine record_file text setup is r k =
     let next : Opening → Task = λ S. read Rec record_file record_limit (λ t. by_verdict (checked S t)) in
     let on = machine-on later (run_of setup) next machine (same-settled files later (run_task machine) k.same ∙ is) in
     on.2 ∙ ap (λ S. settled later (next S)) (sym (same-run setup on.0 on.1))
-    ∙ ap (λ g. by_given Rec g (λ t. settled later (by_verdict (checked setup t)))) (given-whole later record_file text record_limit k.kept fits)
+    ∙ ap (λ g. by_given Rec g (λ t. settled later (by_verdict (checked setup t)))) (given-whole later record_file text record_limit k.kept r.short)
     ∙ ap (λ v. settled later (by_verdict v)) (run-checked setup text r)
 
 reads-back : (files : List File) (machine text : List ℕ) (setup : Opening) → settled files (run_task machine) ≡ Ok (run_of setup) → PrintsRun setup text → IsReadBack files machine text
@@ -141,7 +141,7 @@ reads-back files machine text setup is r = record {
   steps = r.steps;
   states = states_of r.last setup.shows (Some r.end);
   parts = r.printed;
-  checked = λ later record_file fits k. kept-read files later machine record_file text setup is r fits k;
+  checked = λ later record_file k. kept-read files later machine record_file text setup is r k;
 }
 
 -- a run's task comes to no other work than a run
