@@ -1,11 +1,11 @@
 -- How long a record is at most.
-use Rattle.std.proofs.Common.{◌≡◌, ℕ, ◌+◌, ◌*◌, ◌^◌, ◌<◌, ◌≤◌, List, [], ◌∷◌, ◌++◌, length, arith, ap, subst, sym, ◌∙◌, length-append}
+use Rattle.std.proofs.Common.{◌≡◌, ℕ, ◌+◌, ◌*◌, ◌≤◌, List, [], ◌∷◌, ◌++◌, length, arith, ap, length-append}
 use Rattle.std.specs.List.{flat_map, AllByRecursion}
 use Rattle.std.specs.Fmt.{decimal}
 use Rattle.std.proofs.lemmas.Fmt.{length-decimal-le}
 use Rattle.cell_base.specs.declared.steps.Step.{Step}
 use Rattle.cell_base.specs.declared.steps.Step.TheVariants.{Exec, Piece, Elem, Retire, Atomic, Host}
-use Rattle.cell_base.specs.Records.{field, step_line, head_line, count_line, spelling, InBounds, AreSteps}
+use Rattle.cell_base.specs.Records.{step_line, spelling, InBounds, AreSteps}
 use Rattle.cell_cli.specs.Forms.{record_limit}
 
 two-digits : (n : ℕ) → n ≤ 15 → length (decimal n) ≤ 2

@@ -1,9 +1,8 @@
 -- What `run` writes is read back by `check`.
-use Rattle.std.proofs.Common.{◌≡◌, ℕ, zero, suc, ◌+◌, ◌<◌, ◌≤◌, ◌==◌, Bool, true, false, cond, List, [], ◌∷◌, ◌++◌, length, Option, Some, None, Result, Ok, Err, refl, sym, ap, subst, ◌∙◌, arith, inl, inr}
+use Rattle.std.proofs.Common.{◌≡◌, ℕ, ◌+◌, ◌≤◌, false, cond, List, [], ◌∷◌, ◌++◌, length, Some, None, Result, Ok, Err, refl, sym, ap, subst, ◌∙◌, arith, inl, inr}
 use Rattle.std.specs.Prelude.{nat_lt}
 use Rattle.std.proofs.lemmas.Bool.{eq-eqb}
 use Rattle.std.proofs.lemmas.Bool.Decides.{nat_tests}
-use Rattle.cell_base.specs.declared.steps.Step.{Step}
 use Rattle.cell_base.specs.Records.{spelling}
 use Rattle.cell_io.specs.Files.{File, file_named}
 use Rattle.cell_io.specs.Store.{Ledger}
@@ -15,7 +14,6 @@ use Rattle.cell_load.specs.Entries.{Entry}
 use Rattle.cell_load.specs.Order.{machine_at}
 use Rattle.cell_load.specs.Sources.{Named, sources_of}
 use Rattle.cell_load.specs.Loaded.{loaded, NoRow}
-use Rattle.cell_machine.specs.State.{State}
 use Rattle.cell_machine.specs.Opening.{Opening, opening}
 use Rattle.cell_report.specs.States.{states_of}
 use Rattle.run_record.proofs.Records.{record_again}
@@ -26,7 +24,7 @@ use Rattle.cell_cli.specs.declared.fault.Status.{Status}
 use Rattle.cell_cli.specs.declared.fault.Status.TheVariants.{Done, Race, Refused}
 use Rattle.cell_cli.specs.Task.{Task, Work, refuse, ready, read, run_of, text_of}
 use Rattle.cell_cli.specs.Course.{Given, nothing, too_long, whole, within, given, by_given, if_whole, settled, Reads}
-use Rattle.cell_cli.specs.Forms.{text_limit, record_limit, with_image, source_task, sources_task, with_setup, with_plan, machine_task, run_task, check_task, by_verdict}
+use Rattle.cell_cli.specs.Forms.{text_limit, record_limit, with_image, sources_task, with_setup, with_plan, machine_task, run_task, check_task, by_verdict}
 use Rattle.cell_cli.specs.Checks.{differ, states_differ, end_of, verdict, replayed_text, with_record, with_replay, checked}
 use Rattle.cell_cli.specs.Runs.{PrintsRun}
 use Rattle.cell_cli.specs.Words.{Spoken, run, check, asm, no_form, task_of}

@@ -1,5 +1,5 @@
 -- What `run` writes is read back by `check`.
-use Rattle.std.specs.Prelude.{ℕ, ◌≡◌, List, ◌++◌, length, Option, Some, Ok}
+use Rattle.std.specs.Prelude.{ℕ, ◌≡◌, List, ◌++◌, length, Some, Ok}
 use Rattle.cell_base.specs.declared.steps.Step.{Step}
 use Rattle.cell_base.specs.Records.{spelling}
 use Rattle.cell_io.specs.Files.{File, file_named}
@@ -10,7 +10,7 @@ use Rattle.cell_cli.specs.Task.{Task, text_of}
 use Rattle.cell_cli.specs.Course.{settled, Reads}
 use Rattle.cell_cli.specs.Forms.{run_task, check_task}
 use Rattle.cell_cli.specs.Checks.{replayed_text}
-use Rattle.cell_cli.specs.Words.{Spoken, run, check, asm, no_form}
+use Rattle.cell_cli.specs.Words.{Spoken, run}
 use Rattle.cell_cli.specs.Answer.{Sinks}
 use Rattle.cell_cli.specs.Output.{Took}
 

@@ -1,13 +1,11 @@
 -- On a run each step is one that a record can have.
-use Rattle.std.proofs.Common.{◌≡◌, ℕ, zero, suc, ◌+◌, ◌-◌, ◌*◌, ◌/◌, ◌<◌, ◌≤◌, ◌==◌, Bool, true, false, List, [], ◌∷◌, ◌++◌, length, arith, refl, sym, ◌∙◌, ap, subst, length-append, append_assoc}
+use Rattle.std.proofs.Common.{◌≡◌, ℕ, zero, suc, ◌+◌, ◌-◌, ◌/◌, ◌<◌, ◌≤◌, ◌==◌, Bool, true, false, List, [], ◌∷◌, ◌++◌, length, arith, refl, sym, ◌∙◌, ap, subst, length-append}
 use Rattle.std.specs.Prelude.{Option, Some, None, slice_get, cond, is_some, map, filter, option_and_then}
 use Rattle.std.specs.List.{AllByRecursion, last_or}
-use Rattle.std.proofs.lemmas.Bool.Decides.{nat_tests}
 use Rattle.cell_base.specs.declared.steps.Step.{Step}
 use Rattle.cell_base.specs.declared.steps.Step.TheVariants.{Exec, Piece, Elem, Retire, Atomic, Host}
 use Rattle.cell_base.specs.Records.{InBounds, AreSteps}
 use Rattle.mfc_command.specs.declared.command.Command.{Command}
-use Rattle.mfc_command.specs.Check.{KindFits}
 use Rattle.mfc_command.specs.Order.{is_list}
 use Rattle.mfc_command.specs.Parts.{parts_of}
 use Rattle.mfc_lists.specs.declared.Element.{Element}
@@ -17,12 +15,10 @@ use Rattle.cell_machine.specs.declared.processor.Processor.{Processor}
 use Rattle.cell_machine.specs.Spe.{Spe, Moves, ElementRead}
 use Rattle.cell_machine.specs.State.{State}
 use Rattle.cell_machine.specs.Memory.{lines_of}
-use Rattle.cell_machine.specs.Moves.{read_of, whole, elements_in, elements_of, present, parts_in, stalls_of_tag}
-use Rattle.cell_machine.specs.MovesShown.{AreElements}
-use Rattle.cell_machine.specs.Transfers.{has_part, has_element, is_left, may_piece, may_elem, may_retire, with_read, with_done, with_retired}
-use Rattle.cell_machine.specs.Channels.{with_issued, with_resumed}
-use Rattle.cell_machine.specs.Next.{act, act_in, own, with_left, next}
-use Rattle.cell_machine.specs.Opening.{Opening, opening, opening_spe, no_moves}
+use Rattle.cell_machine.specs.Moves.{read_of, whole, elements_of, present}
+use Rattle.cell_machine.specs.Transfers.{has_part, has_element, is_left, may_piece, may_elem, may_retire}
+use Rattle.cell_machine.specs.Next.{act_in, next}
+use Rattle.cell_machine.specs.Opening.{Opening, opening, opening_spe}
 use Rattle.cell_machine.specs.Run.{Ran, replay}
 use Rattle.cell_machine.specs.Shows.{IsMachine}
 use Rattle.cell_machine.proofs.Same.{get-within}

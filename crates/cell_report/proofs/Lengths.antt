@@ -1,5 +1,5 @@
 -- How long the texts are at most.
-use Rattle.std.proofs.Common.{◌≡◌, ℕ, zero, suc, ◌+◌, ◌*◌, ◌/◌, ◌%◌, ◌<◌, ◌≤◌, Bool, true, false, cond, List, [], ◌∷◌, ◌++◌, length, codes, arith, refl, sym, ap, subst, ◌∙◌, length-append}
+use Rattle.std.proofs.Common.{◌≡◌, ℕ, zero, suc, ◌+◌, ◌*◌, ◌/◌, ◌%◌, ◌<◌, ◌≤◌, Bool, true, false, cond, List, [], ◌∷◌, ◌++◌, length, codes, arith, refl, ap, ◌∙◌, length-append}
 use Rattle.std.specs.Fmt.{decimal}
 use Rattle.std.specs.List.{flat_map}
 use Rattle.std.proofs.lemmas.Fmt.{length-decimal-le}
@@ -7,13 +7,12 @@ use Rattle.cell_base.specs.Hex.{hex, hex_glyph, byte_hex}
 use Rattle.cell_base.specs.Records.{line_feed}
 use Rattle.mfc_command.specs.declared.command.DmaFault.{DmaFault}
 use Rattle.mfc_command.specs.declared.command.DmaFault.TheVariants.{Opcode, Tag, Size, Alignment, StoreRange, MemoryRange, High}
-use Rattle.cell_host.specs.declared.Took.{Took}
 use Rattle.cell_machine.specs.declared.status.Status.{Status}
 use Rattle.cell_machine.specs.declared.status.Status.TheVariants.{Running, Stopped, Halted, BadWord, BadChannel, DmaFault as Fault}
 use Rattle.cell_machine.specs.declared.status.End.{End}
 use Rattle.cell_machine.specs.declared.status.End.TheVariants.{AllStopped, Stuck, Budget}
 use Rattle.std.specs.Prelude.{Option, Some, None}
-use Rattle.cell_report.specs.States.{end_line, kind_text, status_text, is_zero, register_line, place_text, host_line, took_line, memory_line, local_line}
+use Rattle.cell_report.specs.States.{end_line, kind_text, status_text, is_zero, register_line, place_text, host_line}
 
 -- a text that grew by one that is short
 pub grown : (old text new : List ℕ) (n : ℕ) → new ≡ old ++ text → length text ≤ n → length new ≤ length old + n

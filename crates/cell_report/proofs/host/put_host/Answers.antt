@@ -1,4 +1,4 @@
-use Rattle.std.proofs.Common.{arith, length, ◌≤◌, ◌+◌, ◌*◌}
+use Rattle.std.proofs.Common.{arith, length, ◌≤◌}
 use Rattle.cell_report.proofs.Texts.{on_ok}
 use Rattle.cell_report.proofs.Lengths.{grown, host-short}
 use Rattle.cell_report.proofs.host.put_host.Goals as goal

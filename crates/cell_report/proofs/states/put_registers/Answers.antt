@@ -1,4 +1,4 @@
-use Rattle.std.proofs.Common.{arith, length, ◌*◌, ◌+◌, ◌∙◌, ap}
+use Rattle.std.proofs.Common.{arith}
 use Rattle.cell_report.specs.States.{register_line}
 use Rattle.cell_report.proofs.Texts.{one_register, no_register}
 use Rattle.cell_report.proofs.Lengths.{grown, register-short}
