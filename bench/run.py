@@ -4,10 +4,11 @@
 Prints instructions per second of two loops of a million steps; steps per second of a whole run, file in
 and text out, with one and with eight processors; the greatest memory of the widest machine; steps per
 second of eight processors that transfer without a pause, by single commands and by lists, and that raise
-one counter on the widest machine, and the time of one of their steps in runs of three lengths; and the
-time and the greatest memory that assembling three sources of 4 MB takes. Each figure is the best of five
-runs; the time of a run of one step is taken off that of the loops and of the commands, so that starting
-the program isn't counted.
+one counter on the widest machine, and the time of one of their steps in runs of three lengths; steps per
+second and the greatest memory of the check of the output of such runs, beside those of the run, of whose
+time a check is to take at most twice; and the time and the greatest memory that assembling three sources
+of 4 MB takes. Each figure is the best of five runs; the time of a run of one step is taken off that of the
+loops and of the commands, so that starting the program isn't counted.
 """
 import os
 import subprocess
@@ -70,6 +71,18 @@ def commands(folder, source, spes, lines):
     print(f"{source} on {spes} processors with {lines} lines: {BUDGETS[-1] / (took - idle) / 1e6:.2f} million steps a second")
 
 
+def checking(folder, source, spes, lines):
+    """Steps per second and the memory of the check of a run's output, beside the run's own."""
+    machine = machine_file(folder, source, STEPS, spes, lines)
+    output = f"{machine}.out"
+    ran, ran_most = measured(["run", machine])
+    with open(output, "wb") as file:
+        subprocess.run([os.path.join(ROOT, "cell"), "run", machine], stdout=file, cwd=ROOT, check=True)
+    took, most = measured(["check", machine, output])
+    print(f"{source} on {spes} processors with {lines} lines: a check replays {STEPS / took / 1e6:.2f} million steps a second; "
+          f"{took:.2f} s and {most / 1024:.1f} MiB, {took / ran:.2f} times the run's {ran:.2f} s, which takes {ran_most / 1024:.1f} MiB")
+
+
 def assembling(folder, title, lines):
     """The time and the memory of a source of 4 MB."""
     name = os.path.join(folder, "big.s")
@@ -114,6 +127,8 @@ def main():
         commands(folder, "bench/transfer.s", 8, 128)
         commands(folder, "bench/lists.s", 8, 128)
         commands(folder, "bench/counter.s", 8, 32_768)
+        checking(folder, "bench/arithmetic.s", 1, 1)
+        checking(folder, "bench/transfer.s", 8, 128)
         assembling(folder, "65,536 instructions with labels and comments", commented())
         assembling(folder, "labels alone", short())
         assembling(folder, "line feeds alone", empty())

@@ -1,5 +1,5 @@
 -- The end word is decided by the steps that can come to be made.
-use Rattle.std.proofs.Common.{◌≡◌, ℕ, zero, suc, ◌+◌, ◌<◌, ◌≤◌, Bool, true, false, not, ◌&&◌, cond, List, [], ◌∷◌, ◌++◌, length, map, Option, Some, None, refl, sym, ap, subst, ◌∙◌, arith, true≢false}
+use Rattle.std.proofs.Common.{◌≡◌, ℕ, zero, suc, ◌+◌, ◌<◌, ◌≤◌, Bool, true, false, not, ◌&&◌, List, [], ◌∷◌, ◌++◌, length, map, Option, Some, None, refl, sym, ap, subst, arith}
 use Rattle.std.specs.Prelude.{nat_lt, is_some, is_none, IsSome, slice_get, ◌≢◌, ◌==◌}
 use Rattle.std.specs.Option.{option_map_or}
 use Rattle.std.specs.List.{flat_map, list_all, range_with_len}
@@ -13,7 +13,7 @@ use Rattle.cell_machine.specs.State.{State}
 use Rattle.cell_machine.specs.Moves.{present}
 use Rattle.cell_machine.specs.Next.{next}
 use Rattle.cell_machine.specs.Transfers.{may_piece, may_elem, may_retire, has_part, has_element, is_left}
-use Rattle.cell_machine.specs.Run.{IsEnd, HasEnded, CanGoOn, is_quiet, steps_of_number, steps_of_command, pieces_of}
+use Rattle.cell_machine.specs.Run.{IsEnd, HasEnded, CanGoOn, steps_of_number, steps_of_command, pieces_of}
 use Rattle.cell_machine.proofs.Bounds.{may-is}
 use Rattle.cell_machine.proofs.Choices.{next-piece, next-elem, next-retire}
 use Rattle.cell_machine.proofs.Elements.{part-is}

@@ -5,3 +5,4 @@ pub mod Puts
 pub mod Runs
 pub mod Complete
 pub mod ReadBack
+pub mod Lengths

@@ -1,9 +1,8 @@
 -- What `run` writes is read back by `check`.
-use Rattle.std.proofs.Common.{◌≡◌, ℕ, zero, suc, ◌+◌, ◌<◌, ◌≤◌, ◌==◌, Bool, true, false, cond, List, [], ◌∷◌, ◌++◌, length, Option, Some, None, Result, Ok, Err, refl, sym, ap, subst, ◌∙◌, arith, inl, inr}
+use Rattle.std.proofs.Common.{◌≡◌, ℕ, ◌+◌, ◌≤◌, false, cond, List, [], ◌∷◌, ◌++◌, length, Some, None, Result, Ok, Err, refl, sym, ap, subst, ◌∙◌, arith, inl, inr}
 use Rattle.std.specs.Prelude.{nat_lt}
 use Rattle.std.proofs.lemmas.Bool.{eq-eqb}
 use Rattle.std.proofs.lemmas.Bool.Decides.{nat_tests}
-use Rattle.cell_base.specs.declared.steps.Step.{Step}
 use Rattle.cell_base.specs.Records.{spelling}
 use Rattle.cell_io.specs.Files.{File, file_named}
 use Rattle.cell_io.specs.Store.{Ledger}
@@ -15,7 +14,6 @@ use Rattle.cell_load.specs.Entries.{Entry}
 use Rattle.cell_load.specs.Order.{machine_at}
 use Rattle.cell_load.specs.Sources.{Named, sources_of}
 use Rattle.cell_load.specs.Loaded.{loaded, NoRow}
-use Rattle.cell_machine.specs.State.{State}
 use Rattle.cell_machine.specs.Opening.{Opening, opening}
 use Rattle.cell_report.specs.States.{states_of}
 use Rattle.run_record.proofs.Records.{record_again}
@@ -26,7 +24,7 @@ use Rattle.cell_cli.specs.declared.fault.Status.{Status}
 use Rattle.cell_cli.specs.declared.fault.Status.TheVariants.{Done, Race, Refused}
 use Rattle.cell_cli.specs.Task.{Task, Work, refuse, ready, read, run_of, text_of}
 use Rattle.cell_cli.specs.Course.{Given, nothing, too_long, whole, within, given, by_given, if_whole, settled, Reads}
-use Rattle.cell_cli.specs.Forms.{text_limit, record_limit, with_image, source_task, sources_task, with_setup, with_plan, machine_task, run_task, check_task, by_verdict}
+use Rattle.cell_cli.specs.Forms.{text_limit, record_limit, with_image, sources_task, with_setup, with_plan, machine_task, run_task, check_task, by_verdict}
 use Rattle.cell_cli.specs.Checks.{differ, states_differ, end_of, verdict, replayed_text, with_record, with_replay, checked}
 use Rattle.cell_cli.specs.Runs.{PrintsRun}
 use Rattle.cell_cli.specs.Words.{Spoken, run, check, asm, no_form, task_of}
@@ -128,12 +126,12 @@ same-run : (S T : Opening) → run_of S ≡ run_of T → S ≡ T
 same-run S T e = cc
 
 kept-read : (files later : List File) (machine record_file text : List ℕ) (setup : Opening) → settled files (run_task machine) ≡ Ok (run_of setup) → (r : PrintsRun setup text)
-    → length text ≤ record_limit → IsKeptIn files later (run_task machine) record_file text → settled later (check_task machine record_file) ≡ Ok (text_of (replayed_text (length r.steps)))
-kept-read files later machine record_file text setup is r fits k =
+    → IsKeptIn files later (run_task machine) record_file text → settled later (check_task machine record_file) ≡ Ok (text_of (replayed_text (length r.steps)))
+kept-read files later machine record_file text setup is r k =
     let next : Opening → Task = λ S. read Rec record_file record_limit (λ t. by_verdict (checked S t)) in
     let on = machine-on later (run_of setup) next machine (same-settled files later (run_task machine) k.same ∙ is) in
     on.2 ∙ ap (λ S. settled later (next S)) (sym (same-run setup on.0 on.1))
-    ∙ ap (λ g. by_given Rec g (λ t. settled later (by_verdict (checked setup t)))) (given-whole later record_file text record_limit k.kept fits)
+    ∙ ap (λ g. by_given Rec g (λ t. settled later (by_verdict (checked setup t)))) (given-whole later record_file text record_limit k.kept r.short)
     ∙ ap (λ v. settled later (by_verdict v)) (run-checked setup text r)
 
 reads-back : (files : List File) (machine text : List ℕ) (setup : Opening) → settled files (run_task machine) ≡ Ok (run_of setup) → PrintsRun setup text → IsReadBack files machine text
@@ -141,7 +139,7 @@ reads-back files machine text setup is r = record {
   steps = r.steps;
   states = states_of r.last setup.shows (Some r.end);
   parts = r.printed;
-  checked = λ later record_file fits k. kept-read files later machine record_file text setup is r fits k;
+  checked = λ later record_file k. kept-read files later machine record_file text setup is r k;
 }
 
 -- a run's task comes to no other work than a run

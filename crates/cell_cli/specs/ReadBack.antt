@@ -1,5 +1,5 @@
 -- What `run` writes is read back by `check`.
-use Rattle.std.specs.Prelude.{ℕ, ◌≡◌, ◌≤◌, List, ◌++◌, length, Option, Some, Ok}
+use Rattle.std.specs.Prelude.{ℕ, ◌≡◌, List, ◌++◌, length, Some, Ok}
 use Rattle.cell_base.specs.declared.steps.Step.{Step}
 use Rattle.cell_base.specs.Records.{spelling}
 use Rattle.cell_io.specs.Files.{File, file_named}
@@ -8,9 +8,9 @@ use Rattle.cell_cli.specs.declared.fault.Status.{Status}
 use Rattle.cell_cli.specs.declared.fault.Status.TheVariants.{Done}
 use Rattle.cell_cli.specs.Task.{Task, text_of}
 use Rattle.cell_cli.specs.Course.{settled, Reads}
-use Rattle.cell_cli.specs.Forms.{run_task, check_task, record_limit}
+use Rattle.cell_cli.specs.Forms.{run_task, check_task}
 use Rattle.cell_cli.specs.Checks.{replayed_text}
-use Rattle.cell_cli.specs.Words.{Spoken, run, check, asm, no_form}
+use Rattle.cell_cli.specs.Words.{Spoken, run}
 use Rattle.cell_cli.specs.Answer.{Sinks}
 use Rattle.cell_cli.specs.Output.{Took}
 
@@ -25,7 +25,7 @@ pub record IsReadBack (files : List File) (machine text : List ℕ) : Type 0 whe
   pub steps : List Step
   pub states : List ℕ
   pub parts : text ≡ spelling steps ++ states
-  pub checked : (later : List File) (record_file : List ℕ) → length text ≤ record_limit → IsKeptIn files later (run_task machine) record_file text
+  pub checked : (later : List File) (record_file : List ℕ) → IsKeptIn files later (run_task machine) record_file text
       → settled later (check_task machine record_file) ≡ Ok (text_of (replayed_text (length steps)))
 
 -- what a run that is done added to the sink is read back

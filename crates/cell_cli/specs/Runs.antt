@@ -10,9 +10,11 @@ use Rattle.cell_machine.specs.Order.{IsInOrder}
 use Rattle.cell_machine.specs.Lists.{ListsAreInOrder}
 use Rattle.cell_machine.specs.Locks.{AreLocksKept}
 use Rattle.cell_report.specs.States.{states_of}
+use Rattle.cell_cli.specs.Forms.{record_limit}
 
 -- The record of one run of the written machine from the setup, in the order of its commands and of its lists, each PUTLLC storing
--- exactly where its line is reserved, within the bounds of a record, and then its last states; the run has ended.
+-- exactly where its line is reserved, within the bounds of a record, and then its last states; the run has ended, and a record file
+-- can be as long.
 pub record PrintsRun (setup : Opening) (text : List ℕ) : Type 0 where
   pub steps : List Step
   pub last : State
@@ -24,4 +26,5 @@ pub record PrintsRun (setup : Opening) (text : List ℕ) : Type 0 where
   pub locks : AreLocksKept (record { setup = setup; steps = steps })
   pub recorded : AreSteps steps
   pub ended : IsEnd last setup.budget (Some end)
+  pub short : length text ≤ record_limit
   pub printed : text ≡ spelling steps ++ states_of last setup.shows (Some end)

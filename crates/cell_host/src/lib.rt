@@ -110,7 +110,8 @@ impl Host {
 
     /// The values that were taken, the earliest first.
     pub fn took(&self) -> &[Took]
-        ensures { result.now ≡ self.now.took }
+        ensures took { result.now ≡ self.now.took }
+        ensures few { length result.now ≤ MAX_ACTIONS }
     {
         self.took.as_slice()
     }

@@ -344,6 +344,7 @@ impl Setup {
     /// The ranges that the states show, in their order; each fits.
     pub fn shows(&self) -> &[Show]
         ensures shows { result.now ≡ self.now.shows }
+        ensures few { length self.now.shows ≤ 64 }
         ensures fits { All (FitsShow self.now.lines (length self.now.entries)) self.now.shows }
     {
         self.shows.as_slice()
@@ -351,7 +352,8 @@ impl Setup {
 
     /// How many processors there are.
     pub fn spes(&self) -> u8
-        ensures { result ≡ length self.now.entries }
+        ensures count { result ≡ length self.now.entries }
+        ensures few { result ≤ 8 }
     {
         self.entries.len() as u8
     }

@@ -1,6 +1,6 @@
 //! The ranges that the states show.
 
-ghost use Rattle.std.specs.Prelude.{◌≡◌, ◌+◌, ◌<◌, ◌≤◌, ◌++◌, length, Some, OnOk};
+ghost use Rattle.std.specs.Prelude.{◌≡◌, ◌+◌, ◌*◌, ◌<◌, ◌≤◌, ◌++◌, length, Some, OnOk};
 ghost use Rattle.std.specs.List.{flat_map};
 ghost use Rattle.cell_machine.specs.Limits.{FitsShow};
 ghost use Rattle.cell_machine.specs.State.{State};
@@ -13,7 +13,8 @@ use std::alloc::AllocError;
 
 /// Writes a range of a local store.
 fn put_local(out: &mut Vec<u8>, spe: u8, at: u32, bytes: &[u8]) -> Result<(), AllocError>
-    ensures { OnOk result (out.new.items ≡ out.old.items ++ local_line spe at bytes.now) }
+    ensures text { OnOk result (out.new.items ≡ out.old.items ++ local_line spe at bytes.now) }
+    ensures short { OnOk result (length out.new.items ≤ length out.old.items + 24 + 2 * length bytes.now) }
 {
     out.extend_from_slice(b"ls ")?;
     put_decimal(out, u32::from(spe))?;
@@ -27,7 +28,8 @@ fn put_local(out: &mut Vec<u8>, spe: u8, at: u32, bytes: &[u8]) -> Result<(), Al
 
 /// Writes a range of main memory.
 fn put_memory(out: &mut Vec<u8>, at: u32, bytes: &[u8]) -> Result<(), AllocError>
-    ensures { OnOk result (out.new.items ≡ out.old.items ++ memory_line at bytes.now) }
+    ensures text { OnOk result (out.new.items ≡ out.old.items ++ memory_line at bytes.now) }
+    ensures short { OnOk result (length out.new.items ≤ length out.old.items + 24 + 2 * length bytes.now) }
 {
     out.extend_from_slice(b"mem 0x")?;
     put_hex(out, 8, at)?;
@@ -40,7 +42,8 @@ fn put_memory(out: &mut Vec<u8>, at: u32, bytes: &[u8]) -> Result<(), AllocError
 /// Writes a range that is shown.
 fn put_show(out: &mut Vec<u8>, m: &Machine, show: Show) -> Result<(), AllocError>
     requires { FitsShow m.now.setup.lines (length m.now.setup.entries) show }
-    ensures { OnOk result ((M : State) → state_of m.now ≡ Some M → out.new.items ≡ out.old.items ++ show_line M show) }
+    ensures text { OnOk result ((M : State) → state_of m.now ≡ Some M → out.new.items ≡ out.old.items ++ show_line M show) }
+    ensures short { OnOk result (length out.new.items ≤ length out.old.items + 8216) }
 {
     match show {
         Show::Memory { at, len } => {
@@ -58,7 +61,8 @@ fn put_show(out: &mut Vec<u8>, m: &Machine, show: Show) -> Result<(), AllocError
 
 /// Writes the ranges that the setup shows.
 pub(crate) fn put_shows(out: &mut Vec<u8>, m: &Machine) -> Result<(), AllocError>
-    ensures { OnOk result ((M : State) → state_of m.now ≡ Some M → out.new.items ≡ out.old.items ++ flat_map (show_line M) m.now.setup.shows) }
+    ensures text { OnOk result ((M : State) → state_of m.now ≡ Some M → out.new.items ≡ out.old.items ++ flat_map (show_line M) m.now.setup.shows) }
+    ensures short { OnOk result (length out.new.items ≤ length out.old.items + 525824) }
 {
     for show in m.setup().shows() {
         put_show(out, m, *show)?;

@@ -1,6 +1,6 @@
 //! The text of a machine's last state.
 
-ghost use Rattle.std.specs.Prelude.{◌≡◌, ◌<◌, ◌≤◌, ◌++◌, length, Option, OnOk, IfOk, IsSomeAnd};
+ghost use Rattle.std.specs.Prelude.{◌≡◌, ◌<◌, ◌≤◌, ◌+◌, ◌*◌, ◌++◌, length, Option, OnOk, IfOk, IsSomeAnd};
 ghost use Rattle.std.specs.List.{flat_map};
 ghost use Rattle.std.specs.Fmt.{decimal};
 ghost use Rattle.cell_machine.specs.declared.status.End.{End};
@@ -81,7 +81,8 @@ fn put_register(out: &mut Vec<u8>, r: u32, bytes: &[u8]) -> Result<(), AllocErro
 
 fn put_registers(out: &mut Vec<u8>, registers: &[Quad]) -> Result<(), AllocError>
     requires { length registers.now ≤ 128 }
-    ensures { OnOk result (out.new.items ≡ out.old.items ++ register_lines 0 registers.now) }
+    ensures text { OnOk result (out.new.items ≡ out.old.items ++ register_lines 0 registers.now) }
+    ensures short { OnOk result (length out.new.items ≤ length out.old.items + 45 * length registers.now) }
 {
     let mut r = 0;
     for quad in registers {
@@ -112,7 +113,8 @@ fn put_lines(
     registers: &[Quad],
 ) -> Result<(), AllocError>
     requires { length registers.now ≤ 128 }
-    ensures { OnOk result (out.new.items ≡ out.old.items ++ spe_lines p status pc queued registers.now) }
+    ensures text { OnOk result (out.new.items ≡ out.old.items ++ spe_lines p status pc queued registers.now) }
+    ensures short { OnOk result (length out.new.items ≤ length out.old.items + 5824) }
 {
     out.extend_from_slice(b"spe ")?;
     put_decimal(out, u32::from(p))?;
@@ -125,14 +127,16 @@ fn put_lines(
 
 fn put_spe(out: &mut Vec<u8>, m: &Machine, p: u8) -> Result<(), AllocError>
     requires { p < length m.now.setup.entries }
-    ensures { OnOk result (IsSomeAnd (spe_of m.now p) (λ P. out.new.items ≡ out.old.items ++ spe_text p P)) }
+    ensures text { OnOk result (IsSomeAnd (spe_of m.now p) (λ P. out.new.items ≡ out.old.items ++ spe_text p P)) }
+    ensures short { OnOk result (length out.new.items ≤ length out.old.items + 5824) }
 {
     put_lines(out, p, m.status(p), m.pc(p), m.queued(p), m.registers(p))
 }
 
 /// Writes the lines of all processors.
 fn put_spes(out: &mut Vec<u8>, m: &Machine) -> Result<(), AllocError>
-    ensures { OnOk result (IsSomeAnd (state_of m.now) (λ M. out.new.items ≡ out.old.items ++ spes_text 0 M.spes)) }
+    ensures text { OnOk result (IsSomeAnd (state_of m.now) (λ M. out.new.items ≡ out.old.items ++ spes_text 0 M.spes)) }
+    ensures short { OnOk result (length out.new.items ≤ length out.old.items + 46592) }
 {
     for p in 0..m.setup().spes() {
         put_spe(out, m, p)?;
@@ -141,9 +145,10 @@ fn put_spes(out: &mut Vec<u8>, m: &Machine) -> Result<(), AllocError>
 }
 
 /// The states of a machine as text: its end word, its processors with each register that isn't zero, the host, and the ranges
-/// that its setup shows.
+/// that its setup shows; at most 700,000 bytes.
 pub fn states_text(alloc: Global, m: &Machine) -> Result<Vec<u8>, TextError>
-    ensures { IfOk result (λ text. IsSomeAnd (state_of m.now) (λ M. (end : Option End) × IsEnd M m.now.setup.budget end × (text.items ≡ states_of M m.now.setup.shows end))) }
+    ensures text { IfOk result (λ text. IsSomeAnd (state_of m.now) (λ M. (end : Option End) × IsEnd M m.now.setup.budget end × (text.items ≡ states_of M m.now.setup.shows end))) }
+    ensures short { IfOk result (λ text. length text.items ≤ 700000) }
 {
     let mut out = Vec::new(alloc);
     put_end(&mut out, m.end())?;

@@ -1,5 +1,5 @@
 -- What a record is as text, and where a text stops being one.
-use Rattle.std.specs.Prelude.{◌≡◌, ◌≢◌, ℕ, ◌+◌, ◌<◌, ◌≤◌, ◌⊎◌, List, ◌++◌, length, drop, Result, Err}
+use Rattle.std.specs.Prelude.{◌≡◌, ◌≢◌, ℕ, ◌+◌, ◌<◌, ◌⊎◌, List, ◌++◌, length, drop, Result, Err}
 use Rattle.std.specs.List.{flat_map}
 use Rattle.cell_base.specs.declared.steps.Step.{Step}
 use Rattle.cell_base.specs.Records.{step_line, head_line, count_line, spelling, InBounds, AreSteps}

@@ -1,5 +1,3 @@
-use Rattle.std.proofs.Common.{sym, subst}
-use Rattle.cell_cli.specs.Checks.{CheckGives, FaultGives, checked}
 use Rattle.cell_cli.proofs.Checks.{bad_record, not_a_run, whole}
 use Rattle.cell_cli.proofs.checking.check_record.Goals as goal
 

@@ -8,7 +8,7 @@ returns-in-Ok-put_both-clause-ends g c = (
   c.as_slice.result.now ++ c.as_slice-2.result.now,
   prints_own c.in-Ok.machine c.args.setup _ _ _ _ _ c.in-Ok.ensures.setup c.in-Ok.ensures.ended c.steps.ensures.steps c.steps.ensures.run
       (record { order = c.steps.ensures.order; lists = c.steps.ensures.lists; locks = c.steps.ensures.locks; recorded = c.steps.ensures.recorded })
-      c.in-Ok-record_text.ensures c.in-Ok-states_text.ensures c.as_slice.ensures.value c.as_slice-2.ensures.value,
+      c.in-Ok-states_text.ensures.short c.in-Ok-record_text.ensures c.in-Ok-states_text.ensures.text c.as_slice.ensures.value c.as_slice-2.ensures.value,
   took _ _ _ _ c.in-Ok-put_both.field-0 c.in-Ok-put_both.ensures.takes,
 )
 
@@ -19,7 +19,7 @@ returns-clause-ends g c = (
     c.as_slice.result.now ++ c.as_slice-2.result.now,
     prints_own c.in-Ok.machine c.args.setup _ _ _ _ _ c.in-Ok.ensures.setup c.in-Ok.ensures.ended c.steps.ensures.steps c.steps.ensures.run
         (record { order = c.steps.ensures.order; lists = c.steps.ensures.lists; locks = c.steps.ensures.locks; recorded = c.steps.ensures.recorded })
-        c.in-Ok-record_text.ensures c.in-Ok-states_text.ensures c.as_slice.ensures.value c.as_slice-2.ensures.value,
+        c.in-Ok-states_text.ensures.short c.in-Ok-record_text.ensures c.in-Ok-states_text.ensures.text c.as_slice.ensures.value c.as_slice-2.ensures.value,
     took_part _ _ _ _ c.in-Err.field-0 c.in-Err.ensures.takes,
   ),
 )
