@@ -3,6 +3,8 @@
 
 mod causes;
 mod checking;
+#[cfg(test)]
+mod effect_tests;
 mod fault;
 mod job;
 mod program;
