@@ -16,13 +16,6 @@ const RECORD: &str = "cell-record 1\nx 0\nsteps 1\n";
 
 const STATES: &str = "end AllStopped\nspe 0 stopped 0x0007 pc 0x00004 queued 0\nhost 0 of 0\n";
 
-fn file(alloc: Global, name: &str, text: &str) -> Result<MemFile, AllocError> {
-    Ok(MemFile {
-        name: String::from_str(alloc, name)?,
-        bytes: text.as_bytes().to_vec(alloc)?,
-    })
-}
-
 /// The files `m` and `s`, and the record `r`. The fetches of these numbers fail.
 pub(crate) fn files(
     alloc: Global,
@@ -31,9 +24,18 @@ pub(crate) fn files(
     failing: Vec<u32>,
 ) -> Result<MemStore, AllocError> {
     let mut files = Vec::new(alloc);
-    files.push(file(alloc, "m", machine)?)?;
-    files.push(file(alloc, "s", source)?)?;
-    files.push(file(alloc, "r", RECORD)?)?;
+    files.push(MemFile {
+        name: String::from_str(alloc, "m")?,
+        bytes: machine.as_bytes().to_vec(alloc)?,
+    })?;
+    files.push(MemFile {
+        name: String::from_str(alloc, "s")?,
+        bytes: source.as_bytes().to_vec(alloc)?,
+    })?;
+    files.push(MemFile {
+        name: String::from_str(alloc, "r")?,
+        bytes: RECORD.as_bytes().to_vec(alloc)?,
+    })?;
     Ok(MemStore::new(files, failing))
 }
 
