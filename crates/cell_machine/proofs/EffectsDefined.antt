@@ -9,9 +9,9 @@ use Rattle.cell_machine.specs.Spe.{Spe}
 use Rattle.cell_machine.specs.Moves.{present}
 use Rattle.cell_machine.specs.Memory.{lines_of}
 use Rattle.cell_machine.specs.Exec.{exec}
-use Rattle.cell_machine.specs.Transfers.{Left, piece, may_piece, elem, may_elem, retire}
+use Rattle.cell_machine.specs.Transfers.{piece, may_piece, elem, may_elem, retire}
 use Rattle.cell_machine.specs.Atomic.{atomic, may_atomic}
-use Rattle.cell_machine.specs.Next.{act, own, with_left, ended_by, next}
+use Rattle.cell_machine.specs.Next.{act, own, with_left, ended_by}
 use Rattle.cell_machine.specs.Hosts.{host}
 use Rattle.cell_machine.specs.Effects.{effect_of}
 use Rattle.cell_machine.specs.EffectLaws.{HasEffects}

@@ -2,7 +2,6 @@
 use Rattle.std.proofs.Common.{◌≡◌, ℕ, List, refl, sym, ◌∙◌, ap, true≢false}
 use Rattle.std.specs.Prelude.{Option, Some, None, is_some, Bool, true, false}
 use Rattle.std.specs.Option.{option_map, option_and_then}
-use Rattle.cell_base.specs.declared.steps.ChannelOp.{ChannelOp}
 use Rattle.spu_decode.specs.declared.Instr.{Instr}
 use Rattle.spu_decode.specs.Spelling.{instr_of}
 use Rattle.spu_regs.specs.Registers.{register}

@@ -4,7 +4,6 @@ use Rattle.std.specs.Prelude.{Option, Some, None, length, is_some, slice_get, Bo
 use Rattle.std.specs.Option.{option_map, option_map_or, option_and_then}
 use Rattle.cell_base.specs.declared.steps.Step.{Step}
 use Rattle.cell_base.specs.declared.steps.Step.TheVariants.{Exec, Piece, Elem, Retire, Atomic, Host}
-use Rattle.mfc_command.specs.declared.command.Command.{Command}
 use Rattle.mfc_command.specs.declared.command.AtomicOp.{AtomicOp}
 use Rattle.tag_groups.specs.declared.Request.{Request}
 use Rattle.tag_groups.specs.declared.Tags.{Tags}
@@ -18,8 +17,8 @@ use Rattle.cell_machine.specs.Exec.{exec}
 use Rattle.cell_machine.specs.Transfers.{Left, piece, elem, retire}
 use Rattle.cell_machine.specs.Atomic.{Fate, Got, Stored, Lost, atomic, fate}
 use Rattle.cell_machine.specs.Next.{act, act_in, own, left, with_left}
-use Rattle.cell_machine.specs.Effects.{effect_of, is_fixed, fixes, exec_effect, piece_effect, elem_effect, plain_effect, line_effect, of_command}
-use Rattle.cell_machine.specs.EffectLaws.{FixesOnce, maker, has_request}
+use Rattle.cell_machine.specs.Effects.{effect_of, fixes, exec_effect, piece_effect, elem_effect, plain_effect, line_effect, of_command}
+use Rattle.cell_machine.specs.EffectLaws.{FixesOnce, maker}
 
 -- a request that is met is one that is settled
 once : (busy issued : ℕ) (t : Tags) (o : Option Request) → t.request ≡ o

@@ -13,7 +13,6 @@ use Rattle.mfc_command.specs.declared.range.Part.{Part}
 use Rattle.mfc_lists.specs.declared.Element.{Element}
 use Rattle.cell_machine.specs.declared.processor.Processor.{Processor}
 use Rattle.cell_machine.specs.declared.memory.SharedMemory.{SharedMemory}
-use Rattle.cell_machine.specs.declared.status.Status.TheVariants.{DmaFault}
 use Rattle.cell_machine.specs.declared.effect.Span.{Span}
 use Rattle.cell_machine.specs.declared.effect.Note.{Note}
 use Rattle.cell_machine.specs.declared.effect.Note.TheVariants.{Nothing, Ended, Element as Reading}

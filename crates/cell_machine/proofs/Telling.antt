@@ -1,5 +1,5 @@
 -- What an instruction tells, and whether it fixes a tag status, by its channel operation.
-use Rattle.std.proofs.Common.{◌≡◌, ◌≢◌, ℕ, List, [], ◌∷◌, ◌++◌, length, refl, sym, ◌∙◌, ap, true≢false, arith}
+use Rattle.std.proofs.Common.{◌≡◌, ◌≢◌, ℕ, List, [], ◌∷◌, ◌++◌, length, refl, sym, ◌∙◌, ap, arith}
 use Rattle.std.specs.Prelude.{Option, Some, None, Ok, Err, is_some, slice_get, Bool, true, false, not, ◌&&◌, ◌==◌, cond, nat_le}
 use Rattle.std.specs.Option.{option_map_or}
 use Rattle.std.proofs.lemmas.Bool.Decides.{nat_tests}
@@ -16,10 +16,9 @@ use Rattle.tag_groups.specs.declared.TagStatus.{TagStatus}
 use Rattle.tag_groups.specs.Settle.{requested}
 use Rattle.spu_exec.specs.declared.flow.Flow.{Flow}
 use Rattle.spu_exec.specs.declared.flow.Flow.TheVariants.{Next, Stop, Halt, Channel}
-use Rattle.cell_machine.specs.declared.effect.Note.{Note}
 use Rattle.cell_machine.specs.declared.effect.Note.TheVariants.{Nothing, Issue, AtomicIssue, Ended}
 use Rattle.cell_machine.specs.Spe.{Spe, is_running}
-use Rattle.cell_machine.specs.Exec.{followed, op_of}
+use Rattle.cell_machine.specs.Exec.{followed}
 use Rattle.cell_machine.specs.Channels.{channel, is_read, is_write, may_read, may_write, read_by, read_stalls, read_status, read_atomic, read_inbound, written, commanded, given, went_on, bad_channel, acknowledged, with_issued, with_resumed}
 use Rattle.cell_machine.specs.Moves.{stalls_of_tag}
 use Rattle.cell_machine.specs.Effects.{ends, told, told_by, is_fixed, fixes}

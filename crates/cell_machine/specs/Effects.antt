@@ -1,5 +1,5 @@
 -- What a step fetches, reads and writes, and what it tells. Mailboxes are numbered 0 inbound, 1 outbound, 2 interrupt.
-use Rattle.std.specs.Prelude.{ℕ, ◌*◌, Bool, true, false, not, ◌==◌, ◌&&◌, nat_lt, if◌then◌else◌, length, List, Option, Some, None, Result, Ok, Err, slice_get}
+use Rattle.std.specs.Prelude.{ℕ, ◌*◌, Bool, true, false, not, ◌==◌, ◌&&◌, nat_lt, if◌then◌else◌, length, Option, Some, None, Result, Ok, Err, slice_get}
 use Rattle.std.specs.Option.{option_and_then, option_map, option_map_or}
 use Rattle.cell_base.specs.declared.steps.ChannelOp.{ChannelOp}
 use Rattle.cell_base.specs.declared.steps.ChannelOp.TheVariants.{Read, Count, Write}

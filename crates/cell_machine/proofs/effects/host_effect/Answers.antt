@@ -1,4 +1,4 @@
-use Rattle.std.proofs.Common.{◌≡◌, sym, ◌∙◌, ap}
+use Rattle.std.proofs.Common.{sym, ◌∙◌, ap}
 use Rattle.std.specs.Prelude.{slice_get}
 use Rattle.cell_host.specs.Script.{Progress}
 use Rattle.cell_machine.proofs.StepEffects.{host-none, host-ended, host-some}

@@ -1,4 +1,4 @@
-use Rattle.std.proofs.Common.{◌≡◌, ℕ, List, length, ap}
+use Rattle.std.proofs.Common.{◌≡◌, List, length, ap}
 use Rattle.std.proofs.Props.{props}
 use Rattle.std.specs.Prelude.{Option}
 use Rattle.mfc_queue.specs.declared.Queue.{Queue}

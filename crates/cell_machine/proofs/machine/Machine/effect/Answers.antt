@@ -1,4 +1,4 @@
-use Rattle.std.proofs.Common.{◌<◌, ◌≤◌, length, arith, ap}
+use Rattle.std.proofs.Common.{length, arith, ap}
 use Rattle.cell_machine.specs.Run.{Ran}
 use Rattle.cell_machine.proofs.AnyStep.{machine-replayed}
 use Rattle.cell_machine.proofs.Replays.{machine-can}

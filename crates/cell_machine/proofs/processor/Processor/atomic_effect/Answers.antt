@@ -1,5 +1,5 @@
 use Rattle.std.proofs.Common.{sym, ◌∙◌, ap}
-use Rattle.std.specs.Prelude.{Some, None}
+use Rattle.std.specs.Prelude.{Some}
 use Rattle.std.specs.Option.{option_and_then, option_map}
 use Rattle.cell_channels.specs.declared.channels.Channels.{Channels}
 use Rattle.cell_machine.specs.Spe.{is_faulted}

@@ -1,4 +1,3 @@
-use Rattle.std.proofs.Common.{sym, ◌∙◌}
 use Rattle.cell_machine.proofs.Fixed.{not-pending}
 use Rattle.cell_machine.proofs.processor.Processor.fixes_by_acknowledgement.Goals as goal
 

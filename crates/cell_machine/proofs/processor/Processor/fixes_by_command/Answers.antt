@@ -1,5 +1,5 @@
-use Rattle.std.proofs.Common.{sym, ◌∙◌, ap, ◌≡◌, true, false, true≢false}
-use Rattle.std.specs.Prelude.{Some, None, Ok}
+use Rattle.std.proofs.Common.{sym, ◌∙◌, ap}
+use Rattle.std.specs.Prelude.{Ok}
 use Rattle.mfc_command.specs.declared.command.Order.TheVariants.{Queued}
 use Rattle.mfc_command.specs.Check.{checked}
 use Rattle.mfc_command.proofs.CheckLemmas.{checked-slot}
@@ -7,7 +7,6 @@ use Rattle.cell_channels.specs.declared.channels.Channels.{Channels}
 use Rattle.tag_groups.specs.declared.Tags.{Tags}
 use Rattle.cell_machine.specs.Channels.{with_issued}
 use Rattle.cell_machine.specs.Effects.{is_fixed}
-use Rattle.cell_machine.proofs.ChannelSteps.{command-off}
 use Rattle.cell_machine.proofs.Telling.{command-queued, command-line, command-fault, never-made}
 use Rattle.cell_machine.proofs.processor.Processor.fixes_by_command.Goals as goal
 

@@ -2,7 +2,6 @@ use Rattle.std.proofs.Common.{sym, ◌∙◌, ap, false}
 use Rattle.std.specs.Option.{option_map_or}
 use Rattle.tag_groups.specs.declared.Tags.{Tags}
 use Rattle.tag_groups.specs.Settle.{is_met, requested}
-use Rattle.cell_machine.specs.Moves.{busy}
 use Rattle.cell_machine.specs.Effects.{is_fixed}
 use Rattle.cell_machine.proofs.SpeShown.{busy-same}
 use Rattle.cell_machine.proofs.processor.Processor.fixes_by_request.Goals as goal

@@ -1,4 +1,4 @@
-use Rattle.std.proofs.Common.{sym, ◌∙◌, ap, arith, ◌≢◌}
+use Rattle.std.proofs.Common.{sym, ◌∙◌, ap, arith}
 use Rattle.tag_groups.specs.declared.Tags.{Tags}
 use Rattle.cell_machine.specs.Channels.{with_resumed}
 use Rattle.cell_machine.specs.Moves.{stalls_of_tag}

@@ -1,4 +1,4 @@
-use Rattle.std.proofs.Common.{sym, ◌∙◌, ap, false}
+use Rattle.std.proofs.Common.{◌∙◌, ap, false}
 use Rattle.std.specs.Option.{option_map_or}
 use Rattle.tag_groups.specs.Settle.{is_met}
 use Rattle.cell_machine.proofs.SpeShown.{busy-same}

@@ -1,8 +1,8 @@
-use Rattle.std.proofs.Common.{◌≡◌, ◌<◌, arith, sym, ◌∙◌, ap}
+use Rattle.std.proofs.Common.{arith, sym, ◌∙◌, ap}
 use Rattle.std.specs.Prelude.{is_some, Some}
 use Rattle.tag_groups.specs.declared.Tags.{Tags}
 use Rattle.cell_machine.specs.Spe.{is_faulted}
-use Rattle.cell_machine.specs.Transfers.{with_done, piece_of, is_put, part_in}
+use Rattle.cell_machine.specs.Transfers.{with_done, piece_of, is_put}
 use Rattle.cell_machine.specs.Effects.{is_fixed, copy_effect}
 use Rattle.cell_machine.proofs.SpeShown.{issued-at}
 use Rattle.cell_machine.proofs.Controllers.{piece-faulted, piece-may, begins-has, can-copy, part-number, kept-of}

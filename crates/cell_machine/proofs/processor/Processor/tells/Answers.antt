@@ -1,4 +1,4 @@
-use Rattle.std.proofs.Common.{sym, ◌∙◌}
+use Rattle.std.proofs.Common.{sym}
 use Rattle.cell_machine.proofs.Telling.{next-told, stop-told, halt-told}
 use Rattle.cell_machine.proofs.processor.Processor.tells.Goals as goal
 

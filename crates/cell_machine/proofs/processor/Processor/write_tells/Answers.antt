@@ -1,4 +1,4 @@
-use Rattle.std.proofs.Common.{sym, ◌∙◌}
+use Rattle.std.proofs.Common.{sym}
 use Rattle.std.specs.Prelude.{Some}
 use Rattle.cell_base.specs.declared.steps.ChannelOp.TheVariants.{Write}
 use Rattle.cell_machine.proofs.Telling.{told-on, write-22, write-23, write-26, write-28, write-30}
