@@ -19,7 +19,7 @@ ghost use Rattle.cell_machine.specs.Effects.{nowhere, in_memory, in_store, part_
 ghost use Rattle.cell_machine.specs.Shows.{Shows, ShowsMemory, CanGo};
 
 use crate::atomics::line_part;
-use crate::effect::{Effect, Note, Place, Span};
+use crate::effect::{Effect, INBOUND, INTERRUPT, Note, OUTBOUND, Place, Span};
 use crate::hosts::may_act_host;
 use crate::memory::SharedMemory;
 use crate::processor::Processor;
@@ -32,13 +32,6 @@ use mfc_lists::Element;
 
 /// How many bytes of the store an element of a list is read from.
 const ELEMENT_BYTES: u32 = 8;
-
-/// The numbers of the mailboxes.
-pub(crate) const INBOUND: u8 = 0;
-
-pub(crate) const OUTBOUND: u8 = 1;
-
-pub(crate) const INTERRUPT: u8 = 2;
 
 /// No bytes.
 pub(crate) fn nowhere() -> Span

@@ -3,6 +3,7 @@
 //! What a step makes of the queue is made of a copy, and only where a request is pending.
 
 ghost use Rattle.std.specs.Prelude.{◌≡◌, ℕ, ◌≤◌, ◌<◌, List, Some, true, false, length, slice_get};
+ghost use Rattle.cell_base.specs.declared.steps.ChannelOp.{ChannelOp};
 ghost use Rattle.mfc_command.specs.declared.command.Command.{Command};
 ghost use Rattle.mfc_command.specs.declared.command.Order.TheVariants.{Queued};
 ghost use Rattle.mfc_command.specs.Check.{OrderFits};
@@ -15,14 +16,18 @@ ghost use Rattle.tag_groups.specs.Settle.{requested};
 ghost use Rattle.cell_machine.specs.Spe.{Spe, Moves};
 ghost use Rattle.cell_machine.specs.Moves.{is_moved, read_of, stalls_of_tag};
 ghost use Rattle.cell_machine.specs.MovesShown.{reading};
-ghost use Rattle.cell_machine.specs.Channels.{with_issued, with_resumed};
+ghost use Rattle.cell_machine.specs.Channels.{channel, with_issued, with_resumed};
+ghost use Rattle.cell_machine.specs.Exec.{followed};
 ghost use Rattle.cell_machine.specs.Transfers.{has_part, has_element, with_done, with_read, with_retired};
 ghost use Rattle.cell_machine.specs.Effects.{is_fixed, fixes};
 
 use crate::commands::Commands;
 use crate::processor::Processor;
-use mfc_command::Command;
+use cell_base::ChannelOp;
+use cell_channels::{MFC_CMD, MFC_WR_LIST_STALL_ACK, MFC_WR_TAG_UPDATE};
+use mfc_command::{Command, Order, check};
 use mfc_lists::{Element, ListState};
+use spu_exec::Flow;
 
 impl Processor {
     ghost use Rattle.cell_machine.specs.Shows.{ShowsSpe, ShowsCommands, CanIssue, CanMark, HasRead};
@@ -33,6 +38,8 @@ impl Processor {
     {
         self.tags.would_settle(commands.queue.busy())
     }
+
+    // ---- by what is done to the commands
 
     /// Whether it is by a step that changes no command and asks for no status.
     pub(crate) fn fixes(&self) -> bool
@@ -118,5 +125,61 @@ impl Processor {
         let mut tags = self.tags;
         tags.request(how);
         tags.would_settle(self.commands.queue.busy())
+    }
+
+    // ---- by an instruction that is allowed
+
+    /// Whether it is by an instruction that leads there.
+    pub(crate) fn fixes_by(&self, lines: u32, flow: Flow) -> bool
+        requires number { CanIssue self.now.commands }
+        requires lines { lines ≤ 524288 }
+        ensures { (P Q : Spe) (registers : List (List ℕ)) (store : List ℕ) → ShowsSpe self.now P → followed lines (record P { registers = registers; store = store }) flow ≡ Some Q → result ≡ fixes Q }
+    {
+        match flow {
+            Flow::Channel(op) => self.fixes_by_operation(lines, op),
+            _ => self.fixes(),
+        }
+    }
+
+    /// Whether it is by a channel operation.
+    fn fixes_by_operation(&self, lines: u32, op: ChannelOp) -> bool
+        requires number { CanIssue self.now.commands }
+        requires lines { lines ≤ 524288 }
+        ensures { (P Q : Spe) (registers : List (List ℕ)) (store : List ℕ) → ShowsSpe self.now P → channel lines (record P { registers = registers; store = store }) op ≡ Some Q → result ≡ fixes Q }
+    {
+        match op {
+            ChannelOp::Write { ch, value } => self.fixes_by_write(lines, ch, value),
+            _ => self.fixes(),
+        }
+    }
+
+    /// Whether it is by a write to a channel.
+    fn fixes_by_write(&self, lines: u32, ch: u8, value: u32) -> bool
+        requires number { CanIssue self.now.commands }
+        requires lines { lines ≤ 524288 }
+        ensures { (P Q : Spe) (registers : List (List ℕ)) (store : List ℕ) → ShowsSpe self.now P → channel lines (record P { registers = registers; store = store }) (ChannelOp.Write ch value) ≡ Some Q → result ≡ fixes Q }
+    {
+        match ch {
+            MFC_CMD => self.fixes_by_command(lines, value),
+            MFC_WR_TAG_UPDATE => self.fixes_by_request(value),
+            MFC_WR_LIST_STALL_ACK => self.fixes_by_acknowledgement(value),
+            _ => self.fixes(),
+        }
+    }
+
+    /// Whether it is by a write to MFC_Cmd; where that isn't allowed the answer says nothing.
+    fn fixes_by_command(&self, lines: u32, op: u32) -> bool
+        requires number { CanIssue self.now.commands }
+        requires lines { lines ≤ 524288 }
+        ensures { (P Q : Spe) (registers : List (List ℕ)) (store : List ℕ) → ShowsSpe self.now P → channel lines (record P { registers = registers; store = store }) (ChannelOp.Write 21 op) ≡ Some Q → result ≡ fixes Q }
+    {
+        if !self.may_command(op) {
+            return false;
+        }
+        match check(self.channels.params(), op, lines) {
+            Ok(Order::Queued(command)) => self.fixes_by_issue(lines, command),
+            Ok(Order::Atomic(_)) => self.fixes(),
+            Err(_) => self.fixes(),
+        }
     }
 }

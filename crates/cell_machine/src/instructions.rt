@@ -1,4 +1,4 @@
-//! What the next instruction of a processor would do.
+//! What the next instruction of a processor would do, and what it tells.
 
 ghost use Rattle.std.specs.Prelude.{◌≡◌, ◌≢◌, ℕ, ◌≤◌, List, Option, Some, true};
 ghost use Rattle.std.specs.Option.{option_map, option_map_or};
@@ -7,11 +7,11 @@ ghost use Rattle.cell_machine.specs.Spe.{Spe, is_running};
 ghost use Rattle.cell_machine.specs.Exec.{exec, followed, op_of};
 ghost use Rattle.cell_machine.specs.Channels.{channel};
 ghost use Rattle.cell_machine.specs.declared.effect.Note.TheVariants.{Nothing, TagRead};
-ghost use Rattle.cell_machine.specs.Effects.{quad_in, told, fixes, exec_effect};
+ghost use Rattle.cell_machine.specs.Effects.{quad_in, told, exec_effect};
 
 use crate::channels::is_param;
-use crate::effect::{Effect, Note, Span};
-use crate::effects::{INBOUND, INTERRUPT, OUTBOUND, in_store, nowhere};
+use crate::effect::{Effect, INBOUND, INTERRUPT, Note, OUTBOUND, Span};
+use crate::effects::{in_store, nowhere};
 use crate::processor::Processor;
 use cell_base::ChannelOp;
 use cell_channels::{
@@ -70,8 +70,6 @@ impl Processor {
             fixed: self.fixes_by(lines, flow),
         })
     }
-
-    // ---- what is told
 
     /// What an instruction that leads there tells, where it is allowed.
     fn tells(&self, lines: u32, spe: u8, flow: Flow) -> Note
@@ -165,62 +163,6 @@ impl Processor {
             },
             Ok(Order::Atomic(_)) => Note::AtomicIssue,
             Err(_) => Note::Ended,
-        }
-    }
-
-    // ---- whether a tag status is fixed
-
-    /// Whether an instruction that leads there fixes a tag status at its end, where it is allowed.
-    fn fixes_by(&self, lines: u32, flow: Flow) -> bool
-        requires number { CanIssue self.now.commands }
-        requires lines { lines ≤ 524288 }
-        ensures { (P Q : Spe) (registers : List (List ℕ)) (store : List ℕ) → ShowsSpe self.now P → followed lines (record P { registers = registers; store = store }) flow ≡ Some Q → result ≡ fixes Q }
-    {
-        match flow {
-            Flow::Channel(op) => self.fixes_by_operation(lines, op),
-            _ => self.fixes(),
-        }
-    }
-
-    /// Whether a channel operation does, where it is allowed.
-    fn fixes_by_operation(&self, lines: u32, op: ChannelOp) -> bool
-        requires number { CanIssue self.now.commands }
-        requires lines { lines ≤ 524288 }
-        ensures { (P Q : Spe) (registers : List (List ℕ)) (store : List ℕ) → ShowsSpe self.now P → channel lines (record P { registers = registers; store = store }) op ≡ Some Q → result ≡ fixes Q }
-    {
-        match op {
-            ChannelOp::Write { ch, value } => self.fixes_by_write(lines, ch, value),
-            _ => self.fixes(),
-        }
-    }
-
-    /// Whether a write to a channel does, where it is allowed.
-    fn fixes_by_write(&self, lines: u32, ch: u8, value: u32) -> bool
-        requires number { CanIssue self.now.commands }
-        requires lines { lines ≤ 524288 }
-        ensures { (P Q : Spe) (registers : List (List ℕ)) (store : List ℕ) → ShowsSpe self.now P → channel lines (record P { registers = registers; store = store }) (ChannelOp.Write ch value) ≡ Some Q → result ≡ fixes Q }
-    {
-        match ch {
-            MFC_CMD => self.fixes_by_command(lines, value),
-            MFC_WR_TAG_UPDATE => self.fixes_by_request(value),
-            MFC_WR_LIST_STALL_ACK => self.fixes_by_acknowledgement(value),
-            _ => self.fixes(),
-        }
-    }
-
-    /// Whether a write to MFC_Cmd does, where it is allowed.
-    fn fixes_by_command(&self, lines: u32, op: u32) -> bool
-        requires number { CanIssue self.now.commands }
-        requires lines { lines ≤ 524288 }
-        ensures { (P Q : Spe) (registers : List (List ℕ)) (store : List ℕ) → ShowsSpe self.now P → channel lines (record P { registers = registers; store = store }) (ChannelOp.Write 21 op) ≡ Some Q → result ≡ fixes Q }
-    {
-        if !self.may_command(op) {
-            return false;
-        }
-        match check(self.channels.params(), op, lines) {
-            Ok(Order::Queued(command)) => self.fixes_by_issue(lines, command),
-            Ok(Order::Atomic(_)) => self.fixes(),
-            Err(_) => self.fixes(),
         }
     }
 }

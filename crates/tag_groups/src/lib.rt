@@ -170,7 +170,11 @@ mod tests {
             tags.request(how);
             tags.set_mask(0xffff_ffff);
             assert_eq!(rt; tags.pending(), true);
-            assert_eq!(rt; tags.would_settle(busy), want.is_some(), "at {mask} {how} {busy}");
+            assert_eq!(rt;
+                tags.would_settle(busy),
+                want.is_some(),
+                "at {mask} {how} {busy}"
+            );
             tags.settle(busy, 9);
             assert_eq!(rt; tags.ready(), want.is_some(), "at {mask} {how} {busy}");
             let groups = tags.read().ok().map(|status| status.groups);
