@@ -10,10 +10,9 @@ ghost use Rattle.order_sets.specs.Holds.{in_run, in_part};
 ghost use Rattle.order_sets.specs.Stands.{has_at, holds_at, StandsFor, Fits, AreAlike};
 
 use crate::facts::{At, Fact};
-use crate::ones;
 use crate::parts::{self, Part};
 use crate::run::Run;
-use crate::runs;
+use crate::{ones, runs};
 use std::alloc::{AllocError, AllocFailed, Global};
 use thiserror::Error;
 
