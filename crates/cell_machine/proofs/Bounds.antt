@@ -215,7 +215,7 @@ instr_does lines P (Some i) =
     if_on (followed lines (record P { registers = o.regs; store = o.store }) o.flow) (Does_to lines (op_of o.flow) (record P { registers = o.regs; store = o.store })) (Does_to lines (op_of o.flow) P)
     (λ Q d. record { does = d.does; slot = d.slot; reserved = d.reserved }) (followed_does lines (record P { registers = o.regs; store = o.store }) o.flow)
 
-running-not : (s : Status) → is_running s ≡ true → is_faulted s ≡ true → ⊥
+pub running-not : (s : Status) → is_running s ≡ true → is_faulted s ≡ true → ⊥
 running-not Running h k = true≢false (sym k)
 running-not (Stopped code) h k = true≢false (sym k)
 running-not Halted h k = true≢false (sym k)
@@ -605,7 +605,7 @@ pub data Seen (lines : ℕ) (s : Step) (p : ℕ) (P Q : Spe) : Type 0 where
   another : is_at p s ≡ false → Q.moves ≡ P.moves → Q.status ≡ P.status → Q.reserved ≡ P.reserved → Seen lines s p P Q
   goes : Goes lines s p P Q → Seen lines s p P Q
 
-set_got : {X : Type 0} (xs : List X) (p q : ℕ) (y x : X) (G : Type 0) → slice_get xs q ≡ Some x → (p ≡ q → slice_get (slice_set xs p y) q ≡ Some y → G) → ((p == q) ≡ false → slice_get (slice_set xs p y) q ≡ Some x → G) → G
+pub set_got : {X : Type 0} (xs : List X) (p q : ℕ) (y x : X) (G : Type 0) → slice_get xs q ≡ Some x → (p ≡ q → slice_get (slice_set xs p y) q ≡ Some y → G) → ((p == q) ≡ false → slice_get (slice_set xs p y) q ≡ Some x → G) → G
 set_got [] p q y x G h new old = absurd (cc)
 set_got (z ∷ xs) zero zero y x G h new old = new refl refl
 set_got (z ∷ xs) zero (suc q) y x G h new old = old (grind (arith, nat_tests)) h

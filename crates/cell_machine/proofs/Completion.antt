@@ -69,7 +69,7 @@ before-issued issued c d h = on (slice_get issued c) refl (second_of_both (nat_l
     on None e g = absurd (true≢false (sym g))
     on (Some x) e g = get-within issued c x e
 
-begun : (P : Spe) (c d : ℕ) → may_begin P.moves d ≡ true → goes_before P.moves.issued c d ≡ true → is_complete P.moves c ≡ true
+pub begun : (P : Spe) (c d : ℕ) → may_begin P.moves d ≡ true → goes_before P.moves.issued c d ≡ true → is_complete P.moves c ≡ true
 begun P c d may before = may-start-complete (is_complete P.moves) P.moves.issued c d may (before-issued P.moves.issued c d before) before
 
 piece-begun : (P : Spe) (d e k : ℕ) → may_piece P d e k ≡ true → may_begin P.moves d ≡ true

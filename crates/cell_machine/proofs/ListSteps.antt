@@ -172,7 +172,7 @@ of-tag m tag c e h =
 
 -- ---- each step keeps the order
 
-order-issued : (m : Moves) (new : Command) → AreInOrder m → AreInOrder (with_issued m new)
+pub order-issued : (m : Moves) (new : Command) → AreInOrder m → AreInOrder (with_issued m new)
 order-issued m new order = record {
   elements = λ c d at. get-cases m.issued new d c (AreElements (with_issued m new) c d) at
       (λ last same. subst (λ k. AreElements (with_issued m new) k d) (sym last) (subst (AreElements (with_issued m new) (length m.issued)) (sym same) (elements-issued m new (order.fresh (length m.issued) (omega arith)))))
@@ -197,7 +197,7 @@ order-issued m new order = record {
         let z : y.number ≡ 0 = ap (λ (w : Element). w.number) (sym same) in
         absurd (omega (arith, z, b))
 
-order-resumed : (m : Moves) (tag : ℕ) → AreInOrder m → AreInOrder (with_resumed m (stalls_of_tag m tag))
+pub order-resumed : (m : Moves) (tag : ℕ) → AreInOrder m → AreInOrder (with_resumed m (stalls_of_tag m tag))
 order-resumed m tag order = record {
   elements = λ c d at. elements-acknowledged m c d (stalls_of_tag m tag) (own c d at) (order.elements c d at);
   resumed = λ c d at n x y e p b f. any_more (is_stall_of c x.number) m.resumed (stalls_of_tag m tag) (order.resumed c d at n x y e p b f);
@@ -212,16 +212,16 @@ order-resumed m tag order = record {
     within : (c : ℕ) {e : ℕ} → length m.issued ≤ c → IsOfTag m tag c e → ⊥
     within c past t = let low = get-within m.issued c t.command t.at in omega (arith, low, past)
 
-order-done : (m : Moves) (c e k : ℕ) (d : Command) → slice_get m.issued c ≡ Some d → has_part m c e k d ≡ true → AreInOrder m → AreInOrder (with_done m c e k)
+pub order-done : (m : Moves) (c e k : ℕ) (d : Command) → slice_get m.issued c ≡ Some d → has_part m c e k d ≡ true → AreInOrder m → AreInOrder (with_done m c e k)
 order-done m c e k d at has order = touched m (with_done m c e k) c d refl at (done-elsewhere m c e k) (elements-done m c e k d has (order.elements c d at)) (order.resumed c d at) order
 
-order-retired : (m : Moves) (c : ℕ) (d : Command) → slice_get m.issued c ≡ Some d → AreInOrder m → AreInOrder (with_retired m c)
+pub order-retired : (m : Moves) (c : ℕ) (d : Command) → slice_get m.issued c ≡ Some d → AreInOrder m → AreInOrder (with_retired m c)
 order-retired m c d at order =
     let els = order.elements c d at in
     touched m (with_retired m c) c d refl at (retired-elsewhere m c)
     (record { few = els.few; numbers = els.numbers; earlier = els.earlier; later = els.later; not_resumed = els.not_resumed; resumed = els.resumed }) (order.resumed c d at) order
 
-order-read : (m : Moves) (c : ℕ) (d : Command) (x : Element) → slice_get m.issued c ≡ Some d → has_element m c d ≡ true → x.number ≡ length (read_of m.read c) → AreInOrder m → AreInOrder (with_read m c x)
+pub order-read : (m : Moves) (c : ℕ) (d : Command) (x : Element) → slice_get m.issued c ≡ Some d → has_element m c d ≡ true → x.number ≡ length (read_of m.read c) → AreInOrder m → AreInOrder (with_read m c x)
 order-read m c d x at has number order =
     let may = element-is m c d has in
     touched m (with_read m c x) c d refl at (read-elsewhere m c x) (elements-read m c d x has number (order.elements c d at)) (own may.list) order

@@ -113,7 +113,7 @@ own_next M N s p None h = none_is _ N h
 own_next M N s p (Some x) h = (x, refl, some_same _ N h)
 
 -- what an allowed step of processor p left
-next-own : (M N : State) (s : Step) (p : ℕ) (P : Spe) → maker s ≡ Some p → slice_get M.spes p ≡ Some P → next M s ≡ Some N → (x : Left) × (own M.memory s P ≡ Some x) × (ended_by M s (with_left M p x) ≡ N)
+pub next-own : (M N : State) (s : Step) (p : ℕ) (P : Spe) → maker s ≡ Some p → slice_get M.spes p ≡ Some P → next M s ≡ Some N → (x : Left) × (own M.memory s P ≡ Some x) × (ended_by M s (with_left M p x) ≡ N)
 next-own M N s p P by at is = own_next M N s p (own M.memory s P) (sym (ap (option_map (ended_by M s)) (act-own M s p P by at)) ∙ is)
 
 pub new-own : (M : State) (s : Step) (p : ℕ) (P : Spe) (e : Effect) → maker s ≡ Some p → slice_get M.spes p ≡ Some P → IsOwn p e.reads.place → new_bytes M s e ≡ own_new M.memory s P e

@@ -28,7 +28,7 @@ all_more f g (x ∷ xs) k h = on (f x) (g x) h (k x) (all_more f g xs k)
     on true false e p q = absurd (true≢false (sym (p refl)))
     on false b e p q = absurd (true≢false (sym e))
 
-all_last : (f : Element → Bool) (o : Option Element) (xs : List Element) (y : Element) → option_map_or f o true ≡ true → list_all f xs ≡ true → last_or o xs ≡ Some y → f y ≡ true
+pub all_last : (f : Element → Bool) (o : Option Element) (xs : List Element) (y : Element) → option_map_or f o true ≡ true → list_all f xs ≡ true → last_or o xs ≡ Some y → f y ≡ true
 all_last f None [] y g h e = absurd (cc)
 all_last f (Some x) [] y g h e = ap (λ z. option_map_or f z true) (sym e) ∙ g
 all_last f o (x ∷ xs) y g h e = on (f x) refl h (λ p q. all_last f (Some x) xs y p q e)

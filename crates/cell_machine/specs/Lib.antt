@@ -24,3 +24,4 @@ pub mod Written
 pub mod EffectLaws
 pub mod Sound
 pub mod ByteRuns
+pub mod Traces
