@@ -6,13 +6,12 @@ use Rattle.cell_base.specs.declared.steps.Step.TheVariants.{Exec, Elem, Atomic, 
 use Rattle.cell_machine.specs.declared.effect.Place.{Place}
 use Rattle.cell_machine.specs.declared.effect.Place.TheVariants.{Memory, Local}
 use Rattle.cell_machine.specs.declared.effect.Span.{Span}
-use Rattle.mfc_command.specs.declared.command.Command.{Command}
 use Rattle.cell_machine.specs.declared.effect.Note.{Note}
-use Rattle.cell_machine.specs.declared.effect.Note.TheVariants.{Issue, AtomicIssue, Put, Take, Ended}
+use Rattle.cell_machine.specs.declared.effect.Note.TheVariants.{AtomicIssue, Put, Take, Ended}
 use Rattle.race_order.specs.Trace.{Event, Trace, IsLine, is_put, is_take}
 use Rattle.race_order.specs.declared.roles.Role.{Role}
-use Rattle.race_order.specs.declared.roles.Role.TheVariants.{OfExec, OfHost, OfSlot, OfAtomic, OfLine, OfBox, OfEnd, OfCommand}
-use Rattle.race_order.specs.Roles.{Joins, write_roles, step_writes, note_writes, line_roles, line_of, line_in, slot_of, issued_by, end_of, put_role, take_role}
+use Rattle.race_order.specs.declared.roles.Role.TheVariants.{OfExec, OfHost, OfSlot, OfAtomic, OfLine, OfBox, OfEnd}
+use Rattle.race_order.specs.Roles.{Joins, write_roles, step_writes, note_writes, line_roles, line_of, line_in, slot_of, end_of, put_role, take_role}
 use Rattle.race_order.proofs.Among.{Among, Every, among_left, among_right, every_both}
 
 module _ (before : Trace) (e : Event) where
@@ -28,10 +27,6 @@ module _ (before : Trace) (e : Event) where
   by_step Host q = (q, tt)
   by_step _ q = tt
 
-  by_issue : (c : ℕ) (command : Command) (s : Step) → e.step ≡ s → e.effect.note ≡ Issue c command → Every In (issued_by c s)
-  by_issue c command (Exec p) q t = ((q, (command, t)), tt)
-  by_issue c command _ q t = tt
-
   by_slot : (s : Step) → e.step ≡ s → e.effect.note ≡ AtomicIssue → Every In (slot_of s)
   by_slot (Exec p) q t = ((q, t), tt)
   by_slot _ q t = tt
@@ -42,7 +37,6 @@ module _ (before : Trace) (e : Event) where
   by_end _ q t = tt
 
   by_note : (s : Step) (t : Note) → e.step ≡ s → e.effect.note ≡ t → Every In (note_writes before s t)
-  by_note s (Issue c command) q t = by_issue c command s q t
   by_note s AtomicIssue q t = by_slot s q t
   by_note s Ended q t = by_end s q t
   by_note s (Put x m) q t = (inl (ap (is_put x m) t ∙ of_itself x m, refl), tt)
@@ -118,4 +112,3 @@ module _ (before : Trace) (e : Event) where
       at : (e.step ≡ Exec p) ⊎ ((c : ℕ) × (e.step ≡ Elem p c)) → Among (λ w. w ≡ OfEnd p) (write_roles before e)
       at (inl x) = in_notes (OfEnd p) (Exec p) Ended x h.0 (inl refl)
       at (inr x) = in_notes (OfEnd p) (Elem p x.0) Ended x.1 h.0 (inl refl)
-  joins_full (OfCommand p c) h = in_notes (OfCommand p c) (Exec p) (Issue c h.1.0) h.0 h.1.1 (inl refl)

@@ -1,5 +1,5 @@
 -- After a step the set of what a command's steps wait for is again the past of its sources.
-use Rattle.std.proofs.Common.{◌≡◌, ℕ, zero, suc, ◌+◌, ◌*◌, ◌<◌, ◌≤◌, ◌==◌, Bool, true, false, ◌&&◌, [], ◌∷◌, ◌++◌, length, take, Option, Some, None, ◌⊎◌, inl, inr, refl, sym, ap, ap₂, ◌∙◌, subst, subst₂, arith}
+use Rattle.std.proofs.Common.{◌≡◌, ℕ, zero, suc, ◌+◌, ◌*◌, ◌<◌, ◌≤◌, ◌==◌, Bool, true, false, [], ◌∷◌, ◌++◌, length, take, Option, Some, None, ◌⊎◌, inl, inr, refl, sym, ap, ap₂, ◌∙◌, subst, subst₂, arith}
 use Rattle.std.specs.Prelude.{slice_get, if◌then◌else◌}
 use Rattle.std.proofs.lemmas.Bool.{cases_lt, eqb-true, eq-eqb, and_from, and_parts}
 use Rattle.std.proofs.lemmas.List.{take_all}
@@ -18,7 +18,6 @@ use Rattle.race_order.specs.Status.{status, next_status, first_status, issued_as
 use Rattle.race_order.specs.Queue.{Has, Before, Resumes}
 use Rattle.race_order.specs.Rules.{Rule, Edge, Ordered, One, Then}
 use Rattle.race_order.specs.declared.roles.Role.{Role}
-use Rattle.race_order.specs.declared.roles.Role.TheVariants.{OfCommand}
 use Rattle.race_order.specs.Stamps.{stamp, IsStamp, chain_of, cmd_of, elem_of}
 use Rattle.race_order.specs.Roles.{Source, read_roles}
 use Rattle.race_order.specs.Orderly.{IsOrderly, IsWithin}
@@ -26,11 +25,10 @@ use Rattle.race_order.specs.Pasts.{Past, Holds}
 use Rattle.race_order.proofs.Places.{get_last, get_later, longer, take_front, take_before, place_of, same_get}
 use Rattle.race_order.proofs.Among.{Among, Every, Found, among_every}
 use Rattle.race_order.proofs.Holding.{holds_later, past_of}
-use Rattle.race_order.proofs.LookedAt.{notes_there}
 use Rattle.race_order.proofs.Advance.{point}
 use Rattle.race_order.proofs.Histories.{status_next, same_progress, Later, later_next, issued_there, Came, Newly, Kept, Moved, came}
 use Rattle.race_order.proofs.Elements.{may_at}
-use Rattle.race_order.proofs.Queues.{of_here, resumes_here, resumes_there, no_step_after, no_resume_after, front_low, queue_full}
+use Rattle.race_order.proofs.Queues.{of_here, resumes_here, resumes_there, no_step_after, no_resume_after, queue_full}
 use Rattle.race_order.proofs.PastLaws.{past_grows, chain_queue}
 use Rattle.race_order.proofs.Answering.{by_plain, made, IsKnown, answers, new_step}
 use Rattle.race_order.proofs.Wholes.{complete_waits, part_waits, waits_more}
@@ -81,29 +79,26 @@ of_one p d q c (Piece x y z k) e f = let a = and_parts (x == p) (y == d) e in le
 of_one p d q c (Elem x y) e f = let a = and_parts (x == p) (y == d) e in let b = and_parts (x == q) (y == c) f in (sym (eqb-true x q b.0) ∙ eqb-true x p a.0, sym (eqb-true y c b.1) ∙ eqb-true y d a.1)
 of_one p d q c (Retire x y) e f = let a = and_parts (x == p) (y == d) e in let b = and_parts (x == q) (y == c) f in (sym (eqb-true x q b.0) ∙ eqb-true x p a.0, sym (eqb-true y c b.1) ∙ eqb-true y d a.1)
 
--- a step of a queued command looks at one plain set
-quiet_reads : (before : Trace) (p d : ℕ) (e : Event) → is_of p d e.step ≡ true → IsQuiet e.effect.note → Every (λ r. r ≡ OfCommand p d) (read_roles before e)
-quiet_reads before p d e of quiet = subst (λ (v : Event). Every (λ r. r ≡ OfCommand p d) (read_roles before v)) refl (by e.step e.effect.note refl refl)
+-- a step of a queued command looks at no plain set
+quiet_reads : (before : Trace) (p d : ℕ) (e : Event) → is_of p d e.step ≡ true → IsQuiet e.effect.note → Every (λ (r : Role). ⊥) (read_roles before e)
+quiet_reads before p d e of quiet = by e.step e.effect.note refl refl
   where
-    one : (q c : ℕ) → ((q == p) && (c == d)) ≡ true → OfCommand q c ≡ OfCommand p d
-    one q c h = let a = and_parts (q == p) (c == d) h in ap₂ OfCommand (eqb-true q p a.0) (eqb-true c d a.1)
-
-    by : (s : Step) (t : Note) → e.step ≡ s → e.effect.note ≡ t → Every (λ r. r ≡ OfCommand p d) (read_roles before e)
-    by s t q u = subst (λ v. Every (λ r. r ≡ OfCommand p d) (read_roles before v)) (let f : record { step = s; effect = record e.effect { note = t } } ≡ e = ap₂ (λ x y. record { step = x; effect = record e.effect { note = y } }) (sym q) (sym u) in f) (at s t (subst (λ x. is_of p d x ≡ true) q of) (subst IsQuiet u quiet))
+    by : (s : Step) (t : Note) → e.step ≡ s → e.effect.note ≡ t → Every (λ (r : Role). ⊥) (read_roles before e)
+    by s t q u = subst (λ v. Every (λ (r : Role). ⊥) (read_roles before v)) (let f : record { step = s; effect = record e.effect { note = t } } ≡ e = ap₂ (λ x y. record { step = x; effect = record e.effect { note = y } }) (sym q) (sym u) in f) (at s t (subst (λ x. is_of p d x ≡ true) q of) (subst IsQuiet u quiet))
       where
-        at : (s : Step) (t : Note) → is_of p d s ≡ true → IsQuiet t → Every (λ r. r ≡ OfCommand p d) (read_roles before record { step = s; effect = record e.effect { note = t } })
+        at : (s : Step) (t : Note) → is_of p d s ≡ true → IsQuiet t → Every (λ (r : Role). ⊥) (read_roles before record { step = s; effect = record e.effect { note = t } })
         at (Exec x) t o z = cc
         at (Atomic x) t o z = cc
         at Host t o z = cc
         at (Piece x y w k) (Put a b) o z = absurd z
         at (Piece x y w k) (Take a b) o z = absurd z
-        at (Piece x y w k) _ o z = (one x y o, tt)
+        at (Piece x y w k) _ o z = tt
         at (Elem x y) (Put a b) o z = absurd z
         at (Elem x y) (Take a b) o z = absurd z
-        at (Elem x y) _ o z = (one x y o, tt)
+        at (Elem x y) _ o z = tt
         at (Retire x y) (Put a b) o z = absurd z
         at (Retire x y) (Take a b) o z = absurd z
-        at (Retire x y) _ o z = (one x y o, tt)
+        at (Retire x y) _ o z = tt
 
 -- an issue changes the progress of no other command
 pub stepped_issue : (p c q d : ℕ) (command : Command) (s : Progress) → stepped p c s (Exec q) (Issue d command) ≡ s
@@ -299,10 +294,8 @@ module _ (n : ℕ) (trace : Trace) (e : Event) (orderly : IsOrderly n (trace ++ 
 
         begin : (r : Role) → Among (λ w. w ≡ r) (read_roles (take k T) h.event) → Source (take k T) r x → WaitSource T p d x
         begin r looks s =
-            let f : Found (λ w. w ≡ r) (λ w. w ≡ OfCommand p d) = among_every (λ w. w ≡ r) (λ w. w ≡ OfCommand p d) (read_roles (take k T) h.event) looks (quiet_reads (take k T) p d h.event h.is m.quiet) in
-            let s' : Source (take k T) (OfCommand p d) x = subst (λ w. Source (take k T) w x) (sym f.first ∙ f.second) s in
-            let low : x < k = front_low T k x s'.event s'.at in
-            Begun s'.joins.1.0 (notes_there T x k (Exec p) (Issue d s'.joins.1.0) low record { event = s'.event; at = s'.at; is = s'.joins.0; notes = s'.joins.1.1 })
+            let f : Found (λ w. w ≡ r) (λ (w : Role). ⊥) = among_every (λ w. w ≡ r) (λ (w : Role). ⊥) (read_roles (take k T) h.event) looks (quiet_reads (take k T) p d h.event h.is m.quiet) in
+            absurd f.second
 
         by_role : (r : QueueRole) → LooksAt (take k T) h.event r → QueueSource (take k T) r x → WaitSource T p d x
         by_role (Base r) looks s = begin r looks s

@@ -112,11 +112,16 @@ module _ (trace : Trace) (e : Event) (may : QueueMay trace e) (lives : List Live
       let h = shows.sound i l at in
       record { is = status_next l.spe l.cmd trace e ∙ (ap (λ o. next_status l.spe l.cmd o e) h.0.is ∙ ap (λ (b : Bool). Some (if b then l.progress else stepped l.spe l.cmd l.progress e.step e.effect.note)) h.1) }
 
+  -- each command after the step has come so far
+  pub after_has : (l : Live) (i : ℕ) → slice_get (map (λ x. moved x e.step e.effect.note) lives) i ≡ Some l → Has T l.spe l.cmd l.progress
+  after_has l i at =
+      let m : Image (λ x. moved x e.step e.effect.note) lives l = member_of_map (λ x. moved x e.step e.effect.note) lives l i at in
+      subst (λ (x : Live). Has T x.spe x.cmd x.progress) (sym m.is) (next_of m.one m.place m.at)
+
   sound_kept : (i : ℕ) (l : Live) → slice_get kept_lives i ≡ Some l → Has T l.spe l.cmd l.progress × (l.progress.done ≡ false)
   sound_kept i l at =
       let k : Kept_ (λ x. not x.progress.done) (map (λ x. moved x e.step e.effect.note) lives) l = filter_member (λ x. not x.progress.done) (map (λ x. moved x e.step e.effect.note) lives) l i at in
-      let m : Image (λ x. moved x e.step e.effect.note) lives l = member_of_map (λ x. moved x e.step e.effect.note) lives l k.place k.at in
-      (subst (λ (x : Live). Has T x.spe x.cmd x.progress) (sym m.is) (next_of m.one m.place m.at), not_false l.progress.done k.passes)
+      (after_has l k.place k.at, not_false l.progress.done k.passes)
 
   full_kept : (p c : ℕ) (s t : Progress) → Has trace p c s → s.done ≡ false → Has T p c t → t.done ≡ false → Member kept_lives record { spe = p; cmd = c; progress = t }
   full_kept p c s t h d g f =

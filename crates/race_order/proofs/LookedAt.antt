@@ -10,11 +10,12 @@ use Rattle.cell_machine.specs.declared.effect.Place.{Place}
 use Rattle.cell_machine.specs.declared.effect.Place.TheVariants.{Memory, Local}
 use Rattle.cell_machine.specs.declared.effect.Span.{Span}
 use Rattle.cell_machine.specs.declared.effect.Note.{Note}
-use Rattle.cell_machine.specs.declared.effect.Note.TheVariants.{AtomicIssue, AtomicRead, Put, Take, Ended, Awaited}
-use Rattle.race_order.specs.Trace.{Event, Trace, IsStep, Notes, OnLine, IsLine, is_put, is_take, is_of, puts, takes, mailbox_size}
+use Rattle.cell_machine.specs.declared.effect.Note.TheVariants.{Issue, AtomicIssue, AtomicRead, Put, Take, Ended, Awaited}
+use Rattle.mfc_command.specs.declared.command.Command.{Command}
+use Rattle.race_order.specs.Trace.{Event, Trace, IsStep, Notes, IssuesAt, IsStepOf, OnLine, IsLine, is_put, is_take, puts, takes, mailbox_size}
 use Rattle.race_order.specs.Rules.{Plain, Program, Script, Issued, AtomicIssued, NextAtomic, AtomicSeen, Line, Passed, PlaceFree, Finished, Edge, Ordered, One, Then}
 use Rattle.race_order.specs.declared.roles.Role.{Role}
-use Rattle.race_order.specs.declared.roles.Role.TheVariants.{OfLine, OfBox, OfEnd, OfCommand}
+use Rattle.race_order.specs.declared.roles.Role.TheVariants.{OfLine, OfBox, OfEnd}
 use Rattle.race_order.specs.Roles.{Source, Joins, read_roles, step_reads, note_reads, line_roles, line_of, line_in, atomics_of, end_seen, put_role, take_role}
 use Rattle.race_order.specs.Orderly.{IsOrderly, IsTaken}
 use Rattle.race_order.proofs.Places.{get_take, same_get}
@@ -39,6 +40,13 @@ same_step trace i s t h g = let e : h.event ≡ g.event = same_get (slice_get tr
 
 pub notes_step : (trace : Trace) (i : ℕ) (s : Step) (t : Note) → Notes trace i s t → IsStep trace i s
 notes_step trace i s t h = record { event = h.event; at = h.at; is = h.is }
+
+-- at place i a command is issued of which a step stands at place j
+pub record IsIssued (trace : Trace) (i j : ℕ) : Type 0 where
+  pub spe : ℕ
+  pub command : ℕ
+  pub issue : (asked : Command) × IssuesAt trace i spe command asked
+  pub step : IsStepOf trace j spe command
 
 module _ (Rule : Trace → ℕ → ℕ → Type 0) (plain : (t : Trace) (i j : ℕ) → Plain t i j → Rule t i j) where
   program : (trace : Trace) (p i j : ℕ) → i < j → IsStep trace i (Exec p) → IsStep trace j (Exec p) → Edge Rule trace i j
@@ -129,15 +137,11 @@ module _ (Rule : Trace → ℕ → ℕ → Type 0) (plain : (t : Trace) (i j : �
       of_itself : (p c : ℕ) → ((p == p) && (c == c)) ≡ true
       of_itself p c = and_from _ _ (eq-eqb p p refl) (eq-eqb c c refl)
 
-      issued : (p c : ℕ) → is_of p c e.step ≡ true → Earlier (OfCommand p c)
-      issued p c of i low h =
-          One (edge_by i low (Issued p c h.joins.1.0 record { event = h.event; at = get_take trace (j + 1) i (omega arith) ∙ h.at; is = h.joins.0; notes = h.joins.1.1 } record { event = e; at = now; is = of }))
-
       by_step : (s : Step) → e.step ≡ s → Every Earlier (step_reads s)
       by_step (Exec p) q = (λ i low h. One (program trace p i j low record { event = h.event; at = h.at; is = h.joins } record { event = e; at = here; is = q }), tt)
-      by_step (Piece p c x k) q = (issued p c (ap (is_of p c) q ∙ of_itself p c), tt)
-      by_step (Elem p c) q = (issued p c (ap (is_of p c) q ∙ of_itself p c), tt)
-      by_step (Retire p c) q = (issued p c (ap (is_of p c) q ∙ of_itself p c), tt)
+      by_step (Piece p c x k) q = tt
+      by_step (Elem p c) q = tt
+      by_step (Retire p c) q = tt
       by_step (Atomic p) q = (λ i low h. slot_chain p i j low record { event = h.event; at = h.at; is = h.joins.0; notes = h.joins.1 } record { event = e; at = here; is = q }, tt)
       by_step Host q =
           (λ i low h. One (edge_by i low (Script record { event = h.event; at = get_take trace (j + 1) i (omega arith) ∙ h.at; is = h.joins } record { event = e; at = now; is = q })), tt)
@@ -227,14 +231,6 @@ module _ (Rule : Trace → ℕ → ℕ → Type 0) (plain : (t : Trace) (i j : �
         takes_here : take j (take (j + 1) trace) ≡ take j trace
         takes_here = take-take j (j + 1) trace (omega arith)
 
-        of_step : (p c : ℕ) (s : Step) → is_of p c s ≡ true → Has (OfCommand p c) → Among Has (step_reads s)
-        of_step p c (Exec q) of h = cc
-        of_step p c (Piece q d x k) of h = let a = and_parts _ _ of in inl (subst₂ (λ y z. Has (OfCommand y z)) (sym (eqb-true q p a.0)) (sym (eqb-true d c a.1)) h)
-        of_step p c (Elem q d) of h = let a = and_parts _ _ of in inl (subst₂ (λ y z. Has (OfCommand y z)) (sym (eqb-true q p a.0)) (sym (eqb-true d c a.1)) h)
-        of_step p c (Retire q d) of h = let a = and_parts _ _ of in inl (subst₂ (λ y z. Has (OfCommand y z)) (sym (eqb-true q p a.0)) (sym (eqb-true d c a.1)) h)
-        of_step p c (Atomic q) of h = cc
-        of_step p c Host of h = cc
-
         put_note : (q m : ℕ) (s : Step) (t : Note) → is_put q m t ≡ true → Has (put_role q m (take j trace)) → Among Has (note_reads (take j trace) s t)
         put_note q m s (Put x y) of h = let a = and_parts _ _ of in inl (subst₂ (λ v w. Has (put_role v w (take j trace))) (sym (eqb-true x q a.0)) (sym (eqb-true y m a.1)) h)
         put_note q m s _ of h = cc
@@ -252,21 +248,22 @@ module _ (Rule : Trace → ℕ → ℕ → Type 0) (plain : (t : Trace) (i j : �
             at (Local p) b y u v w = cc
 
         -- what comes directly before is in one of the sets
-        pub looks_full : Plain (take (j + 1) trace) i j → Among Has (read_roles (take j trace) e)
-        looks_full (Program p a b) = in_steps (Exec p) (ap (λ f. f.step) (same b.event b.at) ∙ b.is) (inl record { event = a.event; at = before_step a.event a.at; joins = a.is })
-        looks_full (Script a b) = in_steps Host (ap (λ f. f.step) (same b.event b.at) ∙ b.is) (inl record { event = a.event; at = before_step a.event a.at; joins = a.is })
-        looks_full (Issued p c command a b) =
-            in_steps e.step refl
-            (of_step p c e.step (ap (λ f. is_of p c f.step) (same b.event b.at) ∙ b.is) record { event = a.event; at = before_step a.event a.at; joins = (a.is, (command, a.notes)) })
+        pub looks_full : Plain (take (j + 1) trace) i j → Among Has (read_roles (take j trace) e) ⊎ IsIssued trace i j
+        looks_full (Program p a b) = inl (in_steps (Exec p) (ap (λ f. f.step) (same b.event b.at) ∙ b.is) (inl record { event = a.event; at = before_step a.event a.at; joins = a.is }))
+        looks_full (Script a b) = inl (in_steps Host (ap (λ f. f.step) (same b.event b.at) ∙ b.is) (inl record { event = a.event; at = before_step a.event a.at; joins = a.is }))
+        looks_full (Issued p c command a b) = inr record { spe = p; command = c; issue = (command, notes_there trace i (j + 1) (Exec p) (Issue c command) (omega arith) a); step = record { event = b.event; at = sym (get_take trace (j + 1) j (omega arith)) ∙ b.at; is = b.is } }
         looks_full (AtomicIssued p a b none) =
-            in_steps (Atomic p) (ap (λ f. f.step) (same b.event b.at) ∙ b.is) (inl record { event = a.event; at = before_step a.event a.at; joins = (a.is, a.notes) })
+            inl
+            (in_steps (Atomic p) (ap (λ f. f.step) (same b.event b.at) ∙ b.is) (inl record { event = a.event; at = before_step a.event a.at; joins = (a.is, a.notes) }))
         looks_full (NextAtomic p a b) =
-            in_notes (Exec p) AtomicIssue (ap (λ f. f.step) (same b.event b.at) ∙ b.is) (ap (λ f. f.effect.note) (same b.event b.at) ∙ b.notes)
-            (inl record { event = a.event; at = before_step a.event a.at; joins = a.is })
+            inl
+            (in_notes (Exec p) AtomicIssue (ap (λ f. f.step) (same b.event b.at) ∙ b.is) (ap (λ f. f.effect.note) (same b.event b.at) ∙ b.notes)
+            (inl record { event = a.event; at = before_step a.event a.at; joins = a.is }))
         looks_full (AtomicSeen p a b) =
-            in_notes (Exec p) AtomicRead (ap (λ f. f.step) (same b.event b.at) ∙ b.is) (ap (λ f. f.effect.note) (same b.event b.at) ∙ b.notes)
-            (inl record { event = a.event; at = before_step a.event a.at; joins = a.is })
-        looks_full (Line address a b) = in_lines (Atomic b.spe) (ap (λ f. f.step) (same b.event b.at) ∙ b.is) (at b.line)
+            inl
+            (in_notes (Exec p) AtomicRead (ap (λ f. f.step) (same b.event b.at) ∙ b.is) (ap (λ f. f.effect.note) (same b.event b.at) ∙ b.notes)
+            (inl record { event = a.event; at = before_step a.event a.at; joins = a.is }))
+        looks_full (Line address a b) = inl (in_lines (Atomic b.spe) (ap (λ f. f.step) (same b.event b.at) ∙ b.is) (at b.line))
           where
             from : Has (OfLine address)
             from = record { event = a.event; at = before_step a.event a.at; joins = ((a.spe, a.is), a.line) }
@@ -275,7 +272,8 @@ module _ (Rule : Trace → ℕ → ℕ → Type 0) (plain : (t : Trace) (i j : �
             at (inl h) = among_left Has (line_of e.effect.reads) (line_of e.effect.writes) (line_at e.effect.reads address (subst (λ f. IsLine f.effect.reads address) (sym (same b.event b.at)) h) from)
             at (inr h) = among_right Has (line_of e.effect.reads) (line_of e.effect.writes) (line_at e.effect.writes address (subst (λ f. IsLine f.effect.writes address) (sym (same b.event b.at)) h) from)
         looks_full (Passed q m k a b) =
-            in_notes e.step e.effect.note refl refl
+            inl
+            (in_notes e.step e.effect.note refl refl
             (take_note q m e.step e.effect.note (ap (λ f. is_take q m f.effect.note) (same b.event b.at) ∙ b.is)
             record {
               event = a.event;
@@ -283,9 +281,10 @@ module _ (Rule : Trace → ℕ → ℕ → Type 0) (plain : (t : Trace) (i j : �
               joins =
                   inl
                   (a.is, ap (λ x. x % mailbox_size m) (sym (ap (puts q m) takes_of) ∙ a.number ∙ sym b.number ∙ ap (takes q m) takes_here));
-            })
+            }))
         looks_full (PlaceFree q m k a b) =
-            in_notes e.step e.effect.note refl refl
+            inl
+            (in_notes e.step e.effect.note refl refl
             (put_note q m e.step e.effect.note (ap (λ f. is_put q m f.effect.note) (same b.event b.at) ∙ b.is)
             record {
               event = a.event;
@@ -293,9 +292,10 @@ module _ (Rule : Trace → ℕ → ℕ → Type 0) (plain : (t : Trace) (i j : �
               joins =
                   inr
                   (a.is, ap (λ x. x % mailbox_size m) (sym (ap (takes q m) takes_of) ∙ a.number) ∙ sym (ahead m k) ∙ ap (λ x. x % mailbox_size m) (sym b.number ∙ ap (puts q m) takes_here));
-            })
+            }))
         looks_full (Finished p a b) =
-            in_notes Host (Awaited p) (ap (λ f. f.step) (same b.event b.at) ∙ b.is) (ap (λ f. f.effect.note) (same b.event b.at) ∙ b.notes) (inl (from a))
+            inl
+            (in_notes Host (Awaited p) (ap (λ f. f.step) (same b.event b.at) ∙ b.is) (ap (λ f. f.effect.note) (same b.event b.at) ∙ b.notes) (inl (from a)))
           where
             from : Notes (take (j + 1) trace) i (Exec p) Ended ⊎ ((c : ℕ) × Notes (take (j + 1) trace) i (Elem p c) Ended) → Has (OfEnd p)
             from (inl h) = record { event = h.event; at = before_step h.event h.at; joins = (h.notes, inl h.is) }

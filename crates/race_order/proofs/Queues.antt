@@ -20,7 +20,7 @@ use Rattle.race_order.specs.Roles.{Source, Joins, read_roles}
 use Rattle.race_order.specs.Orderly.{IsOrderly}
 use Rattle.race_order.proofs.Places.{get_take, take_step, same_get}
 use Rattle.race_order.proofs.Among.{Among, Found, among_every}
-use Rattle.race_order.proofs.LookedAt.{step_here, step_there, notes_here, notes_there, notes_step, looks_sound, looks_full}
+use Rattle.race_order.proofs.LookedAt.{step_here, step_there, notes_here, notes_there, notes_step, looks_sound, looks_full, IsIssued}
 use Rattle.race_order.proofs.Holding.{ordered_trans}
 use Rattle.race_order.proofs.Statuses.{done_le, done_all}
 use Rattle.race_order.proofs.Histories.{status_next, same_progress, Later, later_at, later_next, read_there, issued_there, Came, Newly, Kept, Moved, came, valid_at}
@@ -425,9 +425,15 @@ module _ (T : Trace) (queued : IsQueued T) where
 
     -- what comes directly before is in one of the sets that the step looks at
     pub queue_full : (i : ℕ) → i < j → Rule (take (j + 1) T) i j → Found (LooksAt (take j T) e) (λ r. QueueSource (take j T) r i)
-    queue_full i low (inl x) =
-        let f : Found (λ r. Among (λ w. w ≡ r) (read_roles (take j T) e)) (λ r. Source T r i) = among_found _ (read_roles (take j T) e) (looks_full Rule (λ t k l y. inl y) n T orderly j e here i low x) in
-        record { one = Base f.one; first = f.first; second = source_front f.one i low f.second }
+    queue_full i low (inl x) = plain_full (looks_full Rule (λ t k l y. inl y) n T orderly j e here i low x)
+      where
+        plain_full : Among (λ r. Source T r i) (read_roles (take j T) e) ⊎ IsIssued T i j → Found (LooksAt (take j T) e) (λ r. QueueSource (take j T) r i)
+        plain_full (inl y) =
+            let f : Found (λ r. Among (λ w. w ≡ r) (read_roles (take j T) e)) (λ r. Source T r i) = among_found _ (read_roles (take j T) e) y in
+            record { one = Base f.one; first = f.first; second = source_front f.one i low f.second }
+        plain_full (inr y) =
+            let same : y.step.event ≡ e = same_get (slice_get T j) y.step.event e y.step.at here in
+            record { one = Waits y.spe y.command; first = subst (λ f. is_of y.spe y.command f.step ≡ true) same y.step.is; second = Begun y.issue.0 (notes_here T i j (Exec y.spe) (Issue y.command y.issue.0) low y.issue.1) }
     queue_full i low (inr (Queue p c d a b before)) =
         let of : is_of p d e.step ≡ true = this_is p d b in
         let bb : Before (take j T) p c d = before_back p c d of before in

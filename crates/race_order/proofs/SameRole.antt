@@ -2,7 +2,7 @@
 use Rattle.std.proofs.Common.{◌≡◌, true, false, ◌||◌, ◌&&◌, Bool, refl, ap}
 use Rattle.std.proofs.lemmas.Bool.{and_from, and_parts, eqb-true, eq-eqb}
 use Rattle.race_order.specs.declared.roles.Role.{Role}
-use Rattle.race_order.specs.declared.roles.Role.TheVariants.{OfExec, OfHost, OfSlot, OfAtomic, OfLine, OfBox, OfEnd, OfCommand}
+use Rattle.race_order.specs.declared.roles.Role.TheVariants.{OfExec, OfHost, OfSlot, OfAtomic, OfLine, OfBox, OfEnd}
 use Rattle.race_order.specs.Roles.{same_role}
 
 pub same_role_is : (r w : Role) → same_role w r ≡ true → w ≡ r
@@ -23,8 +23,6 @@ same_role_is r w e = is w r e
     is (OfBox p m x) _ e = cc
     is (OfEnd p) (OfEnd q) e = ap OfEnd (eqb-true p q e)
     is (OfEnd p) _ e = cc
-    is (OfCommand p c) (OfCommand q d) e = let a = and_parts _ _ e in let u : p ≡ q = eqb-true p q a.0 in let v : c ≡ d = eqb-true c d a.1 in cc
-    is (OfCommand p c) _ e = cc
 
 pub same_role_itself : (r : Role) → same_role r r ≡ true
 same_role_itself (OfExec p) = eq-eqb p p refl
@@ -34,7 +32,6 @@ same_role_itself (OfAtomic p) = eq-eqb p p refl
 same_role_itself (OfLine p) = eq-eqb p p refl
 same_role_itself (OfBox p m x) = and_from _ _ (eq-eqb p p refl) (and_from _ _ (eq-eqb m m refl) (eq-eqb x x refl))
 same_role_itself (OfEnd p) = eq-eqb p p refl
-same_role_itself (OfCommand p c) = and_from _ _ (eq-eqb p p refl) (eq-eqb c c refl)
 
 pub and_or : (b x y : Bool) → (b && (x || y)) ≡ ((b && x) || (b && y))
 and_or true x y = refl

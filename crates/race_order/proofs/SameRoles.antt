@@ -1,11 +1,16 @@
 -- Two roles of the queue are one.
-use Rattle.std.proofs.Common.{◌≡◌, true, refl, ap, ap₂}
+use Rattle.std.proofs.Common.{◌≡◌, Bool, true, false, not, ◌||◌, List, filter, refl, sym, ap, ap₂, subst}
+use Rattle.std.specs.List.{list_any}
 use Rattle.std.proofs.lemmas.Bool.{and_from, and_parts, eqb-true, eq-eqb}
 use Rattle.race_order.specs.declared.roles.Class.{Class}
 use Rattle.race_order.specs.declared.roles.Class.TheVariants.{All, Tag, BarredTag, Barriers}
 use Rattle.race_order.specs.declared.roles.QueueRole.{QueueRole}
 use Rattle.race_order.specs.declared.roles.QueueRole.TheVariants.{Base, Waits, Complete, Fixed, Stalled}
-use Rattle.race_order.specs.Tables.{same_class, same_role}
+use Rattle.race_order.specs.Tables.{same_class, same_role, row_has}
+use Rattle.race_order.specs.declared.sets.Row.{Row}
+use Rattle.order_sets.specs.declared.facts.At.{At}
+use Rattle.order_sets.specs.Stands.{has_at}
+use Rattle.order_sets.proofs.AnySet.{any_kept}
 use Rattle.race_order.proofs.SameRole.{same_role_is as same_base_is, same_role_itself as same_base_itself}
 
 pub same_class_is : (a b : Class) → same_class a b ≡ true → a ≡ b
@@ -45,3 +50,15 @@ same_role_itself (Waits p c) = and_from _ _ (eq-eqb p p refl) (eq-eqb c c refl)
 same_role_itself (Complete p c) = and_from _ _ (eq-eqb p p refl) (same_class_itself c)
 same_role_itself (Fixed p g) = and_from _ _ (eq-eqb p p refl) (eq-eqb g g refl)
 same_role_itself (Stalled p g) = and_from _ _ (eq-eqb p p refl) (eq-eqb g g refl)
+
+not_false : (b : Bool) → not b ≡ false → b ≡ true
+not_false true e = refl
+not_false false e = sym e
+
+pub rows_dropped : (over : QueueRole → Bool) (r : QueueRole) (at : At) (rows : List Row) → over r ≡ false → list_any (row_has r at) (filter (λ row. not (over row.role)) rows) ≡ list_any (row_has r at) rows
+rows_dropped over r at rows q =
+    subst (λ b. (b || list_any (row_has r at) (filter (λ row. not (over row.role)) rows)) ≡ (b || list_any (row_has r at) rows)) q
+    (any_kept (row_has r at) (λ row. not (over row.role)) (over r) rows gone)
+  where
+    gone : (row : Row) → not (over row.role) ≡ false → row_has r at row ≡ true → over r ≡ true
+    gone row e h = let a = and_parts (same_role row.role r) (has_at row.known at) h in subst (λ x. over x ≡ true) (same_role_is r row.role a.0) (not_false (over row.role) e)

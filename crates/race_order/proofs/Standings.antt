@@ -1,5 +1,6 @@
 -- An orderer stands for the longer run after a step.
-use Rattle.std.proofs.Common.{◌≡◌, ℕ, ◌+◌, ◌*◌, ◌-◌, ◌<◌, Bool, List, [], ◌∷◌, ◌++◌, map, length, take, get_or, Option, Some, None, ◌⊎◌, inl, inr, refl, sym, ap, ap₂, ◌∙◌, subst, arith}
+use Rattle.std.proofs.Common.{◌≡◌, ℕ, ◌+◌, ◌*◌, ◌-◌, ◌<◌, Bool, false, List, [], ◌∷◌, ◌++◌, map, length, take, get_or, Option, Some, None, ◌⊎◌, inl, inr, refl, sym, ap, ap₂, ◌∙◌, subst, subst₂, ◌&&◌, ◌==◌, arith}
+use Rattle.std.proofs.lemmas.Bool.{and_parts, eqb-true, both_ways, false_from_ne_true}
 use Rattle.std.specs.Prelude.{slice_get}
 use Rattle.std.proofs.lemmas.Option.{get_or_from_slice_get}
 use Rattle.order_sets.specs.declared.facts.At.{At}
@@ -19,14 +20,14 @@ use Rattle.race_order.proofs.Advance.{Answers}
 use Rattle.race_order.specs.declared.lists.Issued.{Issued}
 use Rattle.race_order.specs.declared.lives.Live.{Live}
 use Rattle.race_order.specs.declared.roles.QueueRole.{QueueRole}
-use Rattle.race_order.specs.declared.roles.QueueRole.TheVariants.{Base, Waits}
+use Rattle.race_order.specs.declared.roles.QueueRole.TheVariants.{Base, Waits, Complete, Fixed, Stalled}
 use Rattle.race_order.specs.Premises.{IsQueued, QueueMay}
 use Rattle.race_order.proofs.Nexts.{AreNext, IssuesNow, after}
 use Rattle.race_order.proofs.Nexts as Next
-use Rattle.race_order.specs.Sources.{HaveOwn}
+use Rattle.race_order.specs.Sources.{HaveOwn, IsKept, QueueSource}
 use Rattle.race_order.specs.Lives.{ShowsLives, moved}
-use Rattle.race_order.specs.Pasts.{IsPast}
-use Rattle.race_order.specs.Passes.{View, with_into, with_touch, with_moves, with_done, with_stalls}
+use Rattle.race_order.specs.Pasts.{IsPast, Holds}
+use Rattle.race_order.specs.Passes.{View, is_over, is_over_as, with_into, with_touch, with_moves, with_done, with_stalls}
 use Rattle.race_order.specs.declared.roles.Role.{Role}
 use Rattle.race_order.specs.Roles.{write_roles}
 use Rattle.race_order.specs.Ordering.{issued_in, self_roles, issue_list, fix_list, spe_in}
@@ -34,9 +35,11 @@ use Rattle.race_order.proofs.Answering.{by_plain, made, IsKnown, answers}
 use Rattle.race_order.proofs.Causes.{t6}
 use Rattle.race_order.proofs.Composed.{passes_local}
 use Rattle.race_order.proofs.Locals.{local_next}
+use Rattle.race_order.proofs.Passed.{Picked, picked}
+use Rattle.race_order.specs.Queue.{Has}
 use Rattle.race_order.proofs.Kept.{all_kept, kept_before}
 use Rattle.race_order.proofs.Listings.{into_list, are_lists, looked_list, is_known, issued_is}
-use Rattle.race_order.proofs.LivesNext.{kept_lives, shows_same, shows_issue}
+use Rattle.race_order.proofs.LivesNext.{after_has, kept_lives, shows_same, shows_issue}
 
 pub name_is : (o : Orderer) (trace : Trace) (i : ℕ) (a : At) → StandsFor o trace → i + 1 < length trace → a ≡ get_or o.names.items i a → IsStamp o.spes trace i a
 name_is o trace i a stands low is =
@@ -64,15 +67,13 @@ module _ (n : ℕ) (trace : Trace) (e : Event) (orderly : IsOrderly n (trace ++ 
   nx : AreNext n sets next_view trace e known
   nx = local_next trace e n sets next_view known have (passes_local n trace e orderly queued known lives shows sets have (into_list trace e) (issue_list (issued_in e.step e.effect.note)) (fix_list e.effect.fixed (spe_in e.step)) (are_lists trace e))
 
-  pub keep_next : (sets' : View) → ((r : QueueRole) (a : At) → sets' r a ≡ next_view r a) → Keep n T sets'
+  pub keep_next : (sets' : View) → ((r : QueueRole) → IsKept T r → (a : At) → sets' r a ≡ next_view r a) → Keep n T sets'
   keep_next sets' same =
-      subst (Keep n T) (sym (fun_ext (λ r. fun_ext (λ a. same r a))))
-      record { holds = λ r k. all_kept n trace e orderly queued sets next_view kept.holds known isk nx r (kept_before n trace e orderly queued sets next_view kept.holds known isk nx r k) }
+      record { holds = λ r k. subst (λ s. Holds Rule n (IsPast n) T s (QueueSource T r)) (sym (fun_ext (λ a. same r k a))) (all_kept n trace e orderly queued sets next_view kept.holds known isk nx r (kept_before n trace e orderly queued sets next_view kept.holds known isk nx r k)) }
 
-  pub own_next : (sets' : View) → ((r : QueueRole) (a : At) → sets' r a ≡ next_view r a) → HaveOwn n sets' T
+  pub own_next : (sets' : View) → ((r : QueueRole) → IsKept T r → (a : At) → sets' r a ≡ next_view r a) → HaveOwn n sets' T
   own_next sets' same =
-      subst (λ s. HaveOwn n s T) (sym (fun_ext (λ r. fun_ext (λ a. same r a))))
-      record { own = λ p d a k o. (nx.waits p d a (kept_before n trace e orderly queued sets next_view kept.holds known isk nx (Waits p d) k)).1 (Next.Own o) }
+      record { own = λ p d a k o. same (Waits p d) k a ∙ (nx.waits p d a (kept_before n trace e orderly queued sets next_view kept.holds known isk nx (Waits p d) k)).1 (Next.Own o) }
 
   pub last_next : IsLast n T known
   last_next =
@@ -118,3 +119,22 @@ view_of n trace e known lives sets lv nv av wv l m k w r a =
     ∙ (ap (λ (x : List Live). with_moves (fix_list e.effect.fixed (spe_in e.step)) (with_stalls lives e.step e.effect.note (with_done x (with_moves (issue_list (issued_in e.step e.effect.note)) (with_touch n e.step e.effect.note av lives (with_into (map Base wv ++ self_roles (issued_in e.step e.effect.note)) av sets))))) r a) m
     ∙ (ap (λ (x : At → Bool). with_moves (fix_list e.effect.fixed (spe_in e.step)) (with_stalls lives e.step e.effect.note (with_done (map (λ l. moved l e.step e.effect.note) lives) (with_moves (issue_list (issued_in e.step e.effect.note)) (with_touch n e.step e.effect.note x lives (with_into (map Base wv ++ self_roles (issued_in e.step e.effect.note)) x sets))))) r a) k
     ∙ ap (λ (x : List Role). with_moves (fix_list e.effect.fixed (spe_in e.step)) (with_stalls lives e.step e.effect.note (with_done (map (λ l. moved l e.step e.effect.note) lives) (with_moves (issue_list (issued_in e.step e.effect.note)) (with_touch n e.step e.effect.note (after n trace e known) lives (with_into (map Base x ++ self_roles (issued_in e.step e.effect.note)) (after n trace e known) sets))))) r a) w))
+
+none_over : (next : List Live) → list_any (λ (l : Live). false) next ≡ false
+none_over [] = refl
+none_over (l ∷ ls) = none_over ls
+
+-- no set that is kept is of a command that is complete now
+pub kept_not_over : (trace : Trace) (e : Event) (may : QueueMay trace e) (lives : List Live) (shows : ShowsLives lives trace) (r : QueueRole) → IsKept (trace ++ (e ∷ [])) r → is_over (map (λ l. moved l e.step e.effect.note) lives) r ≡ false
+kept_not_over trace e may lives shows (Base r) kept = none_over (map (λ l. moved l e.step e.effect.note) lives)
+kept_not_over trace e may lives shows (Complete p class) kept = none_over (map (λ l. moved l e.step e.effect.note) lives)
+kept_not_over trace e may lives shows (Fixed p g) kept = none_over (map (λ l. moved l e.step e.effect.note) lives)
+kept_not_over trace e may lives shows (Stalled p g) kept = none_over (map (λ l. moved l e.step e.effect.note) lives)
+kept_not_over trace e may lives shows (Waits p d) kept = false_from_ne_true _ (λ u. over (picked (is_over_as (Waits p d)) (map (λ l. moved l e.step e.effect.note) lives) u))
+  where
+    over : Picked (is_over_as (Waits p d)) (map (λ l. moved l e.step e.effect.note) lives) → ⊥
+    over x =
+        let m = after_has trace e may lives shows x.one x.place x.at in
+        let a = and_parts x.one.progress.done (x.one.spe == p && x.one.cmd == d) x.passes in
+        let b = and_parts (x.one.spe == p) (x.one.cmd == d) a.1 in
+        both_ways _ (kept x.one.progress (subst₂ (λ y z. Has (trace ++ (e ∷ [])) y z x.one.progress) (eqb-true x.one.spe p b.0) (eqb-true x.one.cmd d b.1) m)) a.0

@@ -6,7 +6,7 @@ use Rattle.std.proofs.lemmas.List.Sums.{count_by-le-length}
 use Rattle.order_sets.specs.declared.facts.At.{At}
 use Rattle.cell_base.specs.declared.steps.Step.{Step}
 use Rattle.cell_machine.specs.declared.effect.Note.{Note}
-use Rattle.cell_machine.specs.declared.effect.Note.TheVariants.{Issue, AtomicIssue, AtomicRead, Put, Take, Ended, Awaited}
+use Rattle.cell_machine.specs.declared.effect.Note.TheVariants.{AtomicIssue, AtomicRead, Put, Take, Ended, Awaited}
 use Rattle.race_order.specs.Trace.{Event, Trace, puts, takes, is_put, is_take, mailbox_size}
 use Rattle.race_order.specs.declared.roles.Role.TheVariants.{OfBox}
 use Rattle.race_order.specs.declared.boxes.Boxes.{Boxes}
@@ -86,7 +86,6 @@ module _ (n : ℕ) (trace : Trace) (boxes : Boxes) (shows : Shows n boxes trace)
   writes_same : (s : Step) (note : Note) → IsNoted n note → note_writes_by boxes.puts.items boxes.takes.items s note ≡ note_writes trace s note
   writes_same s (Put q m) w = ap (λ r. r ∷ []) (put_same q m w.0 w.1)
   writes_same s (Take q m) w = ap (λ r. r ∷ []) (take_same q m w.0 w.1)
-  writes_same s (Issue c command) w = refl
   writes_same s AtomicIssue w = refl
   writes_same s Ended w = refl
   writes_same s _ w = refl

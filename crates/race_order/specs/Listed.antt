@@ -2,11 +2,11 @@
 use Rattle.std.specs.Prelude.{◌≡◌, ℕ, ◌+◌, ◌*◌, ◌%◌, List, [], ◌∷◌, ◌++◌, Option, Some, None, slice_index}
 use Rattle.cell_base.specs.declared.steps.Step.{Step}
 use Rattle.cell_machine.specs.declared.effect.Note.{Note}
-use Rattle.cell_machine.specs.declared.effect.Note.TheVariants.{Issue, AtomicIssue, AtomicRead, Put, Take, Ended, Awaited}
+use Rattle.cell_machine.specs.declared.effect.Note.TheVariants.{AtomicIssue, AtomicRead, Put, Take, Ended, Awaited}
 use Rattle.race_order.specs.Trace.{Event, mailbox_size}
 use Rattle.race_order.specs.declared.roles.Role.{Role}
 use Rattle.race_order.specs.declared.roles.Role.TheVariants.{OfBox}
-use Rattle.race_order.specs.Roles.{atomics_of, end_seen, issued_by, slot_of, end_of, line_roles, step_reads, step_writes}
+use Rattle.race_order.specs.Roles.{atomics_of, end_seen, slot_of, end_of, line_roles, step_reads, step_writes}
 
 abbrev pub listed : Option Role → List Role
 listed None = []
@@ -27,7 +27,6 @@ note_reads_by puts takes step (Awaited p) = end_seen p step
 note_reads_by puts takes step _ = []
 
 abbrev pub note_writes_by : List ℕ → List ℕ → Step → Note → List Role
-note_writes_by puts takes step (Issue c command) = issued_by c step
 note_writes_by puts takes step AtomicIssue = slot_of step
 note_writes_by puts takes step (Put q m) = box_of puts q m ∷ []
 note_writes_by puts takes step (Take q m) = box_of takes q m ∷ []

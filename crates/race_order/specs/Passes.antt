@@ -78,3 +78,11 @@ with_done next t r a = t r a || list_any (done_any (brings t r a) next) next
 
 abbrev pub with_stalls : List Live → Step → Note → View → View
 with_stalls lives step note t r a = t r a || list_any (stall_any (brings t r a) step note) lives
+
+-- the command is complete, and what its steps wait for is looked at no more
+abbrev pub is_over_as : QueueRole → Live → Bool
+is_over_as (Waits p d) l = l.progress.done && (l.spe == p && l.cmd == d)
+is_over_as _ l = false
+
+abbrev pub is_over : List Live → QueueRole → Bool
+is_over next r = list_any (is_over_as r) next

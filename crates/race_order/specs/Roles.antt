@@ -5,9 +5,8 @@ use Rattle.cell_base.specs.declared.steps.Step.TheVariants.{Exec, Piece, Elem, R
 use Rattle.cell_machine.specs.declared.effect.Place.{Place}
 use Rattle.cell_machine.specs.declared.effect.Place.TheVariants.{Memory, Local}
 use Rattle.cell_machine.specs.declared.effect.Span.{Span}
-use Rattle.mfc_command.specs.declared.command.Command.{Command}
 use Rattle.cell_machine.specs.declared.effect.Note.{Note}
-use Rattle.cell_machine.specs.declared.effect.Note.TheVariants.{Issue, AtomicIssue, AtomicRead, Put, Take, Ended, Awaited}
+use Rattle.cell_machine.specs.declared.effect.Note.TheVariants.{AtomicIssue, AtomicRead, Put, Take, Ended, Awaited}
 use Rattle.cell_machine.specs.declared.effect.Effect.{Effect}
 use Rattle.race_order.specs.Trace.{Event, Trace, is_put, is_take, puts, takes, mailbox_size, IsLine}
 use Rattle.std.specs.List.{list_any}
@@ -16,7 +15,7 @@ use Rattle.order_sets.specs.declared.facts.Fact.{Fact}
 use Rattle.order_sets.specs.declared.facts.Fact.TheVariants.{Upto, One}
 use Rattle.race_order.specs.Stamps.{stamp}
 use Rattle.race_order.specs.declared.roles.Role.{Role}
-use Rattle.race_order.specs.declared.roles.Role.TheVariants.{OfExec, OfHost, OfSlot, OfAtomic, OfLine, OfBox, OfEnd, OfCommand}
+use Rattle.race_order.specs.declared.roles.Role.TheVariants.{OfExec, OfHost, OfSlot, OfAtomic, OfLine, OfBox, OfEnd}
 
 -- the line of memory that a span is
 abbrev pub line_in : Place → Bool → ℕ → List Role
@@ -40,9 +39,9 @@ take_role q m before = OfBox q m (takes q m before % mailbox_size m)
 -- what a step looks at, by its kind and by its note
 abbrev pub step_reads : Step → List Role
 step_reads (Exec p) = OfExec p ∷ []
-step_reads (Piece p c e k) = OfCommand p c ∷ []
-step_reads (Elem p c) = OfCommand p c ∷ []
-step_reads (Retire p c) = OfCommand p c ∷ []
+step_reads (Piece p c e k) = []
+step_reads (Elem p c) = []
+step_reads (Retire p c) = []
 step_reads (Atomic p) = OfSlot p ∷ []
 step_reads Host = OfHost ∷ []
 
@@ -76,17 +75,12 @@ abbrev pub slot_of : Step → List Role
 slot_of (Exec p) = OfSlot p ∷ []
 slot_of _ = []
 
-abbrev pub issued_by : ℕ → Step → List Role
-issued_by c (Exec p) = OfCommand p c ∷ []
-issued_by c _ = []
-
 abbrev pub end_of : Step → List Role
 end_of (Exec p) = OfEnd p ∷ []
 end_of (Elem p c) = OfEnd p ∷ []
 end_of _ = []
 
 abbrev pub note_writes : Trace → Step → Note → List Role
-note_writes before step (Issue c command) = issued_by c step
 note_writes before step AtomicIssue = slot_of step
 note_writes before step (Put q m) = put_role q m before ∷ []
 note_writes before step (Take q m) = take_role q m before ∷ []
@@ -105,7 +99,6 @@ Joins before e (OfAtomic p) = e.step ≡ Atomic p
 Joins before e (OfLine a) = ((p : ℕ) × (e.step ≡ Atomic p)) × (IsLine e.effect.reads a ⊎ IsLine e.effect.writes a)
 Joins before e (OfBox q m r) = ((is_put q m e.effect.note ≡ true) × (puts q m before % mailbox_size m ≡ r)) ⊎ ((is_take q m e.effect.note ≡ true) × (takes q m before % mailbox_size m ≡ r))
 Joins before e (OfEnd p) = (e.effect.note ≡ Ended) × ((e.step ≡ Exec p) ⊎ ((c : ℕ) × (e.step ≡ Elem p c)))
-Joins before e (OfCommand p c) = (e.step ≡ Exec p) × ((command : Command) × (e.effect.note ≡ Issue c command))
 
 -- the step at place k went into the role's set
 pub record Source (trace : Trace) (r : Role) (k : ℕ) : Type 0 where
@@ -128,8 +121,6 @@ same_role (OfBox p m r) (OfBox q l s) = p == q && (m == l && r == s)
 same_role (OfBox p m r) _ = false
 same_role (OfEnd p) (OfEnd q) = p == q
 same_role (OfEnd p) _ = false
-same_role (OfCommand p c) (OfCommand q d) = p == q && c == d
-same_role (OfCommand p c) _ = false
 
 -- the role is one of the list
 abbrev pub is_among : Role → List Role → Bool

@@ -4,7 +4,7 @@ ghost use Rattle.std.specs.Prelude.{◌≡◌, ℕ, ◌+◌, ◌*◌, ◌<◌, �
 ghost use Rattle.race_order.specs.Trace.{Trace};
 ghost use Rattle.race_order.specs.Stamps.{event_of};
 ghost use Rattle.race_order.specs.Counted.{Fits, Shows};
-ghost use Rattle.race_order.specs.Roles.{step_reads, step_writes, note_reads, note_writes, line_of, line_roles, atomics_of, end_seen, slot_of, issued_by, end_of, read_roles, write_roles};
+ghost use Rattle.race_order.specs.Roles.{step_reads, step_writes, note_reads, note_writes, line_of, line_roles, atomics_of, end_seen, slot_of, end_of, read_roles, write_roles};
 ghost use Rattle.race_order.specs.Listed.{listed, IsBoxOf, note_reads_by, note_writes_by, read_roles_by, write_roles_by};
 
 use crate::boxes::{Boxes, place};
@@ -19,9 +19,9 @@ fn step_read(step: Step) -> Option<Role>
 {
     match step {
         Step::Exec { spe } => Some(Role::OfExec { spe }),
-        Step::Piece { spe, cmd, .. } => Some(Role::OfCommand { spe, cmd }),
-        Step::Elem { spe, cmd } => Some(Role::OfCommand { spe, cmd }),
-        Step::Retire { spe, cmd } => Some(Role::OfCommand { spe, cmd }),
+        Step::Piece { .. } => None,
+        Step::Elem { .. } => None,
+        Step::Retire { .. } => None,
         Step::Atomic { spe } => Some(Role::OfSlot { spe }),
         Step::Host => Some(Role::OfHost),
     }
@@ -61,15 +61,6 @@ fn slot(step: Step) -> Option<Role>
 {
     match step {
         Step::Exec { spe } => Some(Role::OfSlot { spe }),
-        _ => None,
-    }
-}
-
-fn issued(cmd: u32, step: Step) -> Option<Role>
-    ensures { listed result ≡ issued_by cmd step }
-{
-    match step {
-        Step::Exec { spe } => Some(Role::OfCommand { spe, cmd }),
         _ => None,
     }
 }
@@ -125,7 +116,6 @@ fn note_write(boxes: &Boxes, step: Step, note: Note) -> Option<Role>
     ensures { listed result ≡ note_writes_by boxes.now.puts.items boxes.now.takes.items step note }
 {
     match note {
-        Note::Issue { cmd, .. } => issued(cmd, step),
         Note::AtomicIssue => slot(step),
         Note::Put { spe, mailbox } => Some(put_box(boxes, spe, mailbox)),
         Note::Take { spe, mailbox } => Some(take_box(boxes, spe, mailbox)),

@@ -1,6 +1,6 @@
 //! The order of a run, step by step.
 
-ghost use Rattle.std.specs.Prelude.{◌≡◌, ℕ, ◌+◌, ◌*◌, ◌-◌, ◌<◌, ◌≤◌, ◌^◌, ◌↔◌, ◌||◌, ◌++◌, ◌∷◌, [], map, filter, not, IfOk, OnOk, IsTrue, length};
+ghost use Rattle.std.specs.Prelude.{◌≡◌, ℕ, ◌+◌, ◌*◌, ◌-◌, ◌<◌, ◌≤◌, ◌^◌, ◌↔◌, ◌||◌, ◌++◌, ◌∷◌, [], map, filter, not, false, IfOk, OnOk, IsTrue, length};
 ghost use Rattle.std.specs.List.{list_any};
 ghost use Rattle.order_sets.specs.declared.facts.At.{At as AnAt};
 ghost use Rattle.order_sets.specs.Facts.{covers};
@@ -16,7 +16,7 @@ ghost use Rattle.race_order.specs.declared.roles.QueueRole.TheVariants.{Base};
 ghost use Rattle.race_order.specs.Premises.{QueueMay};
 ghost use Rattle.race_order.specs.Lives.{HaveRoom, AreWithin, AreOutstanding, moved};
 ghost use Rattle.race_order.specs.Ordering.{issued_in, self_roles, issue_list, fix_list, spe_in, own_waits, seen_in};
-ghost use Rattle.race_order.specs.Passes.{with_into, with_touch, with_moves, with_done, with_stalls};
+ghost use Rattle.race_order.specs.Passes.{is_over, with_into, with_touch, with_moves, with_done, with_stalls};
 ghost use Rattle.race_order.specs.Standing.{StandsFor, with_issued};
 ghost use Rattle.race_order.specs.Tables.{sets_have, AreOf};
 
@@ -84,7 +84,7 @@ fn take_in(
     requires spes { spes ≤ 16 }
     requires sets { AreOf (3 * spes + 1) sets.old }
     requires after { length after.now.ends.items ≡ 3 * spes + 1 }
-    ensures has { OnOk result ((r : ARole) (at : AnAt) → sets_have sets.new r at ≡ with_moves (fix_list effect.now.fixed (spe_in step)) (with_stalls lives.now step effect.now.note (with_done next.now (with_moves (issue_list (issued_in step effect.now.note)) (with_touch spes step effect.now.note (has_at after.now) lives.now (with_into (map Base (write_roles_by boxes.now.puts.items boxes.now.takes.items (event_of step effect.now)) ++ self_roles (issued_in step effect.now.note)) (has_at after.now) (sets_have sets.old)))))) r at) }
+    ensures has { OnOk result ((r : ARole) (at : AnAt) → is_over next.now r ≡ false → sets_have sets.new r at ≡ with_moves (fix_list effect.now.fixed (spe_in step)) (with_stalls lives.now step effect.now.note (with_done next.now (with_moves (issue_list (issued_in step effect.now.note)) (with_touch spes step effect.now.note (has_at after.now) lives.now (with_into (map Base (write_roles_by boxes.now.puts.items boxes.now.takes.items (event_of step effect.now)) ++ self_roles (issued_in step effect.now.note)) (has_at after.now) (sets_have sets.old)))))) r at) }
     ensures chains { OnOk result (AreOf (3 * spes + 1) sets.new) }
 {
     let note = effect.note;
@@ -97,6 +97,7 @@ fn take_in(
     apply(
         alloc, sets, spes, lives, next, step, note, after, here, issue, fix,
     )?;
+    sets.drop_over(next);
     Ok(())
 }
 

@@ -21,8 +21,6 @@ pub(crate) enum Role {
     OfBox { spe: u8, mailbox: u8, place: u32 },
     /// the end of a processor
     OfEnd { spe: u8 },
-    /// what the steps of a queued command come after
-    OfCommand { spe: u8, cmd: u32 },
 }
 
 /// Commands of a processor.
@@ -72,9 +70,6 @@ fn is_same(a: Role, b: Role) -> bool
             },
         ) => p == q && m == l && r == s,
         (Role::OfEnd { spe: p }, Role::OfEnd { spe: q }) => p == q,
-        (Role::OfCommand { spe: p, cmd: c }, Role::OfCommand { spe: q, cmd: d }) => {
-            p == q && c == d
-        }
         _ => false,
     }
 }

@@ -6,8 +6,10 @@ ghost use Rattle.order_sets.specs.declared.facts.At.{At};
 ghost use Rattle.order_sets.specs.Stands.{has_at};
 ghost use Rattle.race_order.specs.declared.roles.QueueRole.{QueueRole as ARole};
 ghost use Rattle.race_order.specs.Tables.{same_role, is_among, row_has, sets_have, AreOf};
+ghost use Rattle.race_order.specs.Passes.{is_over_as, is_over};
 
 use crate::error::OrderError;
+use crate::lives::Live;
 use crate::roles::{QueueRole, is_role};
 use order_sets::Known;
 use std::alloc::Global;
@@ -37,6 +39,22 @@ pub(crate) fn copy_of(alloc: Global, spes: u8, known: &Known) -> Result<Known, O
     let mut copy = Known::new(alloc, spes)?;
     copy.join(known)?;
     Ok(copy)
+}
+
+/// Whether the role is of a command that is complete now.
+fn is_over_as(role: QueueRole, live: &Live) -> bool
+    ensures { result ≡ is_over_as role live.now }
+{
+    match role {
+        QueueRole::Waits { spe, cmd } => live.progress.done && live.spe == spe && live.cmd == cmd,
+        _ => false,
+    }
+}
+
+fn is_over(role: QueueRole, next: &[Live]) -> bool
+    ensures { result ≡ is_over next.now role }
+{
+    next.iter().any(|live| is_over_as(role, live))
 }
 
 /// Adds to the known steps what the row has, where it is the role's.
@@ -130,5 +148,13 @@ impl Sets {
             self.put(*role, known)?;
         }
         Ok(())
+    }
+
+    /// Drops the sets that the steps of complete commands waited for.
+    pub(crate) fn drop_over(&mut self, next: &[Live])
+        ensures has { (r : ARole) (at : At) → is_over next.now r ≡ false → sets_have self.new r at ≡ sets_have self.old r at }
+        ensures chains { (chains : ℕ) → AreOf chains self.old → AreOf chains self.new }
+    {
+        self.rows.retain(|row| !is_over(row.role, next));
     }
 }

@@ -20,8 +20,10 @@ use Rattle.race_order.proofs.Nexts.{after}
 use Rattle.race_order.specs.Ordering.{issued_in, own_waits, seen_in}
 use Rattle.race_order.specs.Standing.{StandsFor, with_issued}
 use Rattle.race_order.specs.Tables.{sets_have}
+use Rattle.race_order.specs.Sources.{IsKept}
+use Rattle.race_order.specs.Passes.{is_over}
 use Rattle.race_order.proofs.Listings.{looked_list}
-use Rattle.race_order.proofs.Standings.{next_view, keep_next, own_next, last_next, queued_next, lives_next, view_of}
+use Rattle.race_order.proofs.Standings.{next_view, keep_next, own_next, last_next, queued_next, lives_next, view_of, kept_not_over}
 use Rattle.race_order.specs.Lives.{HaveRoom, AreOutstanding, AreWithin, ShowsLives, moved}
 use Rattle.race_order.proofs.LivesNext.{have_room, are_outstanding, are_within}
 use Rattle.race_order.proofs.orderer.Orderer.advance.Goals as goal
@@ -64,8 +66,8 @@ returns-clause-stands g c =
     fun_ext (λ a. c.in_ok-add.ensures.ok a ∙ ap₂ (λ b f. b || covers f a) (c.in_ok-after.ensures.same a) fact_is) in
     let next_is : c.in_ok-next.next.items ≡ map (λ l. moved l c.args.step c.args.effect.note) c.args.self.now.lives.items =
     c.in_ok-next.ensures ∙ ap (map (λ l. moved l c.args.step c.args.effect.note)) c.as_slice.ensures.value in
-    let same : (r : QueueRole) (a : At) → sets_have c.take_in.new.sets r a ≡ next_view c.args.self.now.spes g.trace (event_of c.args.step c.args.effect) orderly queued (has_at c.in_ok-known.known) c.args.self.now.lives.items st.lives (sets_have c.args.self.now.sets) st.own st.kept known_is r a =
-    λ r a. c.in_ok-take_in.ensures.has r a ∙ view_of c.args.self.now.spes g.trace (event_of c.args.step c.args.effect) (has_at c.in_ok-known.known) c.args.self.now.lives.items (sets_have c.args.self.now.sets) c.as_slice-2.result.now c.as_slice-3.result.now (has_at c.add.new.self) (write_roles_by c.args.self.now.boxes.puts.items c.args.self.now.boxes.takes.items (event_of c.args.step c.args.effect)) c.as_slice-2.ensures.value (c.as_slice-3.ensures.value ∙ next_is) after_is (write_same c.args.self.now.spes g.trace c.args.self.now.boxes st.counts (event_of c.args.step c.args.effect) may.noted) r a in
+    let same : (r : QueueRole) → IsKept (g.trace ++ (event_of c.args.step c.args.effect ∷ [])) r → (a : At) → sets_have c.take_in.new.sets r a ≡ next_view c.args.self.now.spes g.trace (event_of c.args.step c.args.effect) orderly queued (has_at c.in_ok-known.known) c.args.self.now.lives.items st.lives (sets_have c.args.self.now.sets) st.own st.kept known_is r a =
+    λ r k a. c.in_ok-take_in.ensures.has r a (ap (λ l. is_over l r) (c.as_slice-3.ensures.value ∙ next_is) ∙ kept_not_over g.trace (event_of c.args.step c.args.effect) queue c.args.self.now.lives.items st.lives r k) ∙ view_of c.args.self.now.spes g.trace (event_of c.args.step c.args.effect) (has_at c.in_ok-known.known) c.args.self.now.lives.items (sets_have c.args.self.now.sets) c.as_slice-2.result.now c.as_slice-3.result.now (has_at c.add.new.self) (write_roles_by c.args.self.now.boxes.puts.items c.args.self.now.boxes.takes.items (event_of c.args.step c.args.effect)) c.as_slice-2.ensures.value (c.as_slice-3.ensures.value ∙ next_is) after_is (write_same c.args.self.now.spes g.trace c.args.self.now.boxes st.counts (event_of c.args.step c.args.effect) may.noted) r a in
     record {
       some = st.some;
       spes = st.spes;
