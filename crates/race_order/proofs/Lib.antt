@@ -24,6 +24,7 @@ pub mod Kept
 pub mod Halts
 pub mod Locals
 pub mod SameRoles
+pub mod HasIn
 pub mod Passed
 pub mod Causes
 pub mod Composed

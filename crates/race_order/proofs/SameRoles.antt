@@ -7,7 +7,7 @@ use Rattle.race_order.specs.declared.roles.Class.TheVariants.{All, Tag, BarredTa
 use Rattle.race_order.specs.declared.roles.QueueRole.{QueueRole}
 use Rattle.race_order.specs.declared.roles.QueueRole.TheVariants.{Base, Waits, Complete, Fixed, Stalled}
 use Rattle.race_order.specs.Tables.{same_class, same_role, row_has}
-use Rattle.race_order.specs.declared.sets.Row.{Row}
+use Rattle.race_order.specs.declared.buckets.Row.{Row}
 use Rattle.order_sets.specs.declared.facts.At.{At}
 use Rattle.order_sets.specs.Stands.{has_at}
 use Rattle.order_sets.proofs.AnySet.{any_kept}

@@ -5,11 +5,13 @@
 
 mod applying;
 mod boxes;
+mod buckets;
 mod error;
 mod lists;
 mod lives;
 mod looks;
 mod moves;
+mod numbers;
 mod orderer;
 mod passes;
 mod progress;

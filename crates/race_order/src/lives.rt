@@ -12,10 +12,11 @@ ghost use Rattle.race_order.specs.declared.roles.QueueRole.{QueueRole as ARole};
 ghost use Rattle.race_order.specs.Tables.{same_role, sets_have, AreOf};
 ghost use Rattle.race_order.specs.Lives.{acked_by, acks, reads_of, goes_in, is_touched, moved, own_has, HaveRoom, AreWithin, AreOutstanding, touch_brings};
 
+use crate::buckets::copy_of;
 use crate::error::OrderError;
 use crate::progress::{Progress, done_elements, step_on};
 use crate::roles::QueueRole;
-use crate::sets::{Sets, copy_of};
+use crate::sets::Sets;
 use cell_base::Step;
 use cell_machine::Note;
 use order_sets::{Fact, Known};

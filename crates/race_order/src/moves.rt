@@ -7,9 +7,10 @@ ghost use Rattle.order_sets.specs.Stands.{has_at};
 ghost use Rattle.race_order.specs.declared.roles.QueueRole.{QueueRole as ARole};
 ghost use Rattle.race_order.specs.Tables.{row_has, sets_have, AreOf, AreRowsOf, moves_to};
 
+use crate::buckets::Row;
 use crate::error::OrderError;
 use crate::roles::QueueRole;
-use crate::sets::{Row, Sets};
+use crate::sets::Sets;
 use order_sets::Known;
 use std::alloc::Global;
 

@@ -22,11 +22,12 @@ ghost use Rattle.race_order.specs.Tables.{sets_have, AreOf};
 
 use crate::applying::apply;
 use crate::boxes::Boxes;
+use crate::buckets::copy_of;
 use crate::error::OrderError;
 use crate::lists::{find_issue, fixes, into, issues, looked};
 use crate::lives::{Live, all_after, outstanding};
 use crate::progress::begin;
-use crate::sets::{Sets, copy_of};
+use crate::sets::Sets;
 use crate::stamps::{fact, name};
 use cell_base::Step;
 use cell_machine::{Effect, Note};

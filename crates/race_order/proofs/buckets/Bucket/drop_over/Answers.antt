@@ -4,7 +4,7 @@ use Rattle.std.proofs.lemmas.Fn.{filter_same}
 use Rattle.race_order.specs.Passes.{is_over}
 use Rattle.race_order.specs.Tables.{row_has}
 use Rattle.race_order.proofs.SameRoles.{rows_dropped}
-use Rattle.race_order.proofs.sets.Sets.drop_over.Goals as goal
+use Rattle.race_order.proofs.buckets.Bucket.drop_over.Goals as goal
 
 pub returns-clause-has : goal.returns-clause-has
 returns-clause-has c =

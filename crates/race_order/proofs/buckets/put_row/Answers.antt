@@ -4,7 +4,7 @@ use Rattle.race_order.specs.Tables.{same_role}
 use Rattle.race_order.specs.Tables.{row_has}
 use Rattle.race_order.proofs.SameRole.{and_or}
 use Rattle.race_order.proofs.SameRoles.{same_role_is}
-use Rattle.race_order.proofs.sets.put_row.Goals as goal
+use Rattle.race_order.proofs.buckets.put_row.Goals as goal
 
 pub returns-clause-has : goal.returns-clause-has
 returns-clause-has c = λ r at.

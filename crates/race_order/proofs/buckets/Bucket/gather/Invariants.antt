@@ -3,7 +3,7 @@ use Rattle.std.specs.List.{list_any}
 use Rattle.order_sets.specs.declared.facts.At.{At}
 use Rattle.order_sets.specs.Stands.{has_at}
 use Rattle.race_order.specs.Tables.{row_has}
-use Rattle.race_order.proofs.sets.Sets.gather.Given as goal
+use Rattle.race_order.proofs.buckets.Bucket.gather.Given as goal
 
 abbrev pub invariant-loop-row : goal.invariant-loop-row
 invariant-loop-row l = record {
