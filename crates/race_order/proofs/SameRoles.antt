@@ -1,5 +1,5 @@
 -- Two roles of the queue are one.
-use Rattle.std.proofs.Common.{◌≡◌, Bool, true, false, not, ◌||◌, List, filter, refl, sym, ap, ap₂, subst}
+use Rattle.std.proofs.Common.{◌≡◌, Bool, true, false, not, ◌||◌, List, [], ◌∷◌, ◌∙◌, ◌&&◌, filter, refl, sym, ap, ap₂, subst}
 use Rattle.std.specs.List.{list_any}
 use Rattle.std.proofs.lemmas.Bool.{and_from, and_parts, eqb-true, eq-eqb}
 use Rattle.race_order.specs.declared.roles.Class.{Class}
@@ -62,3 +62,15 @@ rows_dropped over r at rows q =
   where
     gone : (row : Row) → not (over row.role) ≡ false → row_has r at row ≡ true → over r ≡ true
     gone row e h = let a = and_parts (same_role row.role r) (has_at row.known at) h in subst (λ x. over x ≡ true) (same_role_is r row.role a.0) (not_false (over row.role) e)
+
+-- a role without a row has the empty set
+pub none_has : (r : QueueRole) (at : At) (rows : List Row) → list_any (λ row. same_role row.role r) rows ≡ false → list_any (row_has r at) rows ≡ false
+none_has r at [] e = refl
+none_has r at (row ∷ rows) e = by (same_role row.role r) refl (λ f. none_has r at rows f)
+  where
+    never : true ≡ false → {X : Type 0} → X
+    never f = absurd cc
+
+    by : (b : Bool) → same_role row.role r ≡ b → (list_any (λ row. same_role row.role r) rows ≡ false → list_any (row_has r at) rows ≡ false) → list_any (row_has r at) (row ∷ rows) ≡ false
+    by true q rest = never (sym (ap (λ b. b || list_any (λ row. same_role row.role r) rows) q) ∙ e)
+    by false q rest = ap (λ b. (b && has_at row.known at) || list_any (row_has r at) rows) q ∙ rest (sym (ap (λ b. b || list_any (λ row. same_role row.role r) rows) q) ∙ e)

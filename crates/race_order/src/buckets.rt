@@ -1,6 +1,7 @@
 //! Sets of known steps that are searched one after the other.
 
 ghost use Rattle.std.specs.Prelude.{◌≡◌, ℕ, ◌+◌, ◌*◌, ◌≤◌, ◌||◌, ◌&&◌, IfOk, OnOk, length, [], true, false};
+ghost use Rattle.std.specs.List.{list_any};
 ghost use Rattle.order_sets.specs.declared.facts.At.{At};
 ghost use Rattle.order_sets.specs.Stands.{has_at};
 ghost use Rattle.race_order.specs.declared.roles.QueueRole.{QueueRole as ARole};
@@ -85,6 +86,13 @@ impl Bucket {
         Bucket {
             rows: Vec::new(alloc),
         }
+    }
+
+    /// Whether the role has a set; else its set is empty.
+    pub(crate) fn holds(&self, role: QueueRole) -> bool
+        ensures { result ≡ list_any (λ row. same_role row.role role) self.now.rows.items }
+    {
+        self.rows.iter().any(|row| is_role(row.role, role))
     }
 
     /// Adds to the known steps what the role's set has.

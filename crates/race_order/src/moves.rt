@@ -21,6 +21,27 @@ pub(crate) struct Move {
     pub(crate) to: QueueRole,
 }
 
+/// Adds what the move brings, where there is a set that it brings.
+fn push_gathered(
+    alloc: Global,
+    sets: &Sets,
+    spes: u8,
+    rows: &mut Vec<Row>,
+    m: &Move,
+) -> Result<(), OrderError>
+    requires sets { AreOf (3 * spes + 1) sets.now }
+    requires rows { AreRowsOf (3 * spes + 1) rows.old.items }
+    ensures has { OnOk result ((r : ARole) (at : At) → list_any (row_has r at) rows.new.items ≡ (list_any (row_has r at) rows.old.items || moves_to sets.now r at m.now)) }
+    ensures chains { OnOk result (AreRowsOf (3 * spes + 1) rows.new.items) }
+{
+    if sets.holds(m.from) {
+        let mut known = Known::new(alloc, spes)?;
+        sets.gather(m.from, &mut known)?;
+        rows.push(Row { role: m.to, known })?;
+    }
+    Ok(())
+}
+
 /// What the moves bring, before any is made.
 fn gathered(alloc: Global, sets: &Sets, spes: u8, moves: &[Move]) -> Result<Vec<Row>, OrderError>
     requires { AreOf (3 * spes + 1) sets.now }
@@ -29,9 +50,7 @@ fn gathered(alloc: Global, sets: &Sets, spes: u8, moves: &[Move]) -> Result<Vec<
 {
     let mut rows = Vec::new(alloc);
     for m in moves {
-        let mut known = Known::new(alloc, spes)?;
-        sets.gather(m.from, &mut known)?;
-        rows.push(Row { role: m.to, known })?;
+        push_gathered(alloc, sets, spes, &mut rows, m)?;
     }
     Ok(rows)
 }

@@ -49,6 +49,14 @@ impl Sets {
         Ok(())
     }
 
+    /// Whether the role has a set; else its set is empty.
+    pub(crate) fn holds(&self, role: QueueRole) -> bool
+        ensures { result ≡ false → (at : At) → sets_have self.now role at ≡ false }
+    {
+        let k = number(role) as usize;
+        k < self.buckets.len() && self.buckets[k].holds(role)
+    }
+
     /// Adds to the known steps what the role's set has.
     pub(crate) fn gather(&self, role: QueueRole, known: &mut Known) -> Result<(), OrderError>
         requires { AreOf (length known.old.ends.items) self.now }
