@@ -1,0 +1,483 @@
+-- The passes make the sets what they have to become.
+use Rattle.std.proofs.Common.{◌≡◌, ℕ, ◌+◌, ◌*◌, ◌<◌, ◌≤◌, ◌==◌, Bool, true, false, ◌&&◌, ◌||◌, List, [], ◌∷◌, ◌++◌, length, take, Option, Some, None, ◌⊎◌, inl, inr, refl, sym, ap, ap₂, ◌∙◌, subst, subst₂, arith}
+use Rattle.std.specs.Prelude.{nat_lt, if◌then◌else◌}
+use Rattle.std.specs.List.{list_any}
+use Rattle.std.proofs.lemmas.Bool.{or_cases, or_left, or_right, and_from, and_parts, both_ways, eqb-true, eq-eqb, ltb-true, lt-ltb}
+use Rattle.order_sets.specs.declared.facts.At.{At}
+use Rattle.order_sets.specs.declared.facts.Fact.TheVariants.{Whole, Elements}
+use Rattle.order_sets.specs.Facts.{covers}
+use Rattle.cell_base.specs.declared.steps.Step.{Step}
+use Rattle.cell_base.specs.declared.steps.Step.TheVariants.{Exec, Elem}
+use Rattle.mfc_command.specs.declared.command.Command.{Command}
+use Rattle.cell_machine.specs.declared.effect.Note.{Note}
+use Rattle.cell_machine.specs.declared.effect.Note.TheVariants.{Ack}
+use Rattle.mfc_command.specs.Order.{precedes}
+use Rattle.race_order.specs.declared.progress.Progress.{Progress}
+use Rattle.race_order.specs.Trace.{Event, Trace, IsStepOf, is_of}
+use Rattle.race_order.specs.Status.{status, next_status, stepped, begun, elements_done}
+use Rattle.race_order.specs.Queue.{Has, Before, ReadsElement}
+use Rattle.race_order.specs.declared.roles.Role.{Role}
+use Rattle.race_order.specs.Roles.{write_roles, is_among as is_among_base}
+use Rattle.race_order.specs.Orderly.{IsOrderly}
+use Rattle.race_order.proofs.Places.{get_last, longer, take_before}
+use Rattle.race_order.specs.declared.lives.Live.{Live}
+use Rattle.race_order.specs.declared.moves.Move.{Move}
+use Rattle.race_order.specs.declared.roles.Class.{Class}
+use Rattle.race_order.specs.declared.roles.Class.TheVariants.{Tag}
+use Rattle.race_order.specs.declared.roles.QueueRole.{QueueRole}
+use Rattle.race_order.specs.declared.roles.QueueRole.TheVariants.{Base, Waits, Complete, Fixed, Stalled}
+use Rattle.race_order.specs.Premises.{MayStep, QueueMay, IsQueued}
+use Rattle.race_order.specs.Sources.{is_in, IsKept, IsOwn, HaveOwn}
+use Rattle.race_order.proofs.Nexts.{Completes, Stalls, GoesInto, after}
+use Rattle.race_order.proofs.Local.{Touches, WaitsLocal, Stays, Itself, AtIssue, FromEarlier, Own, CompleteLocal, WasComplete, IsNow, FixedLocal, WasFixed, FixedNow, StalledLocal, WasStalled, StalledNow, AreLocal}
+use Rattle.race_order.specs.Lives.{is_touched, goes_in, own_has, moved, acks, acked_by, reads_of, ShowsLives, touch_brings}
+use Rattle.race_order.specs.Passes.{View, is_ahead, brings, with_into}
+use Rattle.race_order.specs.Tables.{is_among}
+use Rattle.race_order.proofs.Passed.{Picked, picked}
+use Rattle.race_order.proofs.Statuses.{stepped_steps, done_le}
+use Rattle.race_order.proofs.Histories.{status_next, same_progress, Later, later_at, read_there, valid_at, Came, Newly, Kept, Moved, came}
+use Rattle.race_order.proofs.Elements.{step_of, may_at}
+use Rattle.race_order.proofs.Keeping.{stepped_issue, issued_now}
+use Rattle.race_order.proofs.Locals.{completes_touched, stalls_touched}
+use Rattle.race_order.proofs.Wholes.{earlier_has}
+use Rattle.race_order.proofs.Causes.{AreLists, IsFix, t2, t3, t4, t5, t6, In, Cause, CStay, CInto, CTouch, CIssue, CClass, CWaits, CStall, CFixed, cause, up0, up2, up3, up4, up5, up_into, up_touch, up_issue, up_class, up_waits, up_stall, up_fixed}
+
+bool_iff : (x y : Bool) → (x ≡ true → y ≡ true) → (y ≡ true → x ≡ true) → x ≡ y
+bool_iff true true f g = refl
+bool_iff true false f g = sym (f refl)
+bool_iff false true f g = g refl
+bool_iff false false f g = refl
+
+reads_is : (p c : ℕ) (step : Step) → reads_of p c step ≡ true → step ≡ Elem p c
+reads_is p c (Elem q d) e = let a = and_parts (q == p) (d == c) e in ap₂ Elem (eqb-true q p a.0) (eqb-true d c a.1)
+reads_is p c _ e = cc
+
+ack_is : (s : Progress) (note : Note) → acked_by s note ≡ true → (s.stalled ≡ true) × (note ≡ Ack s.command.tag)
+ack_is s (Ack tag) e = let a = and_parts s.stalled (tag == s.command.tag) e in (a.0, ap Ack (eqb-true tag s.command.tag a.1))
+ack_is s _ e = cc
+
+acks_is : (p : ℕ) (s : Progress) (step : Step) (note : Note) → acks p s step note ≡ true → (step ≡ Exec p) × (s.stalled ≡ true) × (note ≡ Ack s.command.tag)
+acks_is p s (Exec q) note e = let a = and_parts (q == p) (acked_by s note) e in let b = ack_is s note a.1 in (ap Exec (eqb-true q p a.0), b.0, b.1)
+acks_is p s _ note e = cc
+
+acks_from : (p : ℕ) (s : Progress) (step : Step) (note : Note) → step ≡ Exec p → s.stalled ≡ true → note ≡ Ack s.command.tag → acks p s step note ≡ true
+acks_from p s step note f g h =
+    subst (λ x. acks p s x note ≡ true) (sym f) (and_from (p == p) _ (eq-eqb p p refl) (subst (λ y. acked_by s y ≡ true) (sym h) (and_from s.stalled _ g (eq-eqb s.command.tag s.command.tag refl))))
+
+module _ (n : ℕ) (trace : Trace) (e : Event) (orderly : IsOrderly n (trace ++ (e ∷ []))) (queued : IsQueued (trace ++ (e ∷ []))) (known : At → Bool) (lives : List Live) (shows : ShowsLives lives trace) (sets : View) (have : HaveOwn n sets trace) (into : List QueueRole) (issue fix : List Move) (lists : AreLists trace e into issue fix) where
+  abbrev T : Trace
+  T = trace ++ (e ∷ [])
+
+  abbrev final : View
+  final = t6 n trace e known lives sets into issue fix lists
+
+  abbrev InLives : Live → Type 0
+  InLives l = In n trace e known lives sets into issue fix lists l
+
+  abbrev next_of : Live → Live
+  next_of l = moved l e.step e.effect.note
+
+  may : QueueMay trace e
+  may = subst (λ t. QueueMay t e) (take_before trace e) (queued (length trace) e (get_last trace e))
+
+  live_has : (l : Live) → InLives l → Has trace l.spe l.cmd l.progress × (l.progress.done ≡ false)
+  live_has l i = shows.sound i.place l i.at
+
+  next_has : (l : Live) → InLives l → Has T l.spe l.cmd (next_of l).progress
+  next_has l i =
+      let h = live_has l i in
+      record { is = status_next l.spe l.cmd trace e ∙ (ap (λ o. next_status l.spe l.cmd o e) h.0.is ∙ ap (λ (b : Bool). Some (if b then l.progress else stepped l.spe l.cmd l.progress e.step e.effect.note)) h.1) }
+
+  find : (p c : ℕ) (s : Progress) → Has trace p c s → s.done ≡ false → InLives record { spe = p; cmd = c; progress = s }
+  find p c s h d = let f = shows.full p c s h d in record { place = f.0; at = f.1 }
+
+  touches_of : (l : Live) → InLives l → is_touched l e.step e.effect.note ≡ true → Touches trace e l.spe l.cmd
+  touches_of l i x = by (or_cases (is_of l.spe l.cmd e.step) (acks l.spe l.progress e.step e.effect.note) x)
+    where
+      by : (is_of l.spe l.cmd e.step ≡ true) ⊎ (acks l.spe l.progress e.step e.effect.note ≡ true) → Touches trace e l.spe l.cmd
+      by (inl y) = inl y
+      by (inr y) = let a = acks_is l.spe l.progress e.step e.effect.note y in inr (inr record { progress = l.progress; has = (live_has l i).0; stalled = a.1; is = a.0; notes = a.2 })
+
+  goes_of : (l : Live) → InLives l → goes_in l e.step e.effect.note ≡ true → GoesInto trace e l.spe l.cmd
+  goes_of l i x = by (or_cases (reads_of l.spe l.cmd e.step) (acks l.spe l.progress e.step e.effect.note) x)
+    where
+      by : (reads_of l.spe l.cmd e.step ≡ true) ⊎ (acks l.spe l.progress e.step e.effect.note ≡ true) → GoesInto trace e l.spe l.cmd
+      by (inl y) = inr (inl (reads_is l.spe l.cmd e.step y))
+      by (inr y) = let a = acks_is l.spe l.progress e.step e.effect.note y in inr (inr record { progress = l.progress; has = (live_has l i).0; stalled = a.1; is = a.0; notes = a.2 })
+
+  abbrev completes_of : (l : Live) → InLives l → (next_of l).progress.done ≡ true → Completes trace e l.spe l.cmd
+  completes_of l i d =
+      let h = live_has l i in
+      record { progress = (next_of l).progress; now = record { has = next_has l i; done = d }; before = λ s g. subst (λ (v : Progress). v.done ≡ false) (same_progress trace l.spe l.cmd l.progress s h.0 g) h.1 }
+
+  -- a command that is complete now is in the list, and its progress after the step is that of the list
+  record Held (p c : ℕ) (t : Progress) : Type 0 where
+    was : Progress
+    has : Has trace p c was
+    live : was.done ≡ false
+    becomes : (next_of record { spe = p; cmd = c; progress = was }).progress ≡ t
+
+  held_by : (p c : ℕ) (s t : Progress) → Has trace p c s → s.done ≡ false → Has T p c t → Held p c t
+  held_by p c s t h d g = record { was = s; has = h; live = d; becomes = same_progress T p c (next_of record { spe = p; cmd = c; progress = s }).progress t (next_has record { spe = p; cmd = c; progress = s } (find p c s h d)) g }
+
+  completes_held : (p c : ℕ) (x : Completes trace e p c) → Held p c x.progress
+  completes_held p c x = by (came trace e p c x.progress x.now.has)
+    where
+      never : false ≡ true → ⊥
+      never y = cc
+
+      by : Came trace e p c x.progress → Held p c x.progress
+      by (Newly a f g z) = absurd (never (ap (λ (v : Progress). v.done) (sym z) ∙ x.now.done))
+      by (Kept s h d same) = absurd (both_ways _ (x.before s h) d)
+      by (Moved s h live f st) = held_by p c s x.progress h live x.now.has
+
+  -- two commands of which one goes before the other are not complete by one step
+  no_two : (p c d : ℕ) → Completes trace e p c → Completes trace e p d → Before T p c d → ⊥
+  no_two p c d x y b = by (completes_touched trace e p d y)
+    where
+      hc : Held p c x.progress
+      hc = completes_held p c x
+
+      hd : Held p d y.progress
+      hd = completes_held p d y
+
+      command_c : hc.was.command ≡ b.first.command
+      command_c = sym (ap (λ (v : Progress). v.command) (same_progress T p c b.first x.progress b.first_is x.now.has ∙ sym hc.becomes) ∙ (stepped_steps p c hc.was hc.live e.step e.effect.note).grows.command)
+
+      command_d : hd.was.command ≡ b.second.command
+      command_d = sym (ap (λ (v : Progress). v.command) (same_progress T p d b.second y.progress b.second_is y.now.has ∙ sym hd.becomes) ∙ (stepped_steps p d hd.was hd.live e.step e.effect.note).grows.command)
+
+      goes : precedes hc.was.command hd.was.command ≡ true
+      goes = subst₂ (λ (x y : Command). precedes x y ≡ true) (sym command_c) (sym command_d) b.goes
+
+      clash : (s : Progress) → Has trace p c s → s.done ≡ true → ⊥
+      clash s h dn = both_ways _ hc.live (ap (λ (v : Progress). v.done) (same_progress trace p c hc.was s hc.has h) ∙ dn)
+
+      front : take (length trace) T ≡ trace
+      front = take_before trace e
+
+      at_step : (k : ℕ) → k < length trace → IsStepOf T k p d → ⊥
+      at_step k low st =
+          let l0 : length T ≡ length trace + 1 = longer trace e in
+          let m : MayStep (take k T) p d st.event.step st.event.effect.note = may_at T queued k p d st in
+          let f : (s : Progress) × Has (take k T) p c s = early b.lower k st in
+          let fc : Later (take (length trace) T) p c f.0 = later_at T p c k (length trace) f.0 (omega arith) (omega arith) f.1 in
+          let fd : Later (take (length trace) T) p d m.progress = later_at T p d k (length trace) m.progress (omega arith) (omega arith) m.has in
+          let sc : fc.progress ≡ hc.was = same_progress trace p c fc.progress hc.was (subst (λ t. Has t p c fc.progress) front fc.has) hc.has in
+          let sd : fd.progress ≡ hd.was = same_progress trace p d fd.progress hd.was (subst (λ t. Has t p d fd.progress) front fd.has) hd.has in
+          let gc : hc.was.command ≡ f.0.command = ap (λ (v : Progress). v.command) (sym sc) ∙ fc.grows.command in
+          let gd : hd.was.command ≡ m.progress.command = ap (λ (v : Progress). v.command) (sym sd) ∙ fd.grows.command in
+          let dn : f.0.done ≡ true = m.first c f.0 b.lower f.1 (subst₂ (λ (x y : Command). precedes x y ≡ true) gc gd goes) in
+          both_ways _ hc.live (ap (λ (v : Progress). v.done) (sym sc ∙ fc.frozen dn) ∙ dn)
+        where
+          early : c < d → (k : ℕ) → IsStepOf T k p d → (s : Progress) × Has (take k T) p c s
+          early low k st = earlier_has T queued n orderly p c d k low st
+
+      by : Touches trace e p d → ⊥
+      by (inl of) =
+          let m : MayStep trace p d e.step e.effect.note = may.step p d of in
+          let same : m.progress ≡ hd.was = same_progress trace p d m.progress hd.was m.has hd.has in
+          both_ways _ hc.live (m.first c hc.was b.lower hc.has (subst (λ (v : Progress). precedes hc.was.command v.command ≡ true) (sym same) goes))
+      by (inr (inl h)) = none (status p d trace) hd.was ((may.issue p d h.0 h.1.is h.1.notes).0.above d (omega arith)) hd.has.is
+        where
+          none : (o : Option Progress) (t : Progress) → o ≡ None → o ≡ Some t → ⊥
+          none o t u v = cc
+      by (inr (inr a)) =
+          let some : 0 < a.progress.read = (valid_at trace p d a.progress a.has).listed a.stalled in
+          let l0 : length T ≡ length trace + 1 = longer trace e in
+          let r : (k : ℕ) × (k < length trace) × ReadsElement T k p d 0 = read_there T p d (length trace) a.progress 0 (omega arith) (subst (λ t. Has t p d a.progress) (sym front) a.has) some in
+          at_step r.0 r.1 (step_of T queued r.0 p d r.2.step)
+
+  never : false ≡ true → ⊥
+  never y = cc
+
+  up6 : (r : QueueRole) (a : At) → t3 n trace e known lives sets into issue fix lists r a ≡ true → final r a ≡ true
+  up6 r a x = up3 n trace e known lives sets into issue fix lists r a x
+
+  from2 : (r : QueueRole) (a : At) → t2 n trace e known lives sets into issue fix lists r a ≡ true → t3 n trace e known lives sets into issue fix lists r a ≡ true
+  from2 r a x = up2 n trace e known lives sets into issue fix lists r a x
+
+  touch3 : (l : Live) (a : At) → InLives l → is_touched l e.step e.effect.note ≡ true → ((goes_in l e.step e.effect.note ≡ true) × (after n trace e known a ≡ true)) ⊎ (own_has n (next_of l) a ≡ true) → t3 n trace e known lives sets into issue fix lists (Waits l.spe l.cmd) a ≡ true
+  touch3 l a i x w = from2 (Waits l.spe l.cmd) a (up_touch n trace e known lives sets into issue fix lists l a i x (what w))
+    where
+      what : ((goes_in l e.step e.effect.note ≡ true) × (after n trace e known a ≡ true)) ⊎ (own_has n (next_of l) a ≡ true) → ((goes_in l e.step e.effect.note && after n trace e known a) || own_has n (next_of l) a) ≡ true
+      what (inl y) = or_left _ _ (and_from _ _ y.0 y.1)
+      what (inr y) = or_right _ _ y
+
+  before_of : (l d : Live) → InLives l → InLives d → is_ahead (next_of l) (next_of d) ≡ true → (l.spe ≡ d.spe) × Before T l.spe l.cmd d.cmd
+  before_of l d i j x =
+      let a = and_parts (l.spe == d.spe) (nat_lt l.cmd d.cmd && precedes (next_of l).progress.command (next_of d).progress.command) x in
+      let b = and_parts (nat_lt l.cmd d.cmd) (precedes (next_of l).progress.command (next_of d).progress.command) a.1 in
+      let q : l.spe ≡ d.spe = eqb-true l.spe d.spe a.0 in (
+        q,
+        record { lower = ltb-true _ _ b.0; first = (next_of l).progress; second = (next_of d).progress; first_is = next_has l i; second_is = subst (λ p. Has T p d.cmd (next_of d).progress) (sym q) (next_has d j); goes = b.1 },
+      )
+
+  -- what a Waits set has in the end it had before the sets of complete commands went out
+  down : (p c : ℕ) (a : At) → Completes trace e p c → final (Waits p c) a ≡ true → t3 n trace e known lives sets into issue fix lists (Waits p c) a ≡ true
+  down p c a x t = by (cause n trace e known lives sets into issue fix lists (Waits p c) a t)
+    where
+      by : Cause n trace e known lives sets into issue fix lists (Waits p c) a → t3 n trace e known lives sets into issue fix lists (Waits p c) a ≡ true
+      by (CStay y) = from2 (Waits p c) a (up0 n trace e known lives sets into issue fix lists (Waits p c) a y)
+      by (CInto y z) = from2 (Waits p c) a (up_into n trace e known lives sets into issue fix lists (Waits p c) a y z)
+      by (CTouch l i y q w) = subst (λ r. t3 n trace e known lives sets into issue fix lists r a ≡ true) (sym q) (touch3 l a i y w)
+      by (CIssue p' d' command class h g q y) = subst (λ r. t3 n trace e known lives sets into issue fix lists r a ≡ true) (sym q) (up_issue n trace e known lives sets into issue fix lists p' d' command class a h g y)
+      by (CClass l class i d' of q y) = cc
+      by (CWaits l d' i j dn ah q y) =
+          let b = before_of l d' i j ah in
+          let sp : p ≡ d'.spe = cc in
+          let sc : c ≡ d'.cmd = cc in
+          absurd
+          (no_two p l.cmd c (subst (λ v. Completes trace e v l.cmd) (b.0 ∙ sym sp) (completes_of l i dn)) x
+          (subst₂ (λ v w. Before T v l.cmd w) (b.0 ∙ sym sp) (sym sc) b.1))
+      by (CStall l i s1 s2 q y) = cc
+      by (CFixed p' tag low f q y) = cc
+
+  -- and before lists were stalled and statuses fixed
+  down4 : (p c : ℕ) (a : At) → final (Waits p c) a ≡ true → t4 n trace e known lives sets into issue fix lists (Waits p c) a ≡ true
+  down4 p c a t = by (cause n trace e known lives sets into issue fix lists (Waits p c) a t)
+    where
+      from3 : (r : QueueRole) → t3 n trace e known lives sets into issue fix lists r a ≡ true → t4 n trace e known lives sets into issue fix lists r a ≡ true
+      from3 r x = or_left (t3 n trace e known lives sets into issue fix lists r a) _ x
+
+      by : Cause n trace e known lives sets into issue fix lists (Waits p c) a → t4 n trace e known lives sets into issue fix lists (Waits p c) a ≡ true
+      by (CStay y) = from3 (Waits p c) (from2 (Waits p c) a (up0 n trace e known lives sets into issue fix lists (Waits p c) a y))
+      by (CInto y z) = from3 (Waits p c) (from2 (Waits p c) a (up_into n trace e known lives sets into issue fix lists (Waits p c) a y z))
+      by (CTouch l i y q w) = from3 (Waits p c) (subst (λ r. t3 n trace e known lives sets into issue fix lists r a ≡ true) (sym q) (touch3 l a i y w))
+      by (CIssue p' d' command class h g q y) = from3 (Waits p c) (subst (λ r. t3 n trace e known lives sets into issue fix lists r a ≡ true) (sym q) (up_issue n trace e known lives sets into issue fix lists p' d' command class a h g y))
+      by (CClass l class i d' of q y) = cc
+      by (CWaits l d' i j dn ah q y) = subst (λ r. t4 n trace e known lives sets into issue fix lists r a ≡ true) (sym q) (up_waits n trace e known lives sets into issue fix lists l d' a i j dn ah y)
+      by (CStall l i s1 s2 q y) = cc
+      by (CFixed p' tag low f q y) = cc
+
+  -- a step changes no Complete set before commands are complete
+  complete2 : (p : ℕ) (class : Class) (a : At) → t2 n trace e known lives sets into issue fix lists (Complete p class) a ≡ true → sets (Complete p class) a ≡ true
+  complete2 p class a x = by (or_cases (with_into into (after n trace e known) sets (Complete p class) a) (list_any (touch_brings n e.step e.effect.note (after n trace e known) (Complete p class) a) lives) x)
+    where
+      first : (sets (Complete p class) a ≡ true) ⊎ ((is_among (Complete p class) into && after n trace e known a) ≡ true) → sets (Complete p class) a ≡ true
+      first (inl y) = y
+      first (inr y) = absurd (lists.complete p class (and_parts (is_among (Complete p class) into) (after n trace e known a) y).0)
+
+      by : (with_into into (after n trace e known) sets (Complete p class) a ≡ true) ⊎ (list_any (touch_brings n e.step e.effect.note (after n trace e known) (Complete p class) a) lives ≡ true) → sets (Complete p class) a ≡ true
+      by (inl y) = first (or_cases (sets (Complete p class) a) (is_among (Complete p class) into && after n trace e known a) y)
+      by (inr y) = touched (picked (touch_brings n e.step e.effect.note (after n trace e known) (Complete p class) a) lives y)
+        where
+          touched : Picked (touch_brings n e.step e.effect.note (after n trace e known) (Complete p class) a) lives → sets (Complete p class) a ≡ true
+          touched q = let u = and_parts (is_touched q.one e.step e.effect.note) (false && ((goes_in q.one e.step e.effect.note && after n trace e known a) || own_has n (next_of q.one) a)) q.passes in absurd (never u.1)
+
+  complete5 : (p : ℕ) (class : Class) (a : At) → final (Complete p class) a ≡ true → t5 n trace e known lives sets into issue fix lists (Complete p class) a ≡ true
+  complete5 p class a x = by (or_cases (t5 n trace e known lives sets into issue fix lists (Complete p class) a) (list_any (brings (t5 n trace e known lives sets into issue fix lists) (Complete p class) a) fix) x)
+    where
+      by : (t5 n trace e known lives sets into issue fix lists (Complete p class) a ≡ true) ⊎ (list_any (brings (t5 n trace e known lives sets into issue fix lists) (Complete p class) a) fix ≡ true) → t5 n trace e known lives sets into issue fix lists (Complete p class) a ≡ true
+      by (inl y) = y
+      by (inr y) = fixed ((lists.fixes (brings (t5 n trace e known lives sets into issue fix lists) (Complete p class) a)).0 y)
+        where
+          fixed : IsFix e (brings (t5 n trace e known lives sets into issue fix lists) (Complete p class) a) → t5 n trace e known lives sets into issue fix lists (Complete p class) a ≡ true
+          fixed i = absurd (never i.passes)
+
+  base_is : (w : Role) (a : At) → final (Base w) a ≡ (sets (Base w) a || (is_among_base w (write_roles trace e) && after n trace e known a))
+  base_is w a = bool_iff _ _ (λ t. to (cause n trace e known lives sets into issue fix lists (Base w) a t)) (λ t. from (or_cases (sets (Base w) a) (is_among_base w (write_roles trace e) && after n trace e known a) t))
+    where
+      to : Cause n trace e known lives sets into issue fix lists (Base w) a → (sets (Base w) a || (is_among_base w (write_roles trace e) && after n trace e known a)) ≡ true
+      to (CStay y) = or_left _ _ y
+      to (CInto y z) = or_right _ _ (and_from _ _ ((lists.base w).0 y) z)
+      to (CTouch l i y q u) = cc
+      to (CIssue p' d' command class h g q y) = cc
+      to (CClass l class i d' of q y) = cc
+      to (CWaits l d' i j dn ah q y) = cc
+      to (CStall l i s1 s2 q y) = cc
+      to (CFixed p' tag low f q y) = cc
+
+      from : (sets (Base w) a ≡ true) ⊎ ((is_among_base w (write_roles trace e) && after n trace e known a) ≡ true) → final (Base w) a ≡ true
+      from (inl y) = up6 (Base w) a (from2 (Base w) a (up0 n trace e known lives sets into issue fix lists (Base w) a y))
+      from (inr y) = let u = and_parts (is_among_base w (write_roles trace e)) (after n trace e known a) y in up6 (Base w) a (from2 (Base w) a (up_into n trace e known lives sets into issue fix lists (Base w) a ((lists.base w).1 u.0) u.1))
+
+  -- what is done of a command that stands in the list
+  own_from : (l : Live) (a : At) → InLives l → IsOwn n T l.spe l.cmd a → own_has n (next_of l) a ≡ true
+  own_from l a i o = by o.over
+    where
+      same : o.progress ≡ (next_of l).progress
+      same = same_progress T l.spe l.cmd o.progress (next_of l).progress o.has (next_has l i)
+
+      chain : (a.chain == 2 * n + l.spe) ≡ true
+      chain = eq-eqb a.chain (2 * n + l.spe) o.chain
+
+      cmd : (a.cmd == l.cmd) ≡ true
+      cmd = eq-eqb a.cmd l.cmd o.cmd
+
+      by : (o.progress.done ≡ true) ⊎ (a.elem < elements_done o.progress) → own_has n (next_of l) a ≡ true
+      by (inl d) = or_right (covers (Elements (2 * n + l.spe) l.cmd (elements_done (next_of l).progress)) a) _ (and_from _ _ (ap (λ (v : Progress). v.done) (sym same) ∙ d) (and_from _ _ chain cmd))
+      by (inr d) = or_left _ _ (and_from _ _ chain (and_from _ _ cmd (lt-ltb _ _ (subst (λ v. a.elem < elements_done v) same d))))
+
+  own_to : (l : Live) (a : At) → InLives l → own_has n (next_of l) a ≡ true → IsOwn n T l.spe l.cmd a
+  own_to l a i x = by (or_cases (covers (Elements (2 * n + l.spe) l.cmd (elements_done (next_of l).progress)) a) ((next_of l).progress.done && covers (Whole (2 * n + l.spe) l.cmd) a) x)
+    where
+      by : (covers (Elements (2 * n + l.spe) l.cmd (elements_done (next_of l).progress)) a ≡ true) ⊎ (((next_of l).progress.done && covers (Whole (2 * n + l.spe) l.cmd) a) ≡ true) → IsOwn n T l.spe l.cmd a
+      by (inl y) =
+          let u = and_parts (a.chain == 2 * n + l.spe) (a.cmd == l.cmd && nat_lt a.elem (elements_done (next_of l).progress)) y in
+          let v = and_parts (a.cmd == l.cmd) (nat_lt a.elem (elements_done (next_of l).progress)) u.1 in
+          record { progress = (next_of l).progress; has = next_has l i; chain = eqb-true a.chain (2 * n + l.spe) u.0; cmd = eqb-true a.cmd l.cmd v.0; over = inr (ltb-true _ _ v.1) }
+      by (inr y) =
+          let u = and_parts ((next_of l).progress.done) (a.chain == 2 * n + l.spe && a.cmd == l.cmd) y in
+          let v = and_parts (a.chain == 2 * n + l.spe) (a.cmd == l.cmd) u.1 in
+          record { progress = (next_of l).progress; has = next_has l i; chain = eqb-true a.chain (2 * n + l.spe) v.0; cmd = eqb-true a.cmd l.cmd v.1; over = inl u.0 }
+
+  waits_to : (p d : ℕ) (a : At) → Cause n trace e known lives sets into issue fix lists (Waits p d) a → WaitsLocal n sets final trace e known p d a
+  waits_to p d a (CStay y) = Stays y
+  waits_to p d a (CInto y z) = Itself (inl ((lists.waits p d).0 y)) z
+  waits_to p d a (CTouch l i y q w) = subst₂ (λ v u. WaitsLocal n sets final trace e known v u a) (let f : l.spe ≡ p = cc in f) (let g : l.cmd ≡ d = cc in g) (what w)
+    where
+      what : ((goes_in l e.step e.effect.note ≡ true) × (after n trace e known a ≡ true)) ⊎ (own_has n (next_of l) a ≡ true) → WaitsLocal n sets final trace e known l.spe l.cmd a
+      what (inl u) = Itself (goes_of l i u.0) u.1
+      what (inr u) = Own (touches_of l i y) (own_to l a i u)
+  waits_to p d a (CIssue p' d' command class h g q y) =
+      subst₂ (λ v u. WaitsLocal n sets final trace e known v u a) (let f : p' ≡ p = cc in f) (let k : d' ≡ d = cc in k) (AtIssue command class h g (complete2 p' class a y))
+  waits_to p d a (CClass l class i dn of q y) = cc
+  waits_to p d a (CWaits l d' i j dn ah q y) =
+      let b = before_of l d' i j ah in
+      subst₂ (λ v u. WaitsLocal n sets final trace e known v u a) (let f : d'.spe ≡ p = cc in f) (let k : d'.cmd ≡ d = cc in k)
+      (subst (λ v. WaitsLocal n sets final trace e known v d'.cmd a) b.0
+      (FromEarlier l.cmd (completes_touched trace e l.spe l.cmd (completes_of l i dn)) (completes_of l i dn) b.1 (up6 (Waits l.spe l.cmd) a y)))
+  waits_to p d a (CStall l i s1 s2 q y) = cc
+  waits_to p d a (CFixed p' tag low f q y) = cc
+
+  waits_from : (p d : ℕ) (a : At) → IsKept trace (Waits p d) → WaitsLocal n sets final trace e known p d a → final (Waits p d) a ≡ true
+  waits_from p d a kept (Stays y) = up6 (Waits p d) a (from2 (Waits p d) a (up0 n trace e known lives sets into issue fix lists (Waits p d) a y))
+  waits_from p d a kept (Itself (inl h) z) = up6 (Waits p d) a (from2 (Waits p d) a (up_into n trace e known lives sets into issue fix lists (Waits p d) a ((lists.waits p d).1 h) z))
+  waits_from p d a kept (Itself (inr (inl h)) z) =
+      let of : ((p == p) && (d == d)) ≡ true = and_from _ _ (eq-eqb p p refl) (eq-eqb d d refl) in
+      let m : MayStep trace p d e.step e.effect.note = may.step p d (ap (is_of p d) h ∙ of) in
+      let l : Live = record { spe = p; cmd = d; progress = m.progress } in
+      up6 (Waits p d) a (touch3 l a (find p d m.progress m.has m.live) (or_left _ _ (ap (is_of p d) h ∙ of)) (inl (or_left _ _ (ap (reads_of p d) h ∙ of), z)))
+  waits_from p d a kept (Itself (inr (inr h)) z) =
+      let k : acks p h.progress e.step e.effect.note ≡ true = acks_from p h.progress e.step e.effect.note h.is h.stalled h.notes in
+      let l : Live = record { spe = p; cmd = d; progress = h.progress } in
+      up6 (Waits p d) a (touch3 l a (find p d h.progress h.has (kept h.progress h.has)) (or_right (is_of p d e.step) _ k) (inl (or_right (reads_of p d e.step) _ k, z)))
+  waits_from p d a kept (AtIssue command class h g y) =
+      up6 (Waits p d) a (up_issue n trace e known lives sets into issue fix lists p d command class a h g (up0 n trace e known lives sets into issue fix lists (Complete p class) a y))
+  waits_from p d a kept (FromEarlier c t x b y) = by (came trace e p d b.second b.second_is)
+    where
+      hc : Held p c x.progress
+      hc = completes_held p c x
+
+      lc : Live
+      lc = record { spe = p; cmd = c; progress = hc.was }
+
+      go : Held p d b.second → final (Waits p d) a ≡ true
+      go hd =
+          up4 n trace e known lives sets into issue fix lists (Waits p d) a
+          (up_waits n trace e known lives sets into issue fix lists record { spe = p; cmd = c; progress = hc.was } record { spe = p; cmd = d; progress = hd.was } a (find p c hc.was hc.has hc.live) (find p d hd.was hd.has hd.live)
+          (ap (λ (v : Progress). v.done) hc.becomes ∙ x.now.done)
+          (and_from _ _ (eq-eqb p p refl)
+          (and_from _ _ (lt-ltb c d b.lower)
+          (subst₂ (λ (v w : Progress). precedes v.command w.command ≡ true) (same_progress T p c b.first x.progress b.first_is x.now.has ∙ sym hc.becomes) (sym hd.becomes) b.goes)))
+          (down p c a x y))
+
+      by : Came trace e p d b.second → final (Waits p d) a ≡ true
+      by (Newly u f g z) =
+          let q : x.progress ≡ hc.was = sym hc.becomes ∙ (ap₂ (λ v w. stepped p c hc.was v w) f g ∙ stepped_issue p c p d b.second.command hc.was) in
+          absurd (never (sym hc.live ∙ (ap (λ (v : Progress). v.done) (sym q) ∙ x.now.done)))
+      by (Kept s h dn same) = absurd (both_ways _ (kept s h) dn)
+      by (Moved s h live f st) = go (held_by p d s b.second h live b.second_is)
+  waits_from p d a kept (Own (inl of) o) =
+      let m : MayStep trace p d e.step e.effect.note = may.step p d of in
+      let i : InLives record { spe = p; cmd = d; progress = m.progress } = find p d m.progress m.has m.live in
+      up6 (Waits p d) a (touch3 record { spe = p; cmd = d; progress = m.progress } a i (or_left _ _ of) (inr (own_from record { spe = p; cmd = d; progress = m.progress } a i o)))
+  waits_from p d a kept (Own (inr (inl h)) o) = none o.over
+    where
+      same : o.progress ≡ begun h.0
+      same = same_progress T p d o.progress (begun h.0) o.has (issued_now trace e p d h.0 ((may.issue p d h.0 h.1.is h.1.notes).0.above d (omega arith)) h.1)
+
+      none : (o.progress.done ≡ true) ⊎ (a.elem < elements_done o.progress) → final (Waits p d) a ≡ true
+      none (inl dn) = absurd (never (ap (λ (v : Progress). v.done) (sym same) ∙ dn))
+      none (inr low) =
+          let le : elements_done o.progress ≤ o.progress.read = done_le o.progress in
+          let z : o.progress.read ≡ 0 = ap (λ (v : Progress). v.read) same in
+          absurd (omega arith)
+  waits_from p d a kept (Own (inr (inr h)) o) =
+      let k : acks p h.progress e.step e.effect.note ≡ true = acks_from p h.progress e.step e.effect.note h.is h.stalled h.notes in
+      let i : InLives record { spe = p; cmd = d; progress = h.progress } = find p d h.progress h.has (kept h.progress h.has) in
+      up6 (Waits p d) a (touch3 record { spe = p; cmd = d; progress = h.progress } a i (or_right (is_of p d e.step) _ k) (inr (own_from record { spe = p; cmd = d; progress = h.progress } a i o)))
+
+  complete_to : (p : ℕ) (class : Class) (a : At) → Cause n trace e known lives sets into issue fix lists (Complete p class) a → CompleteLocal sets final trace e p class a
+  complete_to p class a (CStay y) = WasComplete y
+  complete_to p class a (CInto y z) = absurd (lists.complete p class y)
+  complete_to p class a (CTouch l i y q w) = cc
+  complete_to p class a (CIssue p' d' command class' h g q y) = cc
+  complete_to p class a (CClass l class' i dn of q y) =
+      subst₂ (λ v u. CompleteLocal sets final trace e v u a) (let f : l.spe ≡ p = cc in f) (let k : class' ≡ class = cc in k)
+      (IsNow l.cmd (completes_touched trace e l.spe l.cmd (completes_of l i dn)) (completes_of l i dn) of (up6 (Waits l.spe l.cmd) a y))
+  complete_to p class a (CWaits l d' i j dn ah q y) = cc
+  complete_to p class a (CStall l i s1 s2 q y) = cc
+  complete_to p class a (CFixed p' tag low f q y) = cc
+
+  complete_from : (p : ℕ) (class : Class) (a : At) → CompleteLocal sets final trace e p class a → final (Complete p class) a ≡ true
+  complete_from p class a (WasComplete y) = up6 (Complete p class) a (from2 (Complete p class) a (up0 n trace e known lives sets into issue fix lists (Complete p class) a y))
+  complete_from p class a (IsNow c t x of y) =
+      up4 n trace e known lives sets into issue fix lists (Complete p class) a
+      (up_class n trace e known lives sets into issue fix lists record { spe = p; cmd = c; progress = (completes_held p c x).was } class a
+      (find p c (completes_held p c x).was (completes_held p c x).has (completes_held p c x).live)
+      (ap (λ (v : Progress). v.done) (completes_held p c x).becomes ∙ x.now.done) (ap (λ (v : Progress). is_in class v.command) (completes_held p c x).becomes ∙ of) (down p c a x y))
+
+  fixed_to : (p g : ℕ) (a : At) → Cause n trace e known lives sets into issue fix lists (Fixed p g) a → FixedLocal sets final e p g a
+  fixed_to p g a (CStay y) = WasFixed y
+  fixed_to p g a (CInto y z) = absurd (lists.fixed p g y)
+  fixed_to p g a (CTouch l i y q w) = cc
+  fixed_to p g a (CIssue p' d' command class' h k q y) = cc
+  fixed_to p g a (CClass l class' i dn of q y) = cc
+  fixed_to p g a (CWaits l d' i j dn ah q y) = cc
+  fixed_to p g a (CStall l i s1 s2 q y) = cc
+  fixed_to p g a (CFixed p' tag low f q y) =
+      subst₂ (λ v u. FixedLocal sets final e v u a) (let x : p' ≡ p = cc in x) (let k : tag ≡ g = cc in k) (FixedNow f (up5 n trace e known lives sets into issue fix lists (Complete p' (Tag tag)) a y))
+
+  stalls_held : (p c : ℕ) (x : Stalls trace e p c) → Held p c x.progress
+  stalls_held p c x = by (came trace e p c x.progress x.has)
+    where
+      by : Came trace e p c x.progress → Held p c x.progress
+      by (Newly a f g z) = absurd (never (ap (λ (v : Progress). v.stalled) (sym z) ∙ x.stalled))
+      by (Kept s h d same) = absurd (both_ways _ (x.before s h) (ap (λ (v : Progress). v.stalled) (sym same) ∙ x.stalled))
+      by (Moved s h live f st) = held_by p c s x.progress h live x.has
+
+  abbrev stalls_of : (l : Live) → InLives l → l.progress.stalled ≡ false → (next_of l).progress.stalled ≡ true → Stalls trace e l.spe l.cmd
+  stalls_of l i s t =
+      let h = live_has l i in
+      record { progress = (next_of l).progress; has = next_has l i; stalled = t; before = λ u g. subst (λ (v : Progress). v.stalled ≡ false) (same_progress trace l.spe l.cmd l.progress u h.0 g) s }
+
+  same_tag : (l : Live) → InLives l → (next_of l).progress.command.tag ≡ l.progress.command.tag
+  same_tag l i = ap (λ (v : Command). v.tag) (stepped_steps l.spe l.cmd l.progress (live_has l i).1 e.step e.effect.note).grows.command
+
+  stalled_to : (p g : ℕ) (a : At) → Cause n trace e known lives sets into issue fix lists (Stalled p g) a → StalledLocal sets final trace e p g a
+  stalled_to p g a (CStay y) = WasStalled y
+  stalled_to p g a (CInto y z) = absurd (lists.stalled p g y)
+  stalled_to p g a (CTouch l i y q w) = cc
+  stalled_to p g a (CIssue p' d' command class' h k q y) = cc
+  stalled_to p g a (CClass l class' i dn of q y) = cc
+  stalled_to p g a (CWaits l d' i j dn ah q y) = cc
+  stalled_to p g a (CStall l i s1 s2 q y) =
+      subst₂ (λ v u. StalledLocal sets final trace e v u a) (let x : l.spe ≡ p = cc in x) (let k : l.progress.command.tag ≡ g = cc in k)
+      (StalledNow l.cmd (stalls_touched trace e l.spe l.cmd (stalls_of l i s1 s2)) (stalls_of l i s1 s2) (same_tag l i) (up4 n trace e known lives sets into issue fix lists (Waits l.spe l.cmd) a y))
+  stalled_to p g a (CFixed p' tag low f q y) = cc
+
+  stalled_from : (p g : ℕ) (a : At) → StalledLocal sets final trace e p g a → final (Stalled p g) a ≡ true
+  stalled_from p g a (WasStalled y) = up6 (Stalled p g) a (from2 (Stalled p g) a (up0 n trace e known lives sets into issue fix lists (Stalled p g) a y))
+  stalled_from p g a (StalledNow c t x tag y) =
+      let i : InLives record { spe = p; cmd = c; progress = (stalls_held p c x).was } = find p c (stalls_held p c x).was (stalls_held p c x).has (stalls_held p c x).live in
+      let k : (stalls_held p c x).was.command.tag ≡ g = sym (same_tag record { spe = p; cmd = c; progress = (stalls_held p c x).was } i) ∙ (ap (λ (v : Progress). v.command.tag) (stalls_held p c x).becomes ∙ tag) in
+      subst (λ v. final (Stalled p v) a ≡ true) k
+      (up5 n trace e known lives sets into issue fix lists (Stalled p (stalls_held p c x).was.command.tag) a
+      (up_stall n trace e known lives sets into issue fix lists record { spe = p; cmd = c; progress = (stalls_held p c x).was } a i (x.before (stalls_held p c x).was (stalls_held p c x).has) (ap (λ (v : Progress). v.stalled) (stalls_held p c x).becomes ∙ x.stalled) (down4 p c a y)))
+
+  -- the passes change exactly what the step has to change
+  pub passes_local : AreLocal n sets final trace e known
+  passes_local =
+      record {
+        base = base_is;
+        waits = λ p d a kept. (λ t. waits_to p d a (cause n trace e known lives sets into issue fix lists (Waits p d) a t), λ w. waits_from p d a kept w);
+        complete = λ p class a. (λ t. complete_to p class a (cause n trace e known lives sets into issue fix lists (Complete p class) a t), λ w. complete_from p class a w);
+        fixed = λ p g a low. (λ t. fixed_to p g a (cause n trace e known lives sets into issue fix lists (Fixed p g) a t), λ w. fixed_from p g a low w);
+        stalled = λ p g a. (λ t. stalled_to p g a (cause n trace e known lives sets into issue fix lists (Stalled p g) a t), λ w. stalled_from p g a w);
+      }
+    where
+      fixed_from : (p g : ℕ) (a : At) → g < 32 → FixedLocal sets final e p g a → final (Fixed p g) a ≡ true
+      fixed_from p g a low (WasFixed y) = up6 (Fixed p g) a (from2 (Fixed p g) a (up0 n trace e known lives sets into issue fix lists (Fixed p g) a y))
+      fixed_from p g a low (FixedNow f y) = up_fixed n trace e known lives sets into issue fix lists p g a low f (complete5 p (Tag g) a y)

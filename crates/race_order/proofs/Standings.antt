@@ -1,0 +1,140 @@
+-- An orderer stands for the longer run after a step.
+use Rattle.std.proofs.Common.{◌≡◌, ℕ, ◌+◌, ◌*◌, ◌-◌, ◌<◌, Bool, false, List, [], ◌∷◌, ◌++◌, map, length, take, get_or, Option, Some, None, ◌⊎◌, inl, inr, refl, sym, ap, ap₂, ◌∙◌, subst, subst₂, ◌&&◌, ◌==◌, arith}
+use Rattle.std.proofs.lemmas.Bool.{and_parts, eqb-true, both_ways, false_from_ne_true}
+use Rattle.std.specs.Prelude.{slice_get}
+use Rattle.std.proofs.lemmas.Option.{get_or_from_slice_get}
+use Rattle.order_sets.specs.declared.facts.At.{At}
+use Rattle.race_order.specs.Trace.{Event, Trace}
+use Rattle.race_order.specs.Stamps.{stamp, chain_of, IsStamp}
+use Rattle.race_order.proofs.Places.{get_there}
+use Rattle.race_order.proofs.Stands.{chain_low}
+use Rattle.race_order.specs.declared.orderer.Orderer.{Orderer}
+use Rattle.race_order.specs.Standing.{StandsFor, Keep, IsLast, with_issued}
+use Rattle.std.proofs.Math.Path.{fun_ext}
+use Rattle.std.specs.List.{list_any}
+use Rattle.mfc_command.specs.declared.command.Command.{Command}
+use Rattle.race_order.specs.Rules.{Rule, Ordered}
+use Rattle.race_order.specs.Orderly.{IsOrderly}
+use Rattle.race_order.proofs.Places.{longer, place_of, take_front, take_before}
+use Rattle.race_order.proofs.Advance.{Answers}
+use Rattle.race_order.specs.declared.lists.Issued.{Issued}
+use Rattle.race_order.specs.declared.lives.Live.{Live}
+use Rattle.race_order.specs.declared.roles.QueueRole.{QueueRole}
+use Rattle.race_order.specs.declared.roles.QueueRole.TheVariants.{Base, Waits, Complete, Fixed, Stalled}
+use Rattle.race_order.specs.Premises.{IsQueued, QueueMay}
+use Rattle.race_order.proofs.Nexts.{AreNext, IssuesNow, after}
+use Rattle.race_order.proofs.Nexts as Next
+use Rattle.race_order.specs.Sources.{HaveOwn, IsKept, QueueSource}
+use Rattle.race_order.specs.Lives.{ShowsLives, moved}
+use Rattle.race_order.specs.Pasts.{IsPast, Holds}
+use Rattle.race_order.specs.Passes.{View, is_over, is_over_as, with_into, with_touch, with_moves, with_done, with_stalls}
+use Rattle.race_order.specs.declared.roles.Role.{Role}
+use Rattle.race_order.specs.Roles.{write_roles}
+use Rattle.race_order.specs.Ordering.{issued_in, self_roles, issue_list, fix_list, spe_in}
+use Rattle.race_order.proofs.Answering.{by_plain, made, IsKnown, answers}
+use Rattle.race_order.proofs.Causes.{t6}
+use Rattle.race_order.proofs.Composed.{passes_local}
+use Rattle.race_order.proofs.Locals.{local_next}
+use Rattle.race_order.proofs.Passed.{Picked, picked}
+use Rattle.race_order.specs.Queue.{Has}
+use Rattle.race_order.proofs.Kept.{all_kept, kept_before}
+use Rattle.race_order.proofs.Listings.{into_list, are_lists, looked_list, is_known, issued_is}
+use Rattle.race_order.proofs.LivesNext.{after_has, kept_lives, shows_same, shows_issue}
+
+pub name_is : (o : Orderer) (trace : Trace) (i : ℕ) (a : At) → StandsFor o trace → i + 1 < length trace → a ≡ get_or o.names.items i a → IsStamp o.spes trace i a
+name_is o trace i a stands low is =
+    let h : (e : Event) × (slice_get trace i ≡ Some e) = get_there trace i (omega arith) in
+    let g : slice_get o.names.items i ≡ Some (stamp o.spes i h.0) = stands.names.named i h.0 h.1 in
+    record { event = h.0; at = h.1; is = is ∙ get_or_from_slice_get o.names.items i (stamp o.spes i h.0) a g }
+
+pub name_within : (o : Orderer) (trace : Trace) (i : ℕ) (a : At) → StandsFor o trace → IsStamp o.spes trace i a → a.chain < length o.last.ends.items
+name_within o trace i a stands st =
+    let w : chain_of o.spes st.event.step < 3 * o.spes + 1 = chain_low o.spes st.event.step (stands.orderly i st.event st.at).within in
+    let e : a.chain ≡ chain_of o.spes st.event.step = ap (λ (x : At). x.chain) st.is in
+    let l : length o.last.ends.items ≡ 3 * o.spes + 1 = stands.last_chains in
+    omega arith
+
+module _ (n : ℕ) (trace : Trace) (e : Event) (orderly : IsOrderly n (trace ++ (e ∷ []))) (queued : IsQueued (trace ++ (e ∷ []))) (known : At → Bool) (lives : List Live) (shows : ShowsLives lives trace) (sets : View) (have : HaveOwn n sets trace) (kept : Keep n trace sets) (known_is : (a : At) → known a ≡ list_any (λ r. sets r a) (looked_list trace e)) where
+  abbrev T : Trace
+  T = trace ++ (e ∷ [])
+
+  abbrev pub next_view : View
+  next_view = t6 n trace e known lives sets (into_list trace e) (issue_list (issued_in e.step e.effect.note)) (fix_list e.effect.fixed (spe_in e.step)) (are_lists trace e)
+
+  isk : IsKnown sets trace e known
+  isk = is_known trace e sets known known_is
+
+  nx : AreNext n sets next_view trace e known
+  nx = local_next trace e n sets next_view known have (passes_local n trace e orderly queued known lives shows sets have (into_list trace e) (issue_list (issued_in e.step e.effect.note)) (fix_list e.effect.fixed (spe_in e.step)) (are_lists trace e))
+
+  pub keep_next : (sets' : View) → ((r : QueueRole) → IsKept T r → (a : At) → sets' r a ≡ next_view r a) → Keep n T sets'
+  keep_next sets' same =
+      record { holds = λ r k. subst (λ s. Holds Rule n (IsPast n) T s (QueueSource T r)) (sym (fun_ext (λ a. same r k a))) (all_kept n trace e orderly queued sets next_view kept.holds known isk nx r (kept_before n trace e orderly queued sets next_view kept.holds known isk nx r k)) }
+
+  pub own_next : (sets' : View) → ((r : QueueRole) → IsKept T r → (a : At) → sets' r a ≡ next_view r a) → HaveOwn n sets' T
+  own_next sets' same =
+      record { own = λ p d a k o. same (Waits p d) k a ∙ (nx.waits p d a (kept_before n trace e orderly queued sets next_view kept.holds known isk nx (Waits p d) k)).1 (Next.Own o) }
+
+  pub last_next : IsLast n T known
+  last_next =
+      record {
+        says = λ i a st low.
+            (λ t. subst (Ordered Rule T i) last (ans.sound i a st t), λ o. ans.full i a st (subst (Ordered Rule T i) (sym last) o));
+      }
+    where
+      ans : Answers Rule by_plain n (IsPast n) (made n) trace e orderly known
+      ans = answers n trace e orderly queued sets kept.holds known isk
+
+      last : length trace ≡ length T - 1
+      last = let k : length T ≡ length trace + 1 = longer trace e in omega arith
+
+pub queued_next : (trace : Trace) (e : Event) → IsQueued trace → QueueMay trace e → IsQueued (trace ++ (e ∷ []))
+queued_next trace e o may i f at = by (place_of trace e i f at)
+  where
+    by : ((i < length trace) × (slice_get trace i ≡ Some f)) ⊎ ((i ≡ length trace) × (e ≡ f)) → QueueMay (take i (trace ++ (e ∷ []))) f
+    by (inl q) = subst (λ t. QueueMay t f) (sym (take_front trace e i (omega arith))) (o i f q.1)
+    by (inr q) = subst (λ t. QueueMay t f) (sym (subst (λ k. take k (trace ++ (e ∷ [])) ≡ trace) (sym q.0) (take_before trace e))) (subst (QueueMay trace) q.1 may)
+
+issue_found : (e : Event) (p c : ℕ) (command : Command) → IssuesNow e p c command → issued_in e.step e.effect.note ≡ Some record { spe = p; cmd = c; command = command }
+issue_found e p c command h = ap₂ issued_in h.is h.notes
+
+pub lives_next : (trace : Trace) (e : Event) (may : QueueMay trace e) (lives : List Live) (shows : ShowsLives lives trace) → ShowsLives (with_issued (issued_in e.step e.effect.note) (kept_lives trace e may lives shows)) (trace ++ (e ∷ []))
+lives_next trace e may lives shows = by (issued_in e.step e.effect.note) refl
+  where
+    none : (o : Option Issued) (i : Issued) → o ≡ None → o ≡ Some i → ⊥
+    none o i x y = cc
+
+    by : (o : Option Issued) → issued_in e.step e.effect.note ≡ o → ShowsLives (with_issued o (kept_lives trace e may lives shows)) (trace ++ (e ∷ []))
+    by None q = shows_same trace e may lives shows (λ p c command h. none (issued_in e.step e.effect.note) record { spe = p; cmd = c; command = command } q (issue_found e p c command h))
+    by (Some i) q = let h = issued_is e.step e.effect.note i q in shows_issue trace e may lives shows i.spe i.cmd i.command record { is = h.0; notes = h.1 }
+
+-- the view of the sets after the passes, with what the code has in place of what it stands for
+pub view_of : (n : ℕ) (trace : Trace) (e : Event) (known : At → Bool) (lives : List Live) (sets : View) (lv nv : List Live) (av : At → Bool) (wv : List Role)
+    → lv ≡ lives → nv ≡ map (λ l. moved l e.step e.effect.note) lives → av ≡ after n trace e known → wv ≡ write_roles trace e
+    → (r : QueueRole) (a : At)
+    → with_moves (fix_list e.effect.fixed (spe_in e.step)) (with_stalls lv e.step e.effect.note (with_done nv (with_moves (issue_list (issued_in e.step e.effect.note)) (with_touch n e.step e.effect.note av lv (with_into (map Base wv ++ self_roles (issued_in e.step e.effect.note)) av sets))))) r a
+    ≡ t6 n trace e known lives sets (into_list trace e) (issue_list (issued_in e.step e.effect.note)) (fix_list e.effect.fixed (spe_in e.step)) (are_lists trace e) r a
+view_of n trace e known lives sets lv nv av wv l m k w r a =
+    ap (λ (x : List Live). with_moves (fix_list e.effect.fixed (spe_in e.step)) (with_stalls x e.step e.effect.note (with_done nv (with_moves (issue_list (issued_in e.step e.effect.note)) (with_touch n e.step e.effect.note av x (with_into (map Base wv ++ self_roles (issued_in e.step e.effect.note)) av sets))))) r a) l
+    ∙ (ap (λ (x : List Live). with_moves (fix_list e.effect.fixed (spe_in e.step)) (with_stalls lives e.step e.effect.note (with_done x (with_moves (issue_list (issued_in e.step e.effect.note)) (with_touch n e.step e.effect.note av lives (with_into (map Base wv ++ self_roles (issued_in e.step e.effect.note)) av sets))))) r a) m
+    ∙ (ap (λ (x : At → Bool). with_moves (fix_list e.effect.fixed (spe_in e.step)) (with_stalls lives e.step e.effect.note (with_done (map (λ l. moved l e.step e.effect.note) lives) (with_moves (issue_list (issued_in e.step e.effect.note)) (with_touch n e.step e.effect.note x lives (with_into (map Base wv ++ self_roles (issued_in e.step e.effect.note)) x sets))))) r a) k
+    ∙ ap (λ (x : List Role). with_moves (fix_list e.effect.fixed (spe_in e.step)) (with_stalls lives e.step e.effect.note (with_done (map (λ l. moved l e.step e.effect.note) lives) (with_moves (issue_list (issued_in e.step e.effect.note)) (with_touch n e.step e.effect.note (after n trace e known) lives (with_into (map Base x ++ self_roles (issued_in e.step e.effect.note)) (after n trace e known) sets))))) r a) w))
+
+none_over : (next : List Live) → list_any (λ (l : Live). false) next ≡ false
+none_over [] = refl
+none_over (l ∷ ls) = none_over ls
+
+-- no set that is kept is of a command that is complete now
+pub kept_not_over : (trace : Trace) (e : Event) (may : QueueMay trace e) (lives : List Live) (shows : ShowsLives lives trace) (r : QueueRole) → IsKept (trace ++ (e ∷ [])) r → is_over (map (λ l. moved l e.step e.effect.note) lives) r ≡ false
+kept_not_over trace e may lives shows (Base r) kept = none_over (map (λ l. moved l e.step e.effect.note) lives)
+kept_not_over trace e may lives shows (Complete p class) kept = none_over (map (λ l. moved l e.step e.effect.note) lives)
+kept_not_over trace e may lives shows (Fixed p g) kept = none_over (map (λ l. moved l e.step e.effect.note) lives)
+kept_not_over trace e may lives shows (Stalled p g) kept = none_over (map (λ l. moved l e.step e.effect.note) lives)
+kept_not_over trace e may lives shows (Waits p d) kept = false_from_ne_true _ (λ u. over (picked (is_over_as (Waits p d)) (map (λ l. moved l e.step e.effect.note) lives) u))
+  where
+    over : Picked (is_over_as (Waits p d)) (map (λ l. moved l e.step e.effect.note) lives) → ⊥
+    over x =
+        let m = after_has trace e may lives shows x.one x.place x.at in
+        let a = and_parts x.one.progress.done (x.one.spe == p && x.one.cmd == d) x.passes in
+        let b = and_parts (x.one.spe == p) (x.one.cmd == d) a.1 in
+        both_ways _ (kept x.one.progress (subst₂ (λ y z. Has (trace ++ (e ∷ [])) y z x.one.progress) (eqb-true x.one.spe p b.0) (eqb-true x.one.cmd d b.1) m)) a.0

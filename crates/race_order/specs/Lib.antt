@@ -1,0 +1,17 @@
+pub mod Trace
+pub mod Status
+pub mod Queue
+pub mod Rules
+pub mod Stamps
+pub mod Roles
+pub mod Orderly
+pub mod Premises
+pub mod Listed
+pub mod Counted
+pub mod Pasts
+pub mod Sources
+pub mod Tables
+pub mod Lives
+pub mod Passes
+pub mod Ordering
+pub mod Standing

@@ -1,0 +1,64 @@
+-- The outstanding commands, and what a step does to their sets.
+use Rattle.std.specs.Prelude.{◌≡◌, ℕ, ◌+◌, ◌*◌, ◌<◌, ◌==◌, ◌&&◌, ◌||◌, Bool, false, List, Some, slice_get, ◌^◌, All as Each}
+use Rattle.order_sets.specs.declared.facts.At.{At}
+use Rattle.order_sets.specs.declared.facts.Fact.TheVariants.{Whole, Elements}
+use Rattle.order_sets.specs.Facts.{covers}
+use Rattle.cell_base.specs.declared.steps.Step.{Step}
+use Rattle.cell_base.specs.declared.steps.Step.TheVariants.{Exec, Elem}
+use Rattle.cell_machine.specs.declared.effect.Note.{Note}
+use Rattle.cell_machine.specs.declared.effect.Note.TheVariants.{Ack}
+use Rattle.race_order.specs.declared.progress.Progress.{Progress}
+use Rattle.race_order.specs.Trace.{Trace, is_of}
+use Rattle.race_order.specs.Status.{stepped, is_by, elements_done}
+use Rattle.race_order.specs.Queue.{Has}
+use Rattle.race_order.specs.declared.lives.Live.{Live}
+use Rattle.race_order.specs.declared.roles.QueueRole.{QueueRole}
+use Rattle.race_order.specs.declared.roles.QueueRole.TheVariants.{Waits}
+use Rattle.race_order.specs.Tables.{same_role}
+
+abbrev pub acked_by : Progress → Note → Bool
+acked_by s (Ack tag) = s.stalled && tag == s.command.tag
+acked_by s _ = false
+
+abbrev pub acks : ℕ → Progress → Step → Note → Bool
+acks p s (Exec q) note = q == p && acked_by s note
+acks p s _ note = false
+
+abbrev pub reads_of : ℕ → ℕ → Step → Bool
+reads_of p c (Elem q d) = is_by p c q d
+reads_of p c _ = false
+
+-- the step goes itself into what waits for the command
+abbrev pub goes_in : Live → Step → Note → Bool
+goes_in l step note = reads_of l.spe l.cmd step || acks l.spe l.progress step note
+
+abbrev pub is_touched : Live → Step → Note → Bool
+is_touched l step note = is_of l.spe l.cmd step || acks l.spe l.progress step note
+
+abbrev pub moved : Live → Step → Note → Live
+moved l step note = record l { progress = stepped l.spe l.cmd l.progress step note }
+
+-- the list has exactly the outstanding commands
+pub record ShowsLives (lives : List Live) (trace : Trace) : Type 0 where
+  pub sound : (i : ℕ) (l : Live) → slice_get lives i ≡ Some l → Has trace l.spe l.cmd l.progress × (l.progress.done ≡ false)
+  pub full : (p c : ℕ) (s : Progress) → Has trace p c s → s.done ≡ false → (i : ℕ) × (slice_get lives i ≡ Some record { spe = p; cmd = c; progress = s })
+
+-- what is done of the command
+abbrev pub own_has : ℕ → Live → At → Bool
+own_has n l a =
+    covers (Elements (2 * n + l.spe) l.cmd (elements_done l.progress)) a || (l.progress.done && covers (Whole (2 * n + l.spe) l.cmd) a)
+
+-- no list has read too many elements
+abbrev pub HaveRoom : List Live → Type 0
+HaveRoom lives = Each (λ l. l.progress.read + 1 < 2 ^ 16) lives
+
+abbrev pub AreOutstanding : List Live → Type 0
+AreOutstanding lives = Each (λ l. l.progress.done ≡ false) lives
+
+abbrev pub AreWithin : ℕ → List Live → Type 0
+AreWithin n lives = Each (λ l. l.spe < n) lives
+
+-- what a touched command brings into its set
+abbrev pub touch_brings : ℕ → Step → Note → (At → Bool) → QueueRole → At → Live → Bool
+touch_brings n step note after r a l =
+    is_touched l step note && (same_role (Waits l.spe l.cmd) r && ((goes_in l step note && after a) || own_has n (moved l step note) a))

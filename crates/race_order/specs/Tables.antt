@@ -1,0 +1,84 @@
+-- What a table of sets has.
+use Rattle.std.specs.Prelude.{◌≡◌, ℕ, zero, suc, ◌+◌, ◌*◌, ◌/◌, ◌%◌, ◌≤◌, ◌==◌, ◌&&◌, Bool, true, false, List, [], ◌∷◌, length, All as Each}
+use Rattle.std.specs.List.{list_any}
+use Rattle.order_sets.specs.declared.facts.At.{At}
+use Rattle.order_sets.specs.Stands.{has_at}
+use Rattle.race_order.specs.Roles.{same_role as same_base}
+use Rattle.race_order.specs.declared.roles.Role.{Role}
+use Rattle.race_order.specs.declared.roles.Role.TheVariants.{OfExec, OfHost, OfSlot, OfAtomic, OfLine, OfBox, OfEnd}
+use Rattle.race_order.specs.declared.roles.Class.{Class}
+use Rattle.race_order.specs.declared.roles.Class.TheVariants.{All, Tag, BarredTag, Barriers}
+use Rattle.race_order.specs.declared.roles.QueueRole.{QueueRole}
+use Rattle.race_order.specs.declared.roles.QueueRole.TheVariants.{Base, Waits, Complete, Fixed, Stalled}
+use Rattle.race_order.specs.declared.moves.Move.{Move}
+use Rattle.race_order.specs.declared.buckets.Row.{Row}
+use Rattle.race_order.specs.declared.buckets.Bucket.{Bucket}
+use Rattle.race_order.specs.declared.sets.Sets.{Sets}
+
+abbrev pub same_class : Class → Class → Bool
+same_class All All = true
+same_class (Tag g) (Tag h) = g == h
+same_class (BarredTag g) (BarredTag h) = g == h
+same_class Barriers Barriers = true
+same_class _ _ = false
+
+abbrev pub same_role : QueueRole → QueueRole → Bool
+same_role (Base r) (Base s) = same_base r s
+same_role (Waits p c) (Waits q d) = p == q && c == d
+same_role (Complete p c) (Complete q d) = p == q && same_class c d
+same_role (Fixed p g) (Fixed q h) = p == q && g == h
+same_role (Stalled p g) (Stalled q h) = p == q && g == h
+same_role _ _ = false
+
+abbrev pub is_among : QueueRole → List QueueRole → Bool
+is_among r roles = list_any (λ w. same_role w r) roles
+
+abbrev pub row_has : QueueRole → At → Row → Bool
+row_has r at row = same_role row.role r && has_at row.known at
+
+abbrev pub bucket_has : QueueRole → At → Bucket → Bool
+bucket_has r at b = list_any (row_has r at) b.rows.items
+
+-- the bucket of number k has it
+abbrev pub has_in : List Bucket → ℕ → QueueRole → At → Bool
+has_in [] k r at = false
+has_in (b ∷ bs) zero r at = bucket_has r at b
+has_in (b ∷ bs) (suc k) r at = has_in bs k r at
+
+-- the number of a role's bucket
+abbrev pub class_number : Class → ℕ
+class_number All = 16
+class_number Barriers = 17
+class_number (Tag g) = 32 + g
+class_number (BarredTag g) = 64 + g
+
+abbrev pub base_number : Role → ℕ
+base_number (OfExec p) = 256 * p
+base_number (OfSlot p) = 256 * p + 1
+base_number (OfAtomic p) = 256 * p + 2
+base_number (OfEnd p) = 256 * p + 3
+base_number (OfBox q m r) = 256 * q + 4 + 4 * m + r
+base_number OfHost = 18
+base_number (OfLine a) = 4096 + a / 128
+
+abbrev pub number : QueueRole → ℕ
+number (Base r) = base_number r
+number (Waits p c) = 256 * p + 160 + c % 64
+number (Complete p class) = 256 * p + class_number class
+number (Fixed p g) = 256 * p + 96 + g
+number (Stalled p g) = 256 * p + 128 + g
+
+-- the set of the role
+abbrev pub sets_have : Sets → QueueRole → At → Bool
+sets_have sets r at = has_in sets.buckets.items (number r) r at
+
+abbrev pub AreRowsOf : ℕ → List Row → Type 0
+AreRowsOf chains rows = Each (λ row. length row.known.ends.items ≡ chains) rows
+
+-- they are of 1 to 16 processors, and each has that many chains
+abbrev pub AreOf : ℕ → Sets → Type 0
+AreOf chains sets = (1 ≤ sets.spes) × (sets.spes ≤ 16) × (3 * sets.spes + 1 ≡ chains) × Each (λ b. AreRowsOf chains b.rows.items) sets.buckets.items
+
+-- the move brings the step into the role's set
+abbrev pub moves_to : Sets → QueueRole → At → Move → Bool
+moves_to sets r at m = same_role m.to r && sets_have sets m.from at

@@ -1,0 +1,23 @@
+//! Which steps of a run are ordered: an orderer takes a run step by step, and tells which steps come before the last one.
+//!
+//! Of each kind of later step it keeps the set of the steps that come before it, so that a step only joins the sets that it looks at.
+#![tactic(auto)]
+
+mod applying;
+mod boxes;
+mod buckets;
+mod error;
+mod lists;
+mod lives;
+mod looks;
+mod moves;
+mod numbers;
+mod orderer;
+mod passes;
+mod progress;
+mod roles;
+mod sets;
+mod stamps;
+
+pub use error::OrderError;
+pub use orderer::Orderer;

@@ -1,0 +1,140 @@
+//! A set of known steps for each role.
+
+ghost use Rattle.std.specs.Prelude.{◌≡◌, ℕ, ◌+◌, ◌*◌, ◌<◌, ◌≤◌, ◌^◌, ◌||◌, ◌&&◌, OnOk, length, List, [], true, false};
+ghost use Rattle.std.specs.List.{list_any};
+ghost use Rattle.order_sets.specs.declared.facts.At.{At};
+ghost use Rattle.order_sets.specs.Stands.{has_at};
+ghost use Rattle.race_order.specs.declared.roles.QueueRole.{QueueRole as ARole};
+ghost use Rattle.race_order.specs.Tables.{same_role, is_among, sets_have, AreOf};
+ghost use Rattle.race_order.specs.Passes.{is_over};
+
+use crate::buckets::Bucket;
+use crate::error::OrderError;
+use crate::lives::Live;
+use crate::numbers::number;
+use crate::roles::QueueRole;
+use order_sets::Known;
+use std::alloc::Global;
+
+/// The sets of `spes` processors, each in the bucket of its role's number. A role without one has the empty set.
+#[derive(Drop)]
+pub(crate) struct Sets {
+    pub(crate) alloc: Global,
+    pub(crate) spes: u8,
+    pub(crate) buckets: Vec<Bucket>,
+}
+
+impl Sets {
+    /// The empty sets of `spes` processors.
+    pub(crate) fn new(alloc: Global, spes: u8) -> Sets
+        ensures buckets { result.buckets.items ≡ [] }
+        ensures spes { result.spes ≡ spes }
+    {
+        Sets {
+            alloc,
+            spes,
+            buckets: Vec::new(alloc),
+        }
+    }
+
+    /// Adds so many empty buckets.
+    fn lengthen(&mut self, count: usize) -> Result<(), OrderError>
+        ensures has { OnOk result ((r : ARole) (at : At) → sets_have self.new r at ≡ sets_have self.old r at) }
+        ensures chains { OnOk result ((chains : ℕ) → AreOf chains self.old → AreOf chains self.new) }
+        ensures long { OnOk result (length self.new.buckets.items ≡ length self.old.buckets.items + count) }
+    {
+        for _ in 0..count {
+            self.buckets.push(Bucket::new(self.alloc))?;
+        }
+        Ok(())
+    }
+
+    /// Whether the role has a set; else its set is empty.
+    pub(crate) fn holds(&self, role: QueueRole) -> bool
+        ensures { result ≡ false → (at : At) → sets_have self.now role at ≡ false }
+    {
+        let k = number(role) as usize;
+        k < self.buckets.len() && self.buckets[k].holds(role)
+    }
+
+    /// Adds to the known steps what the role's set has.
+    pub(crate) fn gather(&self, role: QueueRole, known: &mut Known) -> Result<(), OrderError>
+        requires { AreOf (length known.old.ends.items) self.now }
+        ensures has { OnOk result ((at : At) → has_at known.new at ≡ (has_at known.old at || sets_have self.now role at)) }
+        ensures chains { length known.new.ends.items ≡ length known.old.ends.items }
+    {
+        let k = number(role) as usize;
+        if k < self.buckets.len() {
+            self.buckets[k].gather(role, known)?;
+        }
+        Ok(())
+    }
+
+    /// Adds the known steps to the role's set.
+    pub(crate) fn put(&mut self, role: QueueRole, known: &Known) -> Result<(), OrderError>
+        requires { AreOf (length known.now.ends.items) self.old }
+        ensures has { OnOk result ((r : ARole) (at : At) → sets_have self.new r at ≡ (sets_have self.old r at || (same_role role r && has_at known.now at))) }
+        ensures chains { OnOk result (AreOf (length known.now.ends.items) self.new) }
+    {
+        let k = number(role) as usize;
+        let count = self.buckets.len();
+        self.lengthen((k + 1).saturating_sub(count))?;
+        let (alloc, spes) = (self.alloc, self.spes);
+        self.buckets[k].put(alloc, spes, role, known)?;
+        Ok(())
+    }
+
+    /// Adds to the known steps what the sets of the roles have.
+    pub(crate) fn gather_all(
+        &self,
+        roles: &[QueueRole],
+        known: &mut Known,
+    ) -> Result<(), OrderError>
+        requires { AreOf (length known.old.ends.items) self.now }
+        ensures has { OnOk result ((at : At) → has_at known.new at ≡ (has_at known.old at || list_any (λ r. sets_have self.now r at) roles.now)) }
+        ensures chains { length known.new.ends.items ≡ length known.old.ends.items }
+    {
+        for role in roles {
+            self.gather(*role, known)?;
+        }
+        Ok(())
+    }
+
+    /// Adds the known steps to the sets of the roles.
+    pub(crate) fn put_all(&mut self, roles: &[QueueRole], known: &Known) -> Result<(), OrderError>
+        requires { AreOf (length known.now.ends.items) self.old }
+        ensures has { OnOk result ((r : ARole) (at : At) → sets_have self.new r at ≡ (sets_have self.old r at || (is_among r roles.now && has_at known.now at))) }
+        ensures chains { OnOk result (AreOf (length known.now.ends.items) self.new) }
+    {
+        for role in roles {
+            self.put(*role, known)?;
+        }
+        Ok(())
+    }
+
+    /// Drops the sets that the steps of complete commands waited for.
+    pub(crate) fn drop_over(&mut self, next: &[Live])
+        ensures has { (r : ARole) (at : At) → is_over next.now r ≡ false → sets_have self.new r at ≡ sets_have self.old r at }
+        ensures chains { (chains : ℕ) → AreOf chains self.old → AreOf chains self.new }
+    {
+        for live in next {
+            if live.progress.done {
+                self.drop_from(live, next);
+            }
+        }
+    }
+
+    /// Drops them from the bucket of one such command.
+    fn drop_from(&mut self, live: &Live, next: &[Live])
+        ensures has { (r : ARole) (at : At) → is_over next.now r ≡ false → sets_have self.new r at ≡ sets_have self.old r at }
+        ensures chains { (chains : ℕ) → AreOf chains self.old → AreOf chains self.new }
+    {
+        let k = number(QueueRole::Waits {
+            spe: live.spe,
+            cmd: live.cmd,
+        }) as usize;
+        if k < self.buckets.len() {
+            self.buckets[k].drop_over(next);
+        }
+    }
+}
