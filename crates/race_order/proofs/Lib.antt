@@ -32,3 +32,14 @@ pub mod LivesNext
 pub mod Tags
 pub mod Listings
 pub mod Standings
+pub mod Small
+pub mod Shapes
+pub mod Moving
+pub mod Telling
+pub mod Turns
+pub mod Comings
+pub mod StatusSteps
+pub mod Tagging
+pub mod SpeKeeping
+pub mod Mays
+pub mod Runs

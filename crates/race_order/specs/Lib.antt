@@ -15,3 +15,5 @@ pub mod Lives
 pub mod Passes
 pub mod Ordering
 pub mod Standing
+pub mod Stages
+pub mod RunLaws

@@ -7,12 +7,8 @@ use Rattle.cell_machine.specs.declared.effect.Place.TheVariants.{Memory}
 use Rattle.cell_machine.specs.declared.effect.Span.{Span}
 use Rattle.cell_machine.specs.declared.effect.Note.{Note}
 use Rattle.cell_machine.specs.declared.effect.Note.TheVariants.{Issue, Put, Take}
-use Rattle.cell_machine.specs.declared.effect.Effect.{Effect}
 
--- a step with its effect
-pub record Event : Type 0 where
-  pub step : Step
-  pub effect : Effect
+pub use Rattle.cell_machine.specs.Traces.{Event}
 
 abbrev pub Trace : Type 0
 Trace = List Event
