@@ -365,9 +365,10 @@ impl Setup {
         self.lines
     }
 
-    /// How many steps a run may have.
+    /// How many steps a run may have, at most 1,000,000.
     pub fn budget(&self) -> u32
-        ensures { result ≡ self.now.budget }
+        ensures budget { result ≡ self.now.budget }
+        ensures few { result ≤ 1000000 }
     {
         self.budget
     }

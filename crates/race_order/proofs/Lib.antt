@@ -43,3 +43,4 @@ pub mod Tagging
 pub mod SpeKeeping
 pub mod Mays
 pub mod Runs
+pub mod OrderedRuns

@@ -17,3 +17,4 @@ pub mod Ordering
 pub mod Standing
 pub mod Stages
 pub mod RunLaws
+pub mod OrderedRuns

@@ -1,6 +1,6 @@
 //! The order of a run, step by step.
 
-ghost use Rattle.std.specs.Prelude.{◌≡◌, ℕ, ◌+◌, ◌*◌, ◌-◌, ◌<◌, ◌≤◌, ◌^◌, ◌↔◌, ◌||◌, ◌++◌, ◌∷◌, [], map, filter, not, false, IfOk, OnOk, IsTrue, length};
+ghost use Rattle.std.specs.Prelude.{Some, ◌≡◌, ℕ, ◌+◌, ◌*◌, ◌-◌, ◌<◌, ◌≤◌, ◌^◌, ◌↔◌, ◌||◌, ◌++◌, ◌∷◌, [], map, filter, not, false, IfOk, OnOk, IsTrue, length};
 ghost use Rattle.std.specs.List.{list_any};
 ghost use Rattle.order_sets.specs.declared.facts.At.{At as AnAt};
 ghost use Rattle.order_sets.specs.Facts.{covers};
@@ -19,6 +19,10 @@ ghost use Rattle.race_order.specs.Ordering.{issued_in, self_roles, issue_list, f
 ghost use Rattle.race_order.specs.Passes.{is_over, with_into, with_touch, with_moves, with_done, with_stalls};
 ghost use Rattle.race_order.specs.Standing.{StandsFor, with_issued};
 ghost use Rattle.race_order.specs.Tables.{sets_have, AreOf};
+ghost use Rattle.race_order.specs.OrderedRuns.{StandsForRun, IsOrdered};
+ghost use Rattle.race_order.specs.RunLaws.{TracesTell, TracesAreOrderly};
+ghost use Rattle.cell_machine.specs.Run.{Ran};
+ghost use Rattle.cell_machine.specs.Effects.{effect_in};
 
 use crate::applying::apply;
 use crate::boxes::Boxes;
@@ -30,7 +34,7 @@ use crate::progress::begin;
 use crate::sets::Sets;
 use crate::stamps::{fact, name};
 use cell_base::Step;
-use cell_machine::{Effect, Note};
+use cell_machine::{Effect, Note, Setup};
 use order_sets::{At, Fact, Known};
 use std::alloc::Global;
 
@@ -118,8 +122,8 @@ impl Orderer {
         Ok(known)
     }
 
-    /// The orderer of the empty run of `spes` processors.
-    pub fn new(alloc: Global, spes: u8) -> Result<Orderer, OrderError>
+    /// The orderer of the empty trace of `spes` processors, with room for the names of so many steps.
+    fn of_processors(alloc: Global, spes: u8, room: u32) -> Result<Orderer, OrderError>
         requires { (1 ≤ spes) × (spes ≤ 16) }
         ensures stands { IfOk result (λ orderer. StandsFor orderer []) }
         ensures spes { IfOk result (λ orderer. orderer.spes ≡ spes) }
@@ -131,14 +135,14 @@ impl Orderer {
             spes,
             sets: Sets::new(alloc, spes),
             boxes,
-            names: Vec::new(alloc),
+            names: Vec::with_capacity(alloc, room as usize)?,
             lives: Vec::new(alloc),
             last,
         })
     }
 
-    /// Takes the next step of the run, and answers its place.
-    pub fn advance(&mut self, step: Step, effect: Effect) -> Result<u32, OrderError>
+    /// Takes the next step of a trace, and answers its place.
+    fn take(&mut self, step: Step, effect: Effect) -> Result<u32, OrderError>
         ghost trace: { Trace }
         requires stands { StandsFor self.old trace }
         requires may { MayCome self.old.spes trace (event_of step effect) }
@@ -146,6 +150,7 @@ impl Orderer {
         requires room { length trace + 1 < 2 ^ 32 }
         ensures stands { IfOk result (λ place. StandsFor self.new (trace ++ (event_of step effect ∷ []))) }
         ensures place { IfOk result (λ place. place ≡ length trace) }
+        ensures spes { self.new.spes ≡ self.old.spes }
     {
         let place = self.names.len() as u32;
         let at = name(self.spes, place, step, &effect);
@@ -173,13 +178,50 @@ impl Orderer {
         Ok(place)
     }
 
-    /// Whether step i is ordered before the last one.
-    pub fn before(&self, i: u32) -> bool
+    /// Whether step i of a trace is ordered before the last one.
+    fn is_before(&self, i: u32) -> bool
         ghost trace: { Trace }
         requires stands { StandsFor self.now trace }
         requires below { i + 1 < length trace }
         ensures { IsTrue result ↔ Ordered Rule trace i (length trace - 1) }
     {
         self.last.has(self.names[i as usize])
+    }
+
+    /// The orderer of the empty run from a setup, which has a processor.
+    pub fn new(alloc: Global, setup: &Setup) -> Result<Orderer, OrderError>
+        requires { 0 < length setup.now.entries }
+        ensures stands { IfOk result (λ orderer. StandsForRun orderer (record { setup = setup.now; steps = [] })) }
+    {
+        let spes = setup.spes();
+        let budget = setup.budget();
+        Orderer::of_processors(alloc, spes, budget)
+    }
+
+    /// Takes the next step of the run with its effect, and answers its place, counted from 0. The run with this step is one too.
+    /// After want of memory the orderer stands for no run, and is only dropped.
+    ///
+    /// Of every run the steps tell by their effects what the order looks at: how far each queued command has come, as the machine
+    /// has it, and what a mailbox, a slot and a tag status hold.
+    pub fn advance(&mut self, step: Step, effect: Effect) -> Result<u32, OrderError>
+        ghost m: { Ran }
+        requires stands { StandsForRun self.old m }
+        requires next { effect_in m step ≡ Some effect }
+        ensures stands { IfOk result (λ place. StandsForRun self.new (record m { steps = m.steps ++ step ∷ [] })) }
+        ensures place { IfOk result (λ place. place ≡ length m.steps) }
+        ensures tells { TracesTell }
+        ensures orderly { TracesAreOrderly }
+    {
+        self.take(step, effect)
+    }
+
+    /// Whether step `i`, counted from 0, is ordered before the last one.
+    pub fn before(&self, i: u32) -> bool
+        ghost m: { Ran }
+        requires stands { StandsForRun self.now m }
+        requires below { i + 1 < length m.steps }
+        ensures ordered { IsTrue result ↔ IsOrdered m i (length m.steps - 1) }
+    {
+        self.is_before(i)
     }
 }

@@ -1,14 +1,21 @@
-use Rattle.std.proofs.Common.{◌∙◌, sym}
-use Rattle.race_order.specs.Stamps.{IsStamp}
-use Rattle.race_order.proofs.Standings.{name_is, name_within}
+use Rattle.std.proofs.Common.{◌≡◌, ◌-◌, ap, sym, subst, arith, length}
+use Rattle.race_order.specs.Rules.{Rule, Ordered}
+use Rattle.race_order.specs.OrderedRuns.{trace_in}
+use Rattle.race_order.proofs.OrderedRuns.{run-long}
 use Rattle.race_order.proofs.orderer.Orderer.before.Goals as goal
 
-pub has-requires : goal.has-requires
-has-requires g c = name_within c.args.self.now g.trace c.args.i c.index.result.now c.requires.0 (name_is c.args.self.now g.trace c.args.i c.index.result.now c.requires.0 c.requires.1 c.index.ensures)
+pub is_before-requires : goal.is_before-requires
+is_before-requires g c =
+    let long = run-long c.args.self.now g.m c.requires.0 in
+    let below = c.requires.1 in
+    (c.requires.0.stands, omega arith)
 
 pub returns : goal.returns
 returns g c =
-    let st : IsStamp c.args.self.now.spes g.trace c.args.i c.index.result.now = name_is c.args.self.now g.trace c.args.i c.index.result.now c.requires.0 c.requires.1 c.index.ensures in (
-      λ t. (c.requires.0.last.says c.args.i c.index.result.now st c.requires.1).0 (sym c.has.ensures.has ∙ t),
-      λ o. c.has.ensures.has ∙ (c.requires.0.last.says c.args.i c.index.result.now st c.requires.1).1 o,
-    )
+    let last : length (trace_in g.m) - 1 ≡ length g.m.steps - 1 = ap (λ n. n - 1) (run-long c.args.self.now g.m c.requires.0) in
+    record {
+      ordered = (
+        λ h. subst (Ordered Rule (trace_in g.m) c.args.i) last (c.is_before.ensures.0 h),
+        λ o. c.is_before.ensures.1 (subst (Ordered Rule (trace_in g.m) c.args.i) (sym last) o),
+      );
+    }
