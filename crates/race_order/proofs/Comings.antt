@@ -219,14 +219,17 @@ own_came : (M N : State) (s : Step) (q : ℕ) (e : Effect) → maker s ≡ Some 
 own_came M N s q e by made effect = there M s q e ((new : List Spe) × (map settled new ≡ N.spes) × Came M.spes new s e) by effect (λ P at.
     let left = next-own M N s q P by at made in
     let own = own-turn q M.memory s P left.0 e by left.1 (sym (effect-own M s q P by at) ∙ effect) in
-    let low = get-within M.spes q P at in
-    (slice_set M.spes q left.0.spe, ap (λ (K : State). K.spes) left.2, record {
-      each = set_came M.spes q P left.0.spe s e at own.turn (away_of q s by) own.asks.names;
-      count = length-set M.spes q left.0.spe;
-      asks = λ p h. let same : q ≡ p = some_same q p (sym by ∙ h) in (P, subst (λ k. slice_get M.spes k ≡ Some P) same at, subst (λ k. Asks k P s e) same own.asks);
-      noted = noted_own (length M.spes) q e.note low own.asks.names;
-      within = within_of (length M.spes) q s by low;
-    }))
+    let low = get-within M.spes q P at in (
+      slice_set M.spes q left.0.spe,
+      ap (λ (K : State). K.spes) left.2,
+      record {
+        each = set_came M.spes q P left.0.spe s e at own.turn (away_of q s by) own.asks.names;
+        count = length-set M.spes q left.0.spe;
+        asks = λ p h. let same : q ≡ p = some_same q p (sym by ∙ h) in (P, subst (λ k. slice_get M.spes k ≡ Some P) same at, subst (λ k. Asks k P s e) same own.asks);
+        noted = noted_own (length M.spes) q e.note low own.asks.names;
+        within = within_of (length M.spes) q s by low;
+      },
+    ))
 
 no_maker : (p : ℕ) → maker Host ≡ Some p → ⊥
 no_maker p e = cc

@@ -228,9 +228,9 @@ earlier_done p d c before P y s keep whole may at low has goes =
     let less : nat_lt c d ≡ true = grind (arith, nat_tests, low) in
     let own : precedes come.command y ≡ true = ap (λ (x : Progress). precedes x.command y) (sym come.same) ∙ goes in
     let ahead : goes_before P.moves.issued c d ≡ true =
-        ap (λ b. b && option_map_or (λ first. option_map_or (λ second. precedes first second) (slice_get P.moves.issued d) false) (slice_get P.moves.issued c) false) less
-        ∙ ap (λ o. option_map_or (λ first. option_map_or (λ second. precedes first second) (slice_get P.moves.issued d) false) o false) come.at
-        ∙ ap (λ o. option_map_or (λ second. precedes come.command second) o false) at ∙ own in
+    ap (λ b. b && option_map_or (λ first. option_map_or (λ second. precedes first second) (slice_get P.moves.issued d) false) (slice_get P.moves.issued c) false) less
+    ∙ ap (λ o. option_map_or (λ first. option_map_or (λ second. precedes first second) (slice_get P.moves.issued d) false) o false) come.at
+    ∙ ap (λ o. option_map_or (λ second. precedes come.command second) o false) at ∙ own in
     ap (λ (x : Progress). x.done) come.same ∙ sym (complete-at P.moves c come.command come.at) ∙ begun P c d may ahead
 
 -- a command is issued by the step that tells it

@@ -7,7 +7,6 @@ use Rattle.cell_machine.specs.declared.effect.Place.TheVariants.{Memory}
 use Rattle.cell_machine.specs.declared.effect.Span.{Span}
 use Rattle.cell_machine.specs.declared.effect.Note.{Note}
 use Rattle.cell_machine.specs.declared.effect.Note.TheVariants.{Issue, Put, Take}
-
 pub use Rattle.cell_machine.specs.Traces.{Event}
 
 abbrev pub Trace : Type 0
