@@ -18,6 +18,8 @@ mod progress;
 mod roles;
 mod sets;
 mod stamps;
+#[cfg(test)]
+mod tests;
 
 pub use error::OrderError;
 pub use orderer::Orderer;
