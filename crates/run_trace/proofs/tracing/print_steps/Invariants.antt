@@ -1,0 +1,12 @@
+use Rattle.race_order.specs.OrderedRuns.{StandsForRun}
+use Rattle.run_trace.proofs.tracing.print_steps.Given as goal
+
+abbrev pub ghost-take : goal.ghost-take
+ghost-take g a = a.machine.now
+
+abbrev pub ghost-places_before : goal.ghost-places_before
+ghost-places_before g a = a.machine.now
+
+-- the orderer stands for the machine's run
+abbrev pub invariant-loop-step : goal.invariant-loop-number
+invariant-loop-step g l = StandsForRun l.orderer l.machine

@@ -1,0 +1,60 @@
+//! The steps of a run with their effects, and what is ordered before each.
+
+ghost use Rattle.std.specs.Prelude.{◌≡◌, ◌+◌, ◌*◌, ◌<◌, ◌≤◌, length};
+ghost use Rattle.cell_machine.specs.Run.{Ran};
+ghost use Rattle.race_order.specs.OrderedRuns.{StandsForRun};
+
+use crate::following::{is_before, take};
+use crate::reading::{machine_of, record_of, setup_of};
+use anyhow::Result;
+use cell_base::Step;
+use cell_machine::Machine;
+use race_order::Orderer;
+use std::alloc::{AllocError, Global};
+
+/// The places that are ordered before the last step.
+fn places_before(
+    alloc: Global,
+    orderer: &Orderer,
+    machine: &Machine,
+) -> Result<Vec<u32>, AllocError>
+    ghost m: { Ran }
+    requires same { m ≡ machine.now }
+    requires stands { StandsForRun orderer.now m }
+{
+    let mut places = Vec::new(alloc);
+    let count = machine.steps().len() as u32;
+    for i in 0..count {
+        if is_before(orderer, machine, i) {
+            places.push(i)?;
+        }
+    }
+    Ok(places)
+}
+
+/// Makes the steps, and prints each with its effect and the places of the steps that are ordered before it.
+fn print_steps<R: Print + AllocGlobal>(
+    rt: &R,
+    orderer: &mut Orderer,
+    machine: &mut Machine,
+    steps: &[Step],
+) -> Result<()>
+    ghost m: { Ran }
+    requires same { m ≡ machine.old }
+    requires stands { StandsForRun orderer.old m }
+{
+    for step in steps {
+        let effect = take(orderer, machine, *step)?;
+        let before = places_before(rt.alloc(), orderer, machine)?;
+        println!(rt; "{step:?} | {effect:?} | {before:?}")?;
+    }
+    Ok(())
+}
+
+pub fn print_trace(rt: &HostRuntime, machine: &str, record: &str) -> Result<()> {
+    let setup = setup_of(rt, machine)?;
+    let record = record_of(rt, record)?;
+    let mut orderer = Orderer::new(rt.alloc(), &setup)?;
+    let mut machine = machine_of(rt, setup)?;
+    print_steps(rt, &mut orderer, &mut machine, record.steps())
+}
