@@ -18,7 +18,7 @@ pub machine-replayed : {memory : SharedMemory} {host : Progress} (setup : Openin
     → (is : IsMachine setup steps capacity processors memory host) → record { setup = setup; steps = steps } ≡ m → state_of m ≡ Some is.state
 machine-replayed setup steps capacity processors m is view = subst (λ n. state_of n ≡ Some is.state) view is.replayed
 
-next_of-within : (m : Ran) (M : State) (s : Step) → state_of m ≡ Some M → length m.steps < m.setup.budget → next_of m s ≡ next M s
+pub next_of-within : (m : Ran) (M : State) (s : Step) → state_of m ≡ Some M → length m.steps < m.setup.budget → next_of m s ≡ next M s
 next_of-within m M s stands within =
     let e : nat_lt (length m.steps) m.setup.budget ≡ true = grind (arith, nat_tests) in rw (e, stands) refl
 

@@ -1,5 +1,5 @@
 -- Runs of the written machine, and how they end.
-use Rattle.std.specs.Prelude.{◌≡◌, ℕ, ◌<◌, ◌≤◌, ◌%◌, Bool, true, false, not, ◌&&◌, ◌==◌, nat_lt, if◌then◌else◌, List, [], ◌∷◌, ◌++◌, length, map, filter, flat_map, Option, Some, None, is_some, is_none, IsSome, slice_get}
+use Rattle.std.specs.Prelude.{◌≡◌, ℕ, ◌<◌, ◌≤◌, ◌%◌, Bool, true, false, not, ◌&&◌, ◌==◌, nat_lt, if◌then◌else◌, List, [], ◌∷◌, ◌++◌, length, map, filter, flat_map, Option, Some, None, is_some, is_none, IsSome, IsSomeAnd, slice_get}
 use Rattle.std.specs.List.{list_all, range_with_len}
 use Rattle.std.specs.Option.{option_and_then, option_map_or}
 use Rattle.cell_base.specs.declared.steps.Actor.{Actor}
@@ -98,6 +98,13 @@ IsEnd M budget (Some AllStopped) = HasEnded M × (is_quiet M ≡ true)
 IsEnd M budget (Some Stuck) = HasEnded M × (is_quiet M ≡ false)
 IsEnd M budget (Some Budget) = CanGoOn M × (length M.steps ≡ budget)
 IsEnd M budget None = CanGoOn M × (length M.steps < budget)
+
+-- the end word of the run, None where it can go on
+abbrev pub EndsAs : Ran → Option End → Type 0
+EndsAs m end = IsSomeAnd (state_of m) (λ M. IsEnd M m.setup.budget end)
+
+abbrev pub HasEnd : Ran → Type 0
+HasEnd m = (e : End) × EndsAs m (Some e)
 
 -- what these choose under the budget
 abbrev pub picked_of : Ran → Actor → ℕ → Option Step
