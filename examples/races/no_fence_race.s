@@ -1,0 +1,27 @@
+# A block of main memory is moved: GET into the local store, PUT from there to another place, without waiting in between.
+# The race: the pieces of the PUT read the block that those of the GET write. Commands go in any order, those of one tag too. What
+# mends it is fence.s: a PUTF, which comes after the earlier commands of its tag.
+	.text
+_start:	ila	$3,block
+	wrch	$ch16,$3	# MFC_LSA; the address is 0
+	il	$4,128
+	wrch	$ch19,$4	# MFC_Size
+	il	$5,1
+	wrch	$ch20,$5	# MFC_TagID
+	il	$6,0x40
+	wrch	$ch21,$6	# MFC_Cmd: GET
+	wrch	$ch18,$4	# MFC_EAL: 128
+	il	$5,1
+	wrch	$ch20,$5	# MFC_TagID
+	il	$7,0x20		# PUT
+	wrch	$ch21,$7	# MFC_Cmd
+	il	$8,6
+	wrch	$ch22,$8	# MFC_WrTagMask: tags 1 and 2
+	il	$9,2
+	wrch	$ch23,$9	# MFC_WrTagUpdate: when all of both is done
+	rdch	$10,$ch24
+	stop	1
+
+	.data
+	.align	7
+block:	.space	128
