@@ -1,0 +1,77 @@
+#!/usr/bin/env python3
+"""Measures the orderer: python3 bench/order.py, from the repository's root, after `rt ci` or after `rt run` in crates/run_trace.
+
+Eight processors bring blocks, work on them and put them back, or transfer without a pause, by single commands and by lists, and raise one counter. Of runs
+of three lengths it prints what `advance` takes a step beside following the record, what a question (`before`) takes, and the most memory that the process
+has with the orderer, beside what it has without. Each time is the best of five.
+"""
+import os
+import re
+import subprocess
+import tempfile
+
+import run
+
+PROGRAM = os.path.join(run.ROOT, "crates/run_trace/out/run_trace")
+QUESTIONS = 4  # that run_trace puts at each step
+LINES = 128
+SPES = 8
+
+
+def blocks(folder, budget):
+    """A machine file whose processors each have a block of their own."""
+    name = os.path.join(folder, f"blocks.{budget}.cell")
+    with open(os.path.join(run.ROOT, "bench/blocks.s")) as file:
+        text = file.read()
+    sources = [os.path.join(folder, f"blocks.{spe}.s") for spe in range(SPES)]
+    for spe, source in enumerate(sources):
+        with open(source, "w") as file:
+            file.write(text.replace("BASE", str(2048 * spe)))
+    with open(name, "w") as file:
+        file.write(f"cell-machine 1\nlines {LINES}\nbudget {budget}\n" + "".join(f"spe\nsource {source}\n" for source in sources))
+    return name
+
+
+def recorded(folder, machine):
+    """The record of a run, in a file."""
+    output = f"{machine}.out"
+    with open(output, "wb") as file:
+        subprocess.run([os.path.join(run.ROOT, "cell"), "run", machine], stdout=file, cwd=run.ROOT, check=True)
+    return output
+
+
+def times(machine, record):
+    """What run_trace measures, each the best of some runs: microseconds by their names, and the memory before and after in KiB."""
+    best = {}
+    for _ in range(run.RUNS):
+        done = subprocess.run([PROGRAM, "time", machine, record], cwd=run.ROOT, capture_output=True, text=True, check=True).stdout
+        found = {name: int(value) for name, value in re.findall(r"^(steps|alone|ordered|asking) (\d+)$", done, re.M)}
+        before, after = (int(value) for value in re.findall(r"^VmHWM:\s+(\d+) kB", done, re.M))
+        best = {name: min(value, best.get(name, value)) for name, value in found.items()}
+    return best, before, after
+
+
+def growth(title, machines):
+    for machine, record in machines:
+        found, before, after = times(machine, record)
+        steps = found["steps"]
+        advance = 1000 * (found["ordered"] - found["alone"]) / steps
+        question = 1000 * (found["asking"] - found["ordered"]) / steps / QUESTIONS
+        print(f"{title}, {steps} steps: {advance:.0f} ns for `advance`, {question:.0f} ns for `before`, "
+              f"{after / 1024:.1f} MiB, of which {before / 1024:.1f} MiB before the orderer")
+
+
+def main():
+    with tempfile.TemporaryDirectory() as folder:
+        for title, make in (
+            ("blocks", lambda budget: blocks(folder, budget)),
+            ("bench/transfer.s", lambda budget: run.machine_file(folder, "bench/transfer.s", budget, SPES, LINES)),
+            ("bench/lists.s", lambda budget: run.machine_file(folder, "bench/lists.s", budget, SPES, LINES)),
+            ("bench/counter.s", lambda budget: run.machine_file(folder, "bench/counter.s", budget, SPES, LINES)),
+        ):
+            machines = [make(budget) for budget in run.BUDGETS]
+            growth(title, [(machine, recorded(folder, machine)) for machine in machines])
+
+
+if __name__ == "__main__":
+    main()
