@@ -1,0 +1,12 @@
+ila $3,0x1000
+wrch $ch16,$3
+wrch $ch18,$0
+il $4,128
+wrch $ch19,$4
+il $5,0x20
+wrch $ch21,$5
+ila $3,0x2000
+wrch $ch16,$3
+il $5,0x42
+wrch $ch21,$5
+stop 0

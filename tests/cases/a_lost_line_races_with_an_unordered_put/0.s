@@ -1,0 +1,11 @@
+ila $3,0x1000
+wrch $ch16,$3
+wrch $ch18,$0
+il $4,0xd0
+wrch $ch21,$4
+rdch $5,$ch27
+wrch $ch28,$5
+il $4,0xb4
+wrch $ch21,$4
+rdch $5,$ch27
+stop 0
