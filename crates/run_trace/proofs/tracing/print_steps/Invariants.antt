@@ -8,5 +8,5 @@ abbrev pub ghost-places_before : goal.ghost-places_before
 ghost-places_before g a = a.machine.now
 
 -- the orderer stands for the machine's run
-abbrev pub invariant-loop-step : goal.invariant-loop-number
+abbrev pub invariant-loop-step : goal.invariant-loop-step
 invariant-loop-step g l = StandsForRun l.orderer l.machine
