@@ -48,7 +48,7 @@ def times(machine, record):
     best = {}
     for _ in range(run.RUNS):
         done = subprocess.run([PROGRAM, "time", machine, record], cwd=run.ROOT, capture_output=True, text=True, check=True).stdout
-        found = {name: int(value) for name, value in re.findall(r"^(steps|alone|ordered|asking) (\d+)$", done, re.M)}
+        found = {name: int(value) for name, value in re.findall(r"^(steps|alone|ordered|asking|races) (\d+)$", done, re.M)}
         before, after = (int(value) for value in re.findall(r"^VmHWM:\s+(\d+) kB", done, re.M))
         best = {name: min(value, best.get(name, value)) for name, value in found.items()}
     return best, before, after
@@ -64,16 +64,18 @@ def growth(title, machines):
               f"{after / 1024:.1f} MiB, of which {before / 1024:.1f} MiB before the orderer")
 
 
+def machines(folder):
+    """The machines that are measured: a title, and what makes the machine file of a budget."""
+    sources = ("bench/transfer.s", "bench/lists.s", "bench/counter.s")
+    return [("blocks", lambda budget: blocks(folder, budget))] + [
+        (source, lambda budget, source=source: run.machine_file(folder, source, budget, SPES, LINES)) for source in sources]
+
+
 def main():
     with tempfile.TemporaryDirectory() as folder:
-        for title, make in (
-            ("blocks", lambda budget: blocks(folder, budget)),
-            ("bench/transfer.s", lambda budget: run.machine_file(folder, "bench/transfer.s", budget, SPES, LINES)),
-            ("bench/lists.s", lambda budget: run.machine_file(folder, "bench/lists.s", budget, SPES, LINES)),
-            ("bench/counter.s", lambda budget: run.machine_file(folder, "bench/counter.s", budget, SPES, LINES)),
-        ):
-            machines = [(make(budget), budget) for budget in run.BUDGETS]
-            growth(title, [(machine, recorded(machine, budget)) for machine, budget in machines])
+        for title, make in machines(folder):
+            made = [(make(budget), budget) for budget in run.BUDGETS]
+            growth(title, [(machine, recorded(machine, budget)) for machine, budget in made])
 
 
 if __name__ == "__main__":
