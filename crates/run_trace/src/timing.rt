@@ -9,7 +9,9 @@ use crate::reading::{machine_of, record_of, setup_of};
 use anyhow::Result;
 use cell_base::Step;
 use cell_machine::{Machine, Setup};
+use race_check::check_races;
 use race_order::Orderer;
+use run_record::replay;
 use std::fs;
 use std::time::Instant;
 
@@ -120,6 +122,18 @@ fn time_asking(rt: &HostRuntime, setup: Setup, steps: &[Step]) -> Result<()>
     Ok(())
 }
 
+/// The search for races, on a machine that has made the run.
+fn time_races(rt: &HostRuntime, setup: Setup, steps: &[Step]) -> Result<()>
+    requires { 0 < length setup.entries }
+{
+    let machine = replay(rt.alloc(), setup, steps)?;
+    let start = Instant::now(rt)?;
+    let verdict = check_races(rt.alloc(), &machine)?;
+    print_time(rt, "races", &start)?;
+    println!(rt; "{verdict:?}")?;
+    Ok(())
+}
+
 pub fn print_times(rt: &HostRuntime, machine: &str, record: &str) -> Result<()> {
     let record = record_of(rt, record)?;
     let steps = record.steps();
@@ -128,5 +142,6 @@ pub fn print_times(rt: &HostRuntime, machine: &str, record: &str) -> Result<()> 
     print_memory(rt)?;
     time_alone(rt, setup_of(rt, machine)?, steps)?;
     time_ordered(rt, setup_of(rt, machine)?, steps)?;
-    time_asking(rt, setup_of(rt, machine)?, steps)
+    time_asking(rt, setup_of(rt, machine)?, steps)?;
+    time_races(rt, setup_of(rt, machine)?, steps)
 }
