@@ -2,17 +2,19 @@
 //!
 //! `choose MACHINE CHOICES` makes a run of a machine file, in which each number of the file CHOICES chooses an actor and one of its steps, and prints its
 //! record. `trace MACHINE RECORD` prints of each step of a record a line: the step, its effect, and the places of the steps that are ordered before it.
-//! `time MACHINE RECORD` prints how long it takes to follow a record, alone, with an orderer, and with questions put to it, and to search it for races.
+//! `states MACHINE RECORD` prints the states after the steps of a record. `time MACHINE RECORD` prints how long it takes to follow a record, alone, with an orderer, and with questions put to it, and to search it for races.
 #![tactic(auto)]
 
 mod choosing;
 mod following;
 mod reading;
+mod showing;
 mod timing;
 mod tracing;
 
 use anyhow::{Result, bail};
 use choosing::print_record;
+use showing::print_states;
 use std::env;
 use timing::print_times;
 use tracing::print_trace;
@@ -20,11 +22,12 @@ use tracing::print_trace;
 fn main(rt: HostRuntime) -> Result<()> {
     let mut words = env::args(&rt)?.skip(1);
     let (Some(form), Some(machine), Some(file)) = (words.next(), words.next(), words.next()) else {
-        bail!("the words are choose MACHINE CHOICES, trace MACHINE RECORD or time MACHINE RECORD");
+        bail!("the words are choose MACHINE CHOICES, or trace, states or time, MACHINE and RECORD");
     };
     match form.as_str() {
         "choose" => print_record(&rt, machine.as_str(), file.as_str()),
         "trace" => print_trace(&rt, machine.as_str(), file.as_str()),
+        "states" => print_states(&rt, machine.as_str(), file.as_str()),
         "time" => print_times(&rt, machine.as_str(), file.as_str()),
         other => bail!("no form {other}"),
     }
