@@ -2,7 +2,8 @@
 //!
 //! `choose MACHINE CHOICES` makes a run of a machine file, in which each number of the file CHOICES chooses an actor and one of its steps, and prints its
 //! record. `trace MACHINE RECORD` prints of each step of a record a line: the step, its effect, and the places of the steps that are ordered before it.
-//! `states MACHINE RECORD` prints the states after the steps of a record. `time MACHINE RECORD` prints how long it takes to follow a record, alone, with an orderer, and with questions put to it, and to search it for races.
+//! `states MACHINE RECORD` prints the states after the steps of a record. `time MACHINE RECORD` prints how long it takes to follow a record, alone, with
+//! an orderer, and with questions put to it, and to search it for races.
 #![tactic(auto)]
 
 mod choosing;
