@@ -2,7 +2,7 @@ use Rattle.std.proofs.Common.{◌≡◌, ◌||◌, take}
 use Rattle.std.specs.List.{list_any}
 use Rattle.order_sets.specs.declared.facts.At.{At}
 use Rattle.order_sets.specs.Holds.{in_part}
-use Rattle.order_sets.proofs.known.join_parts.Given as goal
+use Rattle.order_sets.proofs.known.add_parts.Given as goal
 
 -- the old ones and the others so far
 abbrev pub invariant-loop-p : goal.invariant-loop-p
