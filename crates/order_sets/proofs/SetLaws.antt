@@ -1,5 +1,5 @@
 -- What a set holds after runs were joined, and after what they cover was dropped.
-use Rattle.std.proofs.Common.{◌≡◌, ℕ, ◌++◌, ◌==◌, Bool, true, false, not, ◌||◌, ◌&&◌, List, [], ◌∷◌, filter, refl, ap, ap₂, sym, ◌∙◌, arith}
+use Rattle.std.proofs.Common.{◌≡◌, ℕ, ◌++◌, ◌==◌, Bool, true, false, not, ◌||◌, ◌&&◌, List, [], ◌∷◌, filter, refl, ap, ap₂, sym, subst, ◌∙◌, arith}
 use Rattle.std.specs.Prelude.{Result, Ok, Err, OnErr, nat_le}
 use Rattle.std.specs.List.{list_any}
 use Rattle.std.proofs.lemmas.Bool.Decides.{nat_tests}
@@ -79,12 +79,24 @@ parts_dropped runs parts at = any_kept (in_part at) (λ p. not (in_runs runs p.c
         let cmd : p.cmd ≡ at.cmd = grind (arith, nat_tests) in
         sym (any_command runs (record { chain = p.chain; cmd = p.cmd; elem = 0; place = 0 }) at chain cmd) ∙ covered _ e
 
-pub ones_dropped : (runs : List Run) (ones : List At) (at : At)
-    → (list_any (in_run at) runs || list_any (λ a. is_at a at) (filter (λ o. not (in_runs runs o.chain o.cmd)) ones)) ≡ (list_any (in_run at) runs || list_any (λ a. is_at a at) ones)
-ones_dropped runs ones at = any_kept (λ a. is_at a at) (λ o. not (in_runs runs o.chain o.cmd)) (list_any (in_run at) runs) ones gone
+-- a run or a part has the step
+abbrev pub is_covered : List Run → List Part → At → Bool
+is_covered runs parts at = list_any (in_run at) runs || list_any (in_part at) parts
+
+same_step : (o at : At) → is_at o at ≡ true → o ≡ at
+same_step o at e =
+    let chain : o.chain ≡ at.chain = grind (arith, nat_tests) in
+    let cmd : o.cmd ≡ at.cmd = grind (arith, nat_tests) in
+    let elem : o.elem ≡ at.elem = grind (arith, nat_tests) in
+    let place : o.place ≡ at.place = grind (arith, nat_tests) in
+    as_record o.chain o.cmd o.elem o.place at.chain at.cmd at.elem at.place chain cmd elem place
   where
-    gone : (o : At) → not (in_runs runs o.chain o.cmd) ≡ false → is_at o at ≡ true → list_any (in_run at) runs ≡ true
-    gone o e inside =
-        let chain : o.chain ≡ at.chain = grind (arith, nat_tests) in
-        let cmd : o.cmd ≡ at.cmd = grind (arith, nat_tests) in
-        sym (any_command runs (record { chain = o.chain; cmd = o.cmd; elem = 0; place = 0 }) at chain cmd) ∙ covered _ e
+    as_record : (a b c d p q r s : ℕ) → a ≡ p → b ≡ q → c ≡ r → d ≡ s → record { chain = a; cmd = b; elem = c; place = d } ≡ (let at : At = record { chain = p; cmd = q; elem = r; place = s } in at)
+    as_record a b c d p q r s e f g h = cc
+
+pub ones_dropped : (runs : List Run) (parts : List Part) (ones : List At) (at : At)
+    → (is_covered runs parts at || list_any (λ a. is_at a at) (filter (λ o. not (is_covered runs parts o)) ones)) ≡ (is_covered runs parts at || list_any (λ a. is_at a at) ones)
+ones_dropped runs parts ones at = any_kept (λ a. is_at a at) (λ o. not (is_covered runs parts o)) (is_covered runs parts at) ones gone
+  where
+    gone : (o : At) → not (is_covered runs parts o) ≡ false → is_at o at ≡ true → is_covered runs parts at ≡ true
+    gone o e inside = subst (λ x. is_covered runs parts x ≡ true) (same_step o at inside) (covered _ e)

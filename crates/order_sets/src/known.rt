@@ -74,19 +74,41 @@ fn raise(ends: &mut [u32], chain: u8, place: u32)
     *end = (*end).max(place + 1);
 }
 
-/// Adds the other runs; where there is no memory, some of them.
-fn join_runs(runs: &mut Vec<Run>, other: &[Run]) -> Result<(), AllocError>
+/// Puts each end back to 0.
+fn lower_all(ends: &mut [u32])
+    ensures zero { (k : ℕ) → slice_index ends.new k ≡ 0 }
+    ensures long { length ends.new ≡ length ends.old }
+{
+    for i in 0..ends.len() {
+        ends[i] = 0;
+    }
+}
+
+/// Adds each of the other runs; where there is no memory, some of them.
+fn add_runs(runs: &mut Vec<Run>, other: &[Run]) -> Result<(), AllocError>
     ensures ok { OnOk result ((at : At) → list_any (in_run at) runs.new.items ≡ (list_any (in_run at) runs.old.items || list_any (in_run at) other.now)) }
     ensures err { OnErr result ((at : At) → IsBetween (list_any (in_run at) runs.old.items) (list_any (in_run at) other.now) (list_any (in_run at) runs.new.items)) }
 {
-    for r in other {
-        runs::add(runs, *r)?;
+    // Sets that were joined before mostly have the same runs at the same places.
+    for (i, r) in other.iter().enumerate() {
+        runs::add_near(runs, i, *r)?;
     }
     Ok(())
 }
 
-/// Adds the other elements; where there is no memory, some of them.
-fn join_parts(parts: &mut Vec<Part>, other: &[Part]) -> Result<(), AllocError>
+/// Adds the other runs, as a copy where there are none; where there is no memory, some of them.
+fn join_runs(runs: &mut Vec<Run>, other: &[Run]) -> Result<(), AllocError>
+    ensures ok { OnOk result ((at : At) → list_any (in_run at) runs.new.items ≡ (list_any (in_run at) runs.old.items || list_any (in_run at) other.now)) }
+    ensures err { OnErr result ((at : At) → IsBetween (list_any (in_run at) runs.old.items) (list_any (in_run at) other.now) (list_any (in_run at) runs.new.items)) }
+{
+    if runs.is_empty() {
+        return runs.extend_from_slice(other);
+    }
+    add_runs(runs, other)
+}
+
+/// Adds each of the other elements; where there is no memory, some of them.
+fn add_parts(parts: &mut Vec<Part>, other: &[Part]) -> Result<(), AllocError>
     ensures ok { OnOk result ((at : At) → list_any (in_part at) parts.new.items ≡ (list_any (in_part at) parts.old.items || list_any (in_part at) other.now)) }
     ensures err { OnErr result ((at : At) → IsBetween (list_any (in_part at) parts.old.items) (list_any (in_part at) other.now) (list_any (in_part at) parts.new.items)) }
 {
@@ -96,8 +118,19 @@ fn join_parts(parts: &mut Vec<Part>, other: &[Part]) -> Result<(), AllocError>
     Ok(())
 }
 
-/// Adds the other steps; where there is no memory, some of them.
-fn join_ones(ones: &mut Vec<At>, other: &[At]) -> Result<(), AllocError>
+/// Adds the other elements, as a copy where there are none; where there is no memory, some of them.
+fn join_parts(parts: &mut Vec<Part>, other: &[Part]) -> Result<(), AllocError>
+    ensures ok { OnOk result ((at : At) → list_any (in_part at) parts.new.items ≡ (list_any (in_part at) parts.old.items || list_any (in_part at) other.now)) }
+    ensures err { OnErr result ((at : At) → IsBetween (list_any (in_part at) parts.old.items) (list_any (in_part at) other.now) (list_any (in_part at) parts.new.items)) }
+{
+    if parts.is_empty() {
+        return parts.extend_from_slice(other);
+    }
+    add_parts(parts, other)
+}
+
+/// Adds each of the other steps; where there is no memory, some of them.
+fn add_ones(ones: &mut Vec<At>, other: &[At]) -> Result<(), AllocError>
     ensures ok { OnOk result ((at : At) → list_any (λ a. is_at a at) ones.new.items ≡ (list_any (λ a. is_at a at) ones.old.items || list_any (λ a. is_at a at) other.now)) }
     ensures err { OnErr result ((at : At) → IsBetween (list_any (λ a. is_at a at) ones.old.items) (list_any (λ a. is_at a at) other.now) (list_any (λ a. is_at a at) ones.new.items)) }
 {
@@ -105,6 +138,17 @@ fn join_ones(ones: &mut Vec<At>, other: &[At]) -> Result<(), AllocError>
         ones::add(ones, *o)?;
     }
     Ok(())
+}
+
+/// Adds the other steps, as a copy where there are none; where there is no memory, some of them.
+fn join_ones(ones: &mut Vec<At>, other: &[At]) -> Result<(), AllocError>
+    ensures ok { OnOk result ((at : At) → list_any (λ a. is_at a at) ones.new.items ≡ (list_any (λ a. is_at a at) ones.old.items || list_any (λ a. is_at a at) other.now)) }
+    ensures err { OnErr result ((at : At) → IsBetween (list_any (λ a. is_at a at) ones.old.items) (list_any (λ a. is_at a at) other.now) (list_any (λ a. is_at a at) ones.new.items)) }
+{
+    if ones.is_empty() {
+        return ones.extend_from_slice(other);
+    }
+    add_ones(ones, other)
 }
 
 /// Whether a run has the command.
@@ -129,11 +173,18 @@ fn drop_parts(parts: &mut Vec<Part>, runs: &[Run])
     parts.retain(|p| !has_command(runs, p.chain, p.cmd));
 }
 
-/// Drops the steps of commands that a run has whole.
-fn drop_ones(ones: &mut Vec<At>, runs: &[Run])
-    ensures { (at : At) → (list_any (in_run at) runs.now || list_any (λ a. is_at a at) ones.new.items) ≡ (list_any (in_run at) runs.now || list_any (λ a. is_at a at) ones.old.items) }
+/// Whether a run or a part has the step.
+fn is_covered(one: At, runs: &[Run], parts: &[Part]) -> bool
+    ensures { result ≡ (list_any (in_run one) runs.now || list_any (in_part one) parts.now) }
 {
-    ones.retain(|o| !has_command(runs, o.chain, o.cmd));
+    runs::has(runs, one) || parts::has(parts, one)
+}
+
+/// Drops the steps of commands that a run has whole, and of elements that a part has.
+fn drop_ones(ones: &mut Vec<At>, runs: &[Run], parts: &[Part])
+    ensures { (at : At) → ((list_any (in_run at) runs.now || list_any (in_part at) parts.now) || list_any (λ a. is_at a at) ones.new.items) ≡ ((list_any (in_run at) runs.now || list_any (in_part at) parts.now) || list_any (λ a. is_at a at) ones.old.items) }
+{
+    ones.retain(|o| !is_covered(*o, runs, parts));
 }
 
 impl Known {
@@ -150,6 +201,17 @@ impl Known {
             parts: Vec::new(alloc),
             ones: Vec::new(alloc),
         })
+    }
+
+    /// Takes all steps out.
+    pub fn clear(&mut self)
+        ensures empty { StandsFor self.new [] }
+        ensures chains { length self.new.ends.items ≡ length self.old.ends.items }
+    {
+        lower_all(self.ends.as_mut_slice());
+        self.runs.clear();
+        self.parts.clear();
+        self.ones.clear();
     }
 
     /// Whether the step, which is of a chain that the set has, is in the set: exactly where a fact for which it stands covers it.
@@ -229,12 +291,12 @@ impl Known {
         Ok(())
     }
 
-    /// Drops what the runs of whole commands have anyway.
+    /// Drops parts of commands and single steps that the set has anyway.
     fn drop_covered(&mut self)
         ensures same { (at : At) → has_at self.new at ≡ has_at self.old at }
         ensures ends { self.new.ends ≡ self.old.ends }
     {
         drop_parts(&mut self.parts, &self.runs);
-        drop_ones(&mut self.ones, &self.runs);
+        drop_ones(&mut self.ones, &self.runs, &self.parts);
     }
 }

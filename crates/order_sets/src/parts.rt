@@ -41,11 +41,14 @@ fn raised(a: &Part, b: &Part) -> Part
     }
 }
 
-/// Adds the elements to those of the same command, or behind all. Where there is no memory, all stays as it is.
+/// Adds the elements, if any, to those of the same command, or behind all. Where there is no memory, all stays as it is.
 pub(crate) fn add(parts: &mut Vec<Part>, part: Part) -> Result<(), AllocError>
     ensures ok { OnOk result ((at : At) → list_any (in_part at) parts.new.items ≡ (list_any (in_part at) parts.old.items || in_part at part)) }
     ensures err { OnErr result (parts.new.items ≡ parts.old.items) }
 {
+    if part.below == 0 {
+        return Ok(());
+    }
     for i in 0..parts.len() {
         if is_same(&parts[i], &part) {
             parts[i] = raised(&parts[i], &part);

@@ -78,6 +78,13 @@ fn covers(runs: &[Run], run: &Run) -> bool
     runs.iter().any(|r| is_inside(run, r))
 }
 
+/// Whether the run at the place has no command less than this one.
+fn covers_at(runs: &[Run], i: usize, run: &Run) -> bool
+    ensures { IsTrue result → (at : At) → in_run at run.now ≡ true → list_any (in_run at) runs.now ≡ true }
+{
+    i < runs.len() && is_inside(run, &runs[i])
+}
+
 /// Adds a run, which takes in those that it touches. Where there is no memory, all stays as it is.
 pub(crate) fn add(runs: &mut Vec<Run>, run: Run) -> Result<(), AllocError>
     ensures ok { OnOk result ((at : At) → list_any (in_run at) runs.new.items ≡ (list_any (in_run at) runs.old.items || in_run at run)) }
@@ -90,4 +97,15 @@ pub(crate) fn add(runs: &mut Vec<Run>, run: Run) -> Result<(), AllocError>
     runs.push(whole)?;
     runs.retain(|r| !is_inside(r, &whole) || is_inside(&whole, r));
     Ok(())
+}
+
+/// The same for a run that is looked for at the place first.
+pub(crate) fn add_near(runs: &mut Vec<Run>, i: usize, run: Run) -> Result<(), AllocError>
+    ensures ok { OnOk result ((at : At) → list_any (in_run at) runs.new.items ≡ (list_any (in_run at) runs.old.items || in_run at run)) }
+    ensures err { OnErr result (runs.new.items ≡ runs.old.items) }
+{
+    if covers_at(runs.as_slice(), i, &run) {
+        return Ok(());
+    }
+    add(runs, run)
 }

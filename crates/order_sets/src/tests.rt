@@ -96,5 +96,8 @@ fn a_joined_set_has_what_either_has(rt: HostRuntime) -> Result<(), Fail> {
     assert_eq!(rt; has_instruction(&known, 3), true);
     assert_eq!(rt; has_instruction(&known, 4), false);
     assert_eq!(rt; has_step(&other, 1, 0, 1), false);
+    other.clear();
+    assert_eq!(rt; has_step(&other, 2, 8, 1), false);
+    assert_eq!(rt; has_instruction(&other, 3), false);
     Ok(())
 }

@@ -21,7 +21,6 @@ use Rattle.race_order.specs.Roles.{write_roles, is_among as is_among_base}
 use Rattle.race_order.specs.Orderly.{IsOrderly}
 use Rattle.race_order.proofs.Places.{get_last, longer, take_before}
 use Rattle.race_order.specs.declared.lives.Live.{Live}
-use Rattle.race_order.specs.declared.moves.Move.{Move}
 use Rattle.race_order.specs.declared.roles.Class.{Class}
 use Rattle.race_order.specs.declared.roles.Class.TheVariants.{Tag}
 use Rattle.race_order.specs.declared.roles.QueueRole.{QueueRole}
@@ -31,16 +30,18 @@ use Rattle.race_order.specs.Sources.{is_in, IsKept, IsOwn, HaveOwn}
 use Rattle.race_order.proofs.Nexts.{Completes, Stalls, GoesInto, after}
 use Rattle.race_order.proofs.Local.{Touches, WaitsLocal, Stays, Itself, AtIssue, FromEarlier, Own, CompleteLocal, WasComplete, IsNow, FixedLocal, WasFixed, FixedNow, StalledLocal, WasStalled, StalledNow, AreLocal}
 use Rattle.race_order.specs.Lives.{is_touched, goes_in, own_has, moved, acks, acked_by, reads_of, ShowsLives, touch_brings}
-use Rattle.race_order.specs.Passes.{View, is_ahead, brings, with_into}
+use Rattle.race_order.specs.Passes.{View, is_ahead, brings, with_into, from_class, classes_ahead}
 use Rattle.race_order.specs.Tables.{is_among}
-use Rattle.race_order.proofs.Passed.{Picked, picked}
+use Rattle.race_order.proofs.Passed.{Picked, picked, none_any}
 use Rattle.race_order.proofs.Statuses.{stepped_steps, done_le}
 use Rattle.race_order.proofs.Histories.{status_next, same_progress, Later, later_at, read_there, valid_at, Came, Newly, Kept, Moved, came}
 use Rattle.race_order.proofs.Elements.{step_of, may_at}
 use Rattle.race_order.proofs.Keeping.{stepped_issue, issued_now}
 use Rattle.race_order.proofs.Locals.{completes_touched, stalls_touched}
 use Rattle.race_order.proofs.Wholes.{earlier_has}
-use Rattle.race_order.proofs.Causes.{AreLists, IsFix, t2, t3, t4, t5, t6, In, Cause, CStay, CInto, CTouch, CIssue, CClass, CWaits, CStall, CFixed, cause, up0, up2, up3, up4, up5, up_into, up_touch, up_issue, up_class, up_waits, up_stall, up_fixed}
+use Rattle.race_order.specs.Ordering.{issued_in, issue_list, fix_list, spe_in}
+use Rattle.race_order.specs.Bringing.{AreStepped}
+use Rattle.race_order.proofs.Causes.{AreLists, IsFix, IsIssue, In, Cause, CStay, CInto, CTouch, CIssue, CClass, CWaits, CStall, CFixed, cause, up0, up2, up3, up4, up5, up_into, up_touch, up_issue, up_class, up_waits, up_stall, up_fixed}
 
 bool_iff : (x y : Bool) → (x ≡ true → y ≡ true) → (y ≡ true → x ≡ true) → x ≡ y
 bool_iff true true f g = refl
@@ -64,15 +65,12 @@ acks_from : (p : ℕ) (s : Progress) (step : Step) (note : Note) → step ≡ Ex
 acks_from p s step note f g h =
     subst (λ x. acks p s x note ≡ true) (sym f) (and_from (p == p) _ (eq-eqb p p refl) (subst (λ y. acked_by s y ≡ true) (sym h) (and_from s.stalled _ g (eq-eqb s.command.tag s.command.tag refl))))
 
-module _ (n : ℕ) (trace : Trace) (e : Event) (orderly : IsOrderly n (trace ++ (e ∷ []))) (queued : IsQueued (trace ++ (e ∷ []))) (known : At → Bool) (lives : List Live) (shows : ShowsLives lives trace) (sets : View) (have : HaveOwn n sets trace) (into : List QueueRole) (issue fix : List Move) (lists : AreLists trace e into issue fix) where
+module _ (n : ℕ) (trace : Trace) (e : Event) (orderly : IsOrderly n (trace ++ (e ∷ []))) (queued : IsQueued (trace ++ (e ∷ []))) (known : At → Bool) (lives : List Live) (shows : ShowsLives lives trace) (sets : View) (have : HaveOwn n sets trace) (into : List QueueRole) (lists : AreLists trace e into (issue_list (issued_in e.step e.effect.note)) (fix_list e.effect.fixed (spe_in e.step))) (final : View) (passed : AreStepped n e.step e.effect (after n trace e known) lives into sets final) where
   abbrev T : Trace
   T = trace ++ (e ∷ [])
 
-  abbrev final : View
-  final = t6 n trace e known lives sets into issue fix lists
-
   abbrev InLives : Live → Type 0
-  InLives l = In n trace e known lives sets into issue fix lists l
+  InLives l = In n trace e known lives sets into lists final passed l
 
   abbrev next_of : Live → Live
   next_of l = moved l e.step e.effect.note
@@ -131,21 +129,18 @@ module _ (n : ℕ) (trace : Trace) (e : Event) (orderly : IsOrderly n (trace ++ 
       by (Kept s h d same) = absurd (both_ways _ (x.before s h) d)
       by (Moved s h live f st) = held_by p c s x.progress h live x.now.has
 
-  -- two commands of which one goes before the other are not complete by one step
-  no_two : (p c d : ℕ) → Completes trace e p c → Completes trace e p d → Before T p c d → ⊥
-  no_two p c d x y b = by (completes_touched trace e p d y)
+  -- no step completes a command and touches one that it goes before
+  no_two : (p c d : ℕ) (s : Progress) → Completes trace e p c → Touches trace e p d → Has T p d s → Held p d s → Before T p c d → ⊥
+  no_two p c d s x y has hd b = by y
     where
       hc : Held p c x.progress
       hc = completes_held p c x
-
-      hd : Held p d y.progress
-      hd = completes_held p d y
 
       command_c : hc.was.command ≡ b.first.command
       command_c = sym (ap (λ (v : Progress). v.command) (same_progress T p c b.first x.progress b.first_is x.now.has ∙ sym hc.becomes) ∙ (stepped_steps p c hc.was hc.live e.step e.effect.note).grows.command)
 
       command_d : hd.was.command ≡ b.second.command
-      command_d = sym (ap (λ (v : Progress). v.command) (same_progress T p d b.second y.progress b.second_is y.now.has ∙ sym hd.becomes) ∙ (stepped_steps p d hd.was hd.live e.step e.effect.note).grows.command)
+      command_d = sym (ap (λ (v : Progress). v.command) (same_progress T p d b.second s b.second_is has ∙ sym hd.becomes) ∙ (stepped_steps p d hd.was hd.live e.step e.effect.note).grows.command)
 
       goes : precedes hc.was.command hd.was.command ≡ true
       goes = subst₂ (λ (x y : Command). precedes x y ≡ true) (sym command_c) (sym command_d) b.goes
@@ -191,14 +186,20 @@ module _ (n : ℕ) (trace : Trace) (e : Event) (orderly : IsOrderly n (trace ++ 
   never : false ≡ true → ⊥
   never y = cc
 
-  up6 : (r : QueueRole) (a : At) → t3 n trace e known lives sets into issue fix lists r a ≡ true → final r a ≡ true
-  up6 r a x = up3 n trace e known lives sets into issue fix lists r a x
+  up4_of : (r : QueueRole) (a : At) → passed.issued r a ≡ true → passed.stalled r a ≡ true
+  up4_of r a x = up3 n trace e known lives sets into lists final passed r a x
 
-  from2 : (r : QueueRole) (a : At) → t2 n trace e known lives sets into issue fix lists r a ≡ true → t3 n trace e known lives sets into issue fix lists r a ≡ true
-  from2 r a x = up2 n trace e known lives sets into issue fix lists r a x
+  up6_of : (r : QueueRole) (a : At) → passed.stalled r a ≡ true → final r a ≡ true
+  up6_of r a x = up5 n trace e known lives sets into lists final passed r a (up4 n trace e known lives sets into lists final passed r a x)
 
-  touch3 : (l : Live) (a : At) → InLives l → is_touched l e.step e.effect.note ≡ true → ((goes_in l e.step e.effect.note ≡ true) × (after n trace e known a ≡ true)) ⊎ (own_has n (next_of l) a ≡ true) → t3 n trace e known lives sets into issue fix lists (Waits l.spe l.cmd) a ≡ true
-  touch3 l a i x w = from2 (Waits l.spe l.cmd) a (up_touch n trace e known lives sets into issue fix lists l a i x (what w))
+  up6 : (r : QueueRole) (a : At) → passed.issued r a ≡ true → final r a ≡ true
+  up6 r a x = up6_of r a (up4_of r a x)
+
+  from2 : (r : QueueRole) (a : At) → passed.touched r a ≡ true → passed.issued r a ≡ true
+  from2 r a x = up2 n trace e known lives sets into lists final passed r a x
+
+  touch3 : (l : Live) (a : At) → InLives l → is_touched l e.step e.effect.note ≡ true → ((goes_in l e.step e.effect.note ≡ true) × (after n trace e known a ≡ true)) ⊎ (own_has n (next_of l) a ≡ true) → passed.issued (Waits l.spe l.cmd) a ≡ true
+  touch3 l a i x w = from2 (Waits l.spe l.cmd) a (up_touch n trace e known lives sets into lists final passed l a i x (what w))
     where
       what : ((goes_in l e.step e.effect.note ≡ true) × (after n trace e known a ≡ true)) ⊎ (own_has n (next_of l) a ≡ true) → ((goes_in l e.step e.effect.note && after n trace e known a) || own_has n (next_of l) a) ≡ true
       what (inl y) = or_left _ _ (and_from _ _ y.0 y.1)
@@ -213,46 +214,9 @@ module _ (n : ℕ) (trace : Trace) (e : Event) (orderly : IsOrderly n (trace ++ 
         record { lower = ltb-true _ _ b.0; first = (next_of l).progress; second = (next_of d).progress; first_is = next_has l i; second_is = subst (λ p. Has T p d.cmd (next_of d).progress) (sym q) (next_has d j); goes = b.1 },
       )
 
-  -- what a Waits set has in the end it had before the sets of complete commands went out
-  down : (p c : ℕ) (a : At) → Completes trace e p c → final (Waits p c) a ≡ true → t3 n trace e known lives sets into issue fix lists (Waits p c) a ≡ true
-  down p c a x t = by (cause n trace e known lives sets into issue fix lists (Waits p c) a t)
-    where
-      by : Cause n trace e known lives sets into issue fix lists (Waits p c) a → t3 n trace e known lives sets into issue fix lists (Waits p c) a ≡ true
-      by (CStay y) = from2 (Waits p c) a (up0 n trace e known lives sets into issue fix lists (Waits p c) a y)
-      by (CInto y z) = from2 (Waits p c) a (up_into n trace e known lives sets into issue fix lists (Waits p c) a y z)
-      by (CTouch l i y q w) = subst (λ r. t3 n trace e known lives sets into issue fix lists r a ≡ true) (sym q) (touch3 l a i y w)
-      by (CIssue p' d' command class h g q y) = subst (λ r. t3 n trace e known lives sets into issue fix lists r a ≡ true) (sym q) (up_issue n trace e known lives sets into issue fix lists p' d' command class a h g y)
-      by (CClass l class i d' of q y) = cc
-      by (CWaits l d' i j dn ah q y) =
-          let b = before_of l d' i j ah in
-          let sp : p ≡ d'.spe = cc in
-          let sc : c ≡ d'.cmd = cc in
-          absurd
-          (no_two p l.cmd c (subst (λ v. Completes trace e v l.cmd) (b.0 ∙ sym sp) (completes_of l i dn)) x
-          (subst₂ (λ v w. Before T v l.cmd w) (b.0 ∙ sym sp) (sym sc) b.1))
-      by (CStall l i s1 s2 q y) = cc
-      by (CFixed p' tag low f q y) = cc
-
-  -- and before lists were stalled and statuses fixed
-  down4 : (p c : ℕ) (a : At) → final (Waits p c) a ≡ true → t4 n trace e known lives sets into issue fix lists (Waits p c) a ≡ true
-  down4 p c a t = by (cause n trace e known lives sets into issue fix lists (Waits p c) a t)
-    where
-      from3 : (r : QueueRole) → t3 n trace e known lives sets into issue fix lists r a ≡ true → t4 n trace e known lives sets into issue fix lists r a ≡ true
-      from3 r x = or_left (t3 n trace e known lives sets into issue fix lists r a) _ x
-
-      by : Cause n trace e known lives sets into issue fix lists (Waits p c) a → t4 n trace e known lives sets into issue fix lists (Waits p c) a ≡ true
-      by (CStay y) = from3 (Waits p c) (from2 (Waits p c) a (up0 n trace e known lives sets into issue fix lists (Waits p c) a y))
-      by (CInto y z) = from3 (Waits p c) (from2 (Waits p c) a (up_into n trace e known lives sets into issue fix lists (Waits p c) a y z))
-      by (CTouch l i y q w) = from3 (Waits p c) (subst (λ r. t3 n trace e known lives sets into issue fix lists r a ≡ true) (sym q) (touch3 l a i y w))
-      by (CIssue p' d' command class h g q y) = from3 (Waits p c) (subst (λ r. t3 n trace e known lives sets into issue fix lists r a ≡ true) (sym q) (up_issue n trace e known lives sets into issue fix lists p' d' command class a h g y))
-      by (CClass l class i d' of q y) = cc
-      by (CWaits l d' i j dn ah q y) = subst (λ r. t4 n trace e known lives sets into issue fix lists r a ≡ true) (sym q) (up_waits n trace e known lives sets into issue fix lists l d' a i j dn ah y)
-      by (CStall l i s1 s2 q y) = cc
-      by (CFixed p' tag low f q y) = cc
-
   -- a step changes no Complete set before commands are complete
-  complete2 : (p : ℕ) (class : Class) (a : At) → t2 n trace e known lives sets into issue fix lists (Complete p class) a ≡ true → sets (Complete p class) a ≡ true
-  complete2 p class a x = by (or_cases (with_into into (after n trace e known) sets (Complete p class) a) (list_any (touch_brings n e.step e.effect.note (after n trace e known) (Complete p class) a) lives) x)
+  complete2 : (p : ℕ) (class : Class) (a : At) → passed.touched (Complete p class) a ≡ true → sets (Complete p class) a ≡ true
+  complete2 p class a x = by (or_cases (with_into into (after n trace e known) sets (Complete p class) a) (list_any (touch_brings n e.step e.effect.note (after n trace e known) (Complete p class) a) lives) (sym (passed.is_touched (Complete p class) a) ∙ x))
     where
       first : (sets (Complete p class) a ≡ true) ⊎ ((is_among (Complete p class) into && after n trace e known a) ≡ true) → sets (Complete p class) a ≡ true
       first (inl y) = y
@@ -265,20 +229,50 @@ module _ (n : ℕ) (trace : Trace) (e : Event) (orderly : IsOrderly n (trace ++ 
           touched : Picked (touch_brings n e.step e.effect.note (after n trace e known) (Complete p class) a) lives → sets (Complete p class) a ≡ true
           touched q = let u = and_parts (is_touched q.one e.step e.effect.note) (false && ((goes_in q.one e.step e.effect.note && after n trace e known a) || own_has n (next_of q.one) a)) q.passes in absurd (never u.1)
 
-  complete5 : (p : ℕ) (class : Class) (a : At) → final (Complete p class) a ≡ true → t5 n trace e known lives sets into issue fix lists (Complete p class) a ≡ true
-  complete5 p class a x = by (or_cases (t5 n trace e known lives sets into issue fix lists (Complete p class) a) (list_any (brings (t5 n trace e known lives sets into issue fix lists) (Complete p class) a) fix) x)
+  complete3 : (p : ℕ) (class : Class) (a : At) → passed.issued (Complete p class) a ≡ true → sets (Complete p class) a ≡ true
+  complete3 p class a x = by (or_cases _ _ (passed.is_issued.only (Complete p class) a x))
     where
-      by : (t5 n trace e known lives sets into issue fix lists (Complete p class) a ≡ true) ⊎ (list_any (brings (t5 n trace e known lives sets into issue fix lists) (Complete p class) a) fix ≡ true) → t5 n trace e known lives sets into issue fix lists (Complete p class) a ≡ true
+      issued : IsIssue e (brings passed.issued (Complete p class) a) → sets (Complete p class) a ≡ true
+      issued i = absurd (never (sym (none_any (λ class'. brings passed.issued (Complete p class) a (from_class i.p i.d class')) (classes_ahead i.command) (λ class'. refl)) ∙ i.any))
+
+      by : (passed.touched (Complete p class) a ≡ true) ⊎ (list_any (brings passed.issued (Complete p class) a) (issue_list (issued_in e.step e.effect.note)) ≡ true) → sets (Complete p class) a ≡ true
+      by (inl y) = complete2 p class a y
+      by (inr y) = issued ((lists.issues (brings passed.issued (Complete p class) a)).0 y)
+
+  -- what the set of a touched command has in the end it had before the sets of others went into it
+  down : (p c : ℕ) (s : Progress) (a : At) → Touches trace e p c → Has T p c s → Held p c s → final (Waits p c) a ≡ true → passed.issued (Waits p c) a ≡ true
+  down p c s a y has hd t = by (cause n trace e known lives sets into lists final passed (Waits p c) a t)
+    where
+      by : Cause n trace e known lives sets into lists final passed (Waits p c) a → passed.issued (Waits p c) a ≡ true
+      by (CStay u) = from2 (Waits p c) a (up0 n trace e known lives sets into lists final passed (Waits p c) a u)
+      by (CInto u z) = from2 (Waits p c) a (up_into n trace e known lives sets into lists final passed (Waits p c) a u z)
+      by (CTouch l i u q w) = subst (λ r. passed.issued r a ≡ true) (sym q) (touch3 l a i u w)
+      by (CIssue p' d' command class h g q u) = subst (λ r. passed.issued r a ≡ true) (sym q) (up_issue n trace e known lives sets into lists final passed p' d' command class a h g (up0 n trace e known lives sets into lists final passed (Complete p' class) a (complete3 p' class a u)))
+      by (CClass l class i d' of q u) = cc
+      by (CWaits l d' i j dn ah q u) =
+          let b = before_of l d' i j ah in
+          let sp : p ≡ d'.spe = cc in
+          let sc : c ≡ d'.cmd = cc in
+          absurd
+          (no_two p l.cmd c s (subst (λ v. Completes trace e v l.cmd) (b.0 ∙ sym sp) (completes_of l i dn)) y has hd
+          (subst₂ (λ v w. Before T v l.cmd w) (b.0 ∙ sym sp) (sym sc) b.1))
+      by (CStall l i s1 s2 q u) = cc
+      by (CFixed p' tag low f q u) = cc
+
+  complete5 : (p : ℕ) (class : Class) (a : At) → final (Complete p class) a ≡ true → passed.done (Complete p class) a ≡ true
+  complete5 p class a x = by (or_cases _ _ (passed.is_fixed.only (Complete p class) a x))
+    where
+      fixed : IsFix e (brings final (Complete p class) a) → passed.done (Complete p class) a ≡ true
+      fixed i = absurd (never i.passes)
+
+      by : (passed.done (Complete p class) a ≡ true) ⊎ (list_any (brings final (Complete p class) a) (fix_list e.effect.fixed (spe_in e.step)) ≡ true) → passed.done (Complete p class) a ≡ true
       by (inl y) = y
-      by (inr y) = fixed ((lists.fixes (brings (t5 n trace e known lives sets into issue fix lists) (Complete p class) a)).0 y)
-        where
-          fixed : IsFix e (brings (t5 n trace e known lives sets into issue fix lists) (Complete p class) a) → t5 n trace e known lives sets into issue fix lists (Complete p class) a ≡ true
-          fixed i = absurd (never i.passes)
+      by (inr y) = fixed ((lists.fixes (brings final (Complete p class) a)).0 y)
 
   base_is : (w : Role) (a : At) → final (Base w) a ≡ (sets (Base w) a || (is_among_base w (write_roles trace e) && after n trace e known a))
-  base_is w a = bool_iff _ _ (λ t. to (cause n trace e known lives sets into issue fix lists (Base w) a t)) (λ t. from (or_cases (sets (Base w) a) (is_among_base w (write_roles trace e) && after n trace e known a) t))
+  base_is w a = bool_iff _ _ (λ t. to (cause n trace e known lives sets into lists final passed (Base w) a t)) (λ t. from (or_cases (sets (Base w) a) (is_among_base w (write_roles trace e) && after n trace e known a) t))
     where
-      to : Cause n trace e known lives sets into issue fix lists (Base w) a → (sets (Base w) a || (is_among_base w (write_roles trace e) && after n trace e known a)) ≡ true
+      to : Cause n trace e known lives sets into lists final passed (Base w) a → (sets (Base w) a || (is_among_base w (write_roles trace e) && after n trace e known a)) ≡ true
       to (CStay y) = or_left _ _ y
       to (CInto y z) = or_right _ _ (and_from _ _ ((lists.base w).0 y) z)
       to (CTouch l i y q u) = cc
@@ -289,8 +283,8 @@ module _ (n : ℕ) (trace : Trace) (e : Event) (orderly : IsOrderly n (trace ++ 
       to (CFixed p' tag low f q y) = cc
 
       from : (sets (Base w) a ≡ true) ⊎ ((is_among_base w (write_roles trace e) && after n trace e known a) ≡ true) → final (Base w) a ≡ true
-      from (inl y) = up6 (Base w) a (from2 (Base w) a (up0 n trace e known lives sets into issue fix lists (Base w) a y))
-      from (inr y) = let u = and_parts (is_among_base w (write_roles trace e)) (after n trace e known a) y in up6 (Base w) a (from2 (Base w) a (up_into n trace e known lives sets into issue fix lists (Base w) a ((lists.base w).1 u.0) u.1))
+      from (inl y) = up6 (Base w) a (from2 (Base w) a (up0 n trace e known lives sets into lists final passed (Base w) a y))
+      from (inr y) = let u = and_parts (is_among_base w (write_roles trace e)) (after n trace e known a) y in up6 (Base w) a (from2 (Base w) a (up_into n trace e known lives sets into lists final passed (Base w) a ((lists.base w).1 u.0) u.1))
 
   -- what is done of a command that stands in the list
   own_from : (l : Live) (a : At) → InLives l → IsOwn n T l.spe l.cmd a → own_has n (next_of l) a ≡ true
@@ -322,7 +316,7 @@ module _ (n : ℕ) (trace : Trace) (e : Event) (orderly : IsOrderly n (trace ++ 
           let v = and_parts (a.chain == 2 * n + l.spe) (a.cmd == l.cmd) u.1 in
           record { progress = (next_of l).progress; has = next_has l i; chain = eqb-true a.chain (2 * n + l.spe) v.0; cmd = eqb-true a.cmd l.cmd v.1; over = inl u.0 }
 
-  waits_to : (p d : ℕ) (a : At) → Cause n trace e known lives sets into issue fix lists (Waits p d) a → WaitsLocal n sets final trace e known p d a
+  waits_to : (p d : ℕ) (a : At) → Cause n trace e known lives sets into lists final passed (Waits p d) a → WaitsLocal n sets final trace e known p d a
   waits_to p d a (CStay y) = Stays y
   waits_to p d a (CInto y z) = Itself (inl ((lists.waits p d).0 y)) z
   waits_to p d a (CTouch l i y q w) = subst₂ (λ v u. WaitsLocal n sets final trace e known v u a) (let f : l.spe ≡ p = cc in f) (let g : l.cmd ≡ d = cc in g) (what w)
@@ -331,19 +325,19 @@ module _ (n : ℕ) (trace : Trace) (e : Event) (orderly : IsOrderly n (trace ++ 
       what (inl u) = Itself (goes_of l i u.0) u.1
       what (inr u) = Own (touches_of l i y) (own_to l a i u)
   waits_to p d a (CIssue p' d' command class h g q y) =
-      subst₂ (λ v u. WaitsLocal n sets final trace e known v u a) (let f : p' ≡ p = cc in f) (let k : d' ≡ d = cc in k) (AtIssue command class h g (complete2 p' class a y))
+      subst₂ (λ v u. WaitsLocal n sets final trace e known v u a) (let f : p' ≡ p = cc in f) (let k : d' ≡ d = cc in k) (AtIssue command class h g (complete3 p' class a y))
   waits_to p d a (CClass l class i dn of q y) = cc
   waits_to p d a (CWaits l d' i j dn ah q y) =
       let b = before_of l d' i j ah in
       subst₂ (λ v u. WaitsLocal n sets final trace e known v u a) (let f : d'.spe ≡ p = cc in f) (let k : d'.cmd ≡ d = cc in k)
       (subst (λ v. WaitsLocal n sets final trace e known v d'.cmd a) b.0
-      (FromEarlier l.cmd (completes_touched trace e l.spe l.cmd (completes_of l i dn)) (completes_of l i dn) b.1 (up6 (Waits l.spe l.cmd) a y)))
+      (FromEarlier l.cmd (completes_touched trace e l.spe l.cmd (completes_of l i dn)) (completes_of l i dn) b.1 (up5 n trace e known lives sets into lists final passed (Waits l.spe l.cmd) a y)))
   waits_to p d a (CStall l i s1 s2 q y) = cc
   waits_to p d a (CFixed p' tag low f q y) = cc
 
   waits_from : (p d : ℕ) (a : At) → IsKept trace (Waits p d) → WaitsLocal n sets final trace e known p d a → final (Waits p d) a ≡ true
-  waits_from p d a kept (Stays y) = up6 (Waits p d) a (from2 (Waits p d) a (up0 n trace e known lives sets into issue fix lists (Waits p d) a y))
-  waits_from p d a kept (Itself (inl h) z) = up6 (Waits p d) a (from2 (Waits p d) a (up_into n trace e known lives sets into issue fix lists (Waits p d) a ((lists.waits p d).1 h) z))
+  waits_from p d a kept (Stays y) = up6 (Waits p d) a (from2 (Waits p d) a (up0 n trace e known lives sets into lists final passed (Waits p d) a y))
+  waits_from p d a kept (Itself (inl h) z) = up6 (Waits p d) a (from2 (Waits p d) a (up_into n trace e known lives sets into lists final passed (Waits p d) a ((lists.waits p d).1 h) z))
   waits_from p d a kept (Itself (inr (inl h)) z) =
       let of : ((p == p) && (d == d)) ≡ true = and_from _ _ (eq-eqb p p refl) (eq-eqb d d refl) in
       let m : MayStep trace p d e.step e.effect.note = may.step p d (ap (is_of p d) h ∙ of) in
@@ -354,7 +348,7 @@ module _ (n : ℕ) (trace : Trace) (e : Event) (orderly : IsOrderly n (trace ++ 
       let l : Live = record { spe = p; cmd = d; progress = h.progress } in
       up6 (Waits p d) a (touch3 l a (find p d h.progress h.has (kept h.progress h.has)) (or_right (is_of p d e.step) _ k) (inl (or_right (reads_of p d e.step) _ k, z)))
   waits_from p d a kept (AtIssue command class h g y) =
-      up6 (Waits p d) a (up_issue n trace e known lives sets into issue fix lists p d command class a h g (up0 n trace e known lives sets into issue fix lists (Complete p class) a y))
+      up6 (Waits p d) a (up_issue n trace e known lives sets into lists final passed p d command class a h g (up0 n trace e known lives sets into lists final passed (Complete p class) a y))
   waits_from p d a kept (FromEarlier c t x b y) = by (came trace e p d b.second b.second_is)
     where
       hc : Held p c x.progress
@@ -365,13 +359,13 @@ module _ (n : ℕ) (trace : Trace) (e : Event) (orderly : IsOrderly n (trace ++ 
 
       go : Held p d b.second → final (Waits p d) a ≡ true
       go hd =
-          up4 n trace e known lives sets into issue fix lists (Waits p d) a
-          (up_waits n trace e known lives sets into issue fix lists record { spe = p; cmd = c; progress = hc.was } record { spe = p; cmd = d; progress = hd.was } a (find p c hc.was hc.has hc.live) (find p d hd.was hd.has hd.live)
+          up5 n trace e known lives sets into lists final passed (Waits p d) a
+          (up_waits n trace e known lives sets into lists final passed record { spe = p; cmd = c; progress = hc.was } record { spe = p; cmd = d; progress = hd.was } a (find p c hc.was hc.has hc.live) (find p d hd.was hd.has hd.live)
           (ap (λ (v : Progress). v.done) hc.becomes ∙ x.now.done)
           (and_from _ _ (eq-eqb p p refl)
           (and_from _ _ (lt-ltb c d b.lower)
           (subst₂ (λ (v w : Progress). precedes v.command w.command ≡ true) (same_progress T p c b.first x.progress b.first_is x.now.has ∙ sym hc.becomes) (sym hd.becomes) b.goes)))
-          (down p c a x y))
+          (up4_of (Waits p c) a (down p c x.progress a t x.now.has hc y)))
 
       by : Came trace e p d b.second → final (Waits p d) a ≡ true
       by (Newly u f g z) =
@@ -399,27 +393,27 @@ module _ (n : ℕ) (trace : Trace) (e : Event) (orderly : IsOrderly n (trace ++ 
       let i : InLives record { spe = p; cmd = d; progress = h.progress } = find p d h.progress h.has (kept h.progress h.has) in
       up6 (Waits p d) a (touch3 record { spe = p; cmd = d; progress = h.progress } a i (or_right (is_of p d e.step) _ k) (inr (own_from record { spe = p; cmd = d; progress = h.progress } a i o)))
 
-  complete_to : (p : ℕ) (class : Class) (a : At) → Cause n trace e known lives sets into issue fix lists (Complete p class) a → CompleteLocal sets final trace e p class a
+  complete_to : (p : ℕ) (class : Class) (a : At) → Cause n trace e known lives sets into lists final passed (Complete p class) a → CompleteLocal sets final trace e p class a
   complete_to p class a (CStay y) = WasComplete y
   complete_to p class a (CInto y z) = absurd (lists.complete p class y)
   complete_to p class a (CTouch l i y q w) = cc
   complete_to p class a (CIssue p' d' command class' h g q y) = cc
   complete_to p class a (CClass l class' i dn of q y) =
       subst₂ (λ v u. CompleteLocal sets final trace e v u a) (let f : l.spe ≡ p = cc in f) (let k : class' ≡ class = cc in k)
-      (IsNow l.cmd (completes_touched trace e l.spe l.cmd (completes_of l i dn)) (completes_of l i dn) of (up6 (Waits l.spe l.cmd) a y))
+      (IsNow l.cmd (completes_touched trace e l.spe l.cmd (completes_of l i dn)) (completes_of l i dn) of (up5 n trace e known lives sets into lists final passed (Waits l.spe l.cmd) a y))
   complete_to p class a (CWaits l d' i j dn ah q y) = cc
   complete_to p class a (CStall l i s1 s2 q y) = cc
   complete_to p class a (CFixed p' tag low f q y) = cc
 
   complete_from : (p : ℕ) (class : Class) (a : At) → CompleteLocal sets final trace e p class a → final (Complete p class) a ≡ true
-  complete_from p class a (WasComplete y) = up6 (Complete p class) a (from2 (Complete p class) a (up0 n trace e known lives sets into issue fix lists (Complete p class) a y))
+  complete_from p class a (WasComplete y) = up6 (Complete p class) a (from2 (Complete p class) a (up0 n trace e known lives sets into lists final passed (Complete p class) a y))
   complete_from p class a (IsNow c t x of y) =
-      up4 n trace e known lives sets into issue fix lists (Complete p class) a
-      (up_class n trace e known lives sets into issue fix lists record { spe = p; cmd = c; progress = (completes_held p c x).was } class a
+      up5 n trace e known lives sets into lists final passed (Complete p class) a
+      (up_class n trace e known lives sets into lists final passed record { spe = p; cmd = c; progress = (completes_held p c x).was } class a
       (find p c (completes_held p c x).was (completes_held p c x).has (completes_held p c x).live)
-      (ap (λ (v : Progress). v.done) (completes_held p c x).becomes ∙ x.now.done) (ap (λ (v : Progress). is_in class v.command) (completes_held p c x).becomes ∙ of) (down p c a x y))
+      (ap (λ (v : Progress). v.done) (completes_held p c x).becomes ∙ x.now.done) (ap (λ (v : Progress). is_in class v.command) (completes_held p c x).becomes ∙ of) (up4_of (Waits p c) a (down p c x.progress a t x.now.has (completes_held p c x) y)))
 
-  fixed_to : (p g : ℕ) (a : At) → Cause n trace e known lives sets into issue fix lists (Fixed p g) a → FixedLocal sets final e p g a
+  fixed_to : (p g : ℕ) (a : At) → Cause n trace e known lives sets into lists final passed (Fixed p g) a → FixedLocal sets final e p g a
   fixed_to p g a (CStay y) = WasFixed y
   fixed_to p g a (CInto y z) = absurd (lists.fixed p g y)
   fixed_to p g a (CTouch l i y q w) = cc
@@ -428,7 +422,7 @@ module _ (n : ℕ) (trace : Trace) (e : Event) (orderly : IsOrderly n (trace ++ 
   fixed_to p g a (CWaits l d' i j dn ah q y) = cc
   fixed_to p g a (CStall l i s1 s2 q y) = cc
   fixed_to p g a (CFixed p' tag low f q y) =
-      subst₂ (λ v u. FixedLocal sets final e v u a) (let x : p' ≡ p = cc in x) (let k : tag ≡ g = cc in k) (FixedNow f (up5 n trace e known lives sets into issue fix lists (Complete p' (Tag tag)) a y))
+      subst₂ (λ v u. FixedLocal sets final e v u a) (let x : p' ≡ p = cc in x) (let k : tag ≡ g = cc in k) (FixedNow f y)
 
   stalls_held : (p c : ℕ) (x : Stalls trace e p c) → Held p c x.progress
   stalls_held p c x = by (came trace e p c x.progress x.has)
@@ -446,7 +440,7 @@ module _ (n : ℕ) (trace : Trace) (e : Event) (orderly : IsOrderly n (trace ++ 
   same_tag : (l : Live) → InLives l → (next_of l).progress.command.tag ≡ l.progress.command.tag
   same_tag l i = ap (λ (v : Command). v.tag) (stepped_steps l.spe l.cmd l.progress (live_has l i).1 e.step e.effect.note).grows.command
 
-  stalled_to : (p g : ℕ) (a : At) → Cause n trace e known lives sets into issue fix lists (Stalled p g) a → StalledLocal sets final trace e p g a
+  stalled_to : (p g : ℕ) (a : At) → Cause n trace e known lives sets into lists final passed (Stalled p g) a → StalledLocal sets final trace e p g a
   stalled_to p g a (CStay y) = WasStalled y
   stalled_to p g a (CInto y z) = absurd (lists.stalled p g y)
   stalled_to p g a (CTouch l i y q w) = cc
@@ -455,29 +449,29 @@ module _ (n : ℕ) (trace : Trace) (e : Event) (orderly : IsOrderly n (trace ++ 
   stalled_to p g a (CWaits l d' i j dn ah q y) = cc
   stalled_to p g a (CStall l i s1 s2 q y) =
       subst₂ (λ v u. StalledLocal sets final trace e v u a) (let x : l.spe ≡ p = cc in x) (let k : l.progress.command.tag ≡ g = cc in k)
-      (StalledNow l.cmd (stalls_touched trace e l.spe l.cmd (stalls_of l i s1 s2)) (stalls_of l i s1 s2) (same_tag l i) (up4 n trace e known lives sets into issue fix lists (Waits l.spe l.cmd) a y))
+      (StalledNow l.cmd (stalls_touched trace e l.spe l.cmd (stalls_of l i s1 s2)) (stalls_of l i s1 s2) (same_tag l i) (up6_of (Waits l.spe l.cmd) a y))
   stalled_to p g a (CFixed p' tag low f q y) = cc
 
   stalled_from : (p g : ℕ) (a : At) → StalledLocal sets final trace e p g a → final (Stalled p g) a ≡ true
-  stalled_from p g a (WasStalled y) = up6 (Stalled p g) a (from2 (Stalled p g) a (up0 n trace e known lives sets into issue fix lists (Stalled p g) a y))
+  stalled_from p g a (WasStalled y) = up6 (Stalled p g) a (from2 (Stalled p g) a (up0 n trace e known lives sets into lists final passed (Stalled p g) a y))
   stalled_from p g a (StalledNow c t x tag y) =
       let i : InLives record { spe = p; cmd = c; progress = (stalls_held p c x).was } = find p c (stalls_held p c x).was (stalls_held p c x).has (stalls_held p c x).live in
       let k : (stalls_held p c x).was.command.tag ≡ g = sym (same_tag record { spe = p; cmd = c; progress = (stalls_held p c x).was } i) ∙ (ap (λ (v : Progress). v.command.tag) (stalls_held p c x).becomes ∙ tag) in
       subst (λ v. final (Stalled p v) a ≡ true) k
-      (up5 n trace e known lives sets into issue fix lists (Stalled p (stalls_held p c x).was.command.tag) a
-      (up_stall n trace e known lives sets into issue fix lists record { spe = p; cmd = c; progress = (stalls_held p c x).was } a i (x.before (stalls_held p c x).was (stalls_held p c x).has) (ap (λ (v : Progress). v.stalled) (stalls_held p c x).becomes ∙ x.stalled) (down4 p c a y)))
+      (up6_of (Stalled p (stalls_held p c x).was.command.tag) a
+      (up_stall n trace e known lives sets into lists final passed record { spe = p; cmd = c; progress = (stalls_held p c x).was } a i (x.before (stalls_held p c x).was (stalls_held p c x).has) (ap (λ (v : Progress). v.stalled) (stalls_held p c x).becomes ∙ x.stalled) (down p c x.progress a t x.has (stalls_held p c x) y)))
 
   -- the passes change exactly what the step has to change
   pub passes_local : AreLocal n sets final trace e known
   passes_local =
       record {
         base = base_is;
-        waits = λ p d a kept. (λ t. waits_to p d a (cause n trace e known lives sets into issue fix lists (Waits p d) a t), λ w. waits_from p d a kept w);
-        complete = λ p class a. (λ t. complete_to p class a (cause n trace e known lives sets into issue fix lists (Complete p class) a t), λ w. complete_from p class a w);
-        fixed = λ p g a low. (λ t. fixed_to p g a (cause n trace e known lives sets into issue fix lists (Fixed p g) a t), λ w. fixed_from p g a low w);
-        stalled = λ p g a. (λ t. stalled_to p g a (cause n trace e known lives sets into issue fix lists (Stalled p g) a t), λ w. stalled_from p g a w);
+        waits = λ p d a kept. (λ t. waits_to p d a (cause n trace e known lives sets into lists final passed (Waits p d) a t), λ w. waits_from p d a kept w);
+        complete = λ p class a. (λ t. complete_to p class a (cause n trace e known lives sets into lists final passed (Complete p class) a t), λ w. complete_from p class a w);
+        fixed = λ p g a low. (λ t. fixed_to p g a (cause n trace e known lives sets into lists final passed (Fixed p g) a t), λ w. fixed_from p g a low w);
+        stalled = λ p g a. (λ t. stalled_to p g a (cause n trace e known lives sets into lists final passed (Stalled p g) a t), λ w. stalled_from p g a w);
       }
     where
       fixed_from : (p g : ℕ) (a : At) → g < 32 → FixedLocal sets final e p g a → final (Fixed p g) a ≡ true
-      fixed_from p g a low (WasFixed y) = up6 (Fixed p g) a (from2 (Fixed p g) a (up0 n trace e known lives sets into issue fix lists (Fixed p g) a y))
-      fixed_from p g a low (FixedNow f y) = up_fixed n trace e known lives sets into issue fix lists p g a low f (complete5 p (Tag g) a y)
+      fixed_from p g a low (WasFixed y) = up6 (Fixed p g) a (from2 (Fixed p g) a (up0 n trace e known lives sets into lists final passed (Fixed p g) a y))
+      fixed_from p g a low (FixedNow f y) = up_fixed n trace e known lives sets into lists final passed p g a low f (complete5 p (Tag g) a y)

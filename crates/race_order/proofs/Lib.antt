@@ -34,6 +34,10 @@ pub mod Listings
 pub mod Standings
 pub mod Small
 pub mod Shapes
+pub mod Moved
+pub mod Growing
+pub mod InPlace
+pub mod Untouched
 pub mod Moving
 pub mod Telling
 pub mod Turns

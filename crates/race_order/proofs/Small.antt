@@ -1,5 +1,5 @@
 -- Small laws on tests and lists.
-use Rattle.std.proofs.Common.{◌≡◌, ℕ, zero, suc, ◌<◌, ◌&&◌, Bool, true, false, List, [], ◌∷◌, length, arith, refl, sym, ◌∙◌, true≢false}
+use Rattle.std.proofs.Common.{◌≡◌, ℕ, zero, suc, ◌<◌, ◌&&◌, ◌||◌, Bool, true, false, List, [], ◌∷◌, length, arith, refl, sym, ◌∙◌, true≢false}
 use Rattle.std.specs.Prelude.{Some, slice_get, cond}
 
 pub and-off : (a b : Bool) → a ≡ false → (a && b) ≡ false
@@ -24,3 +24,10 @@ pub get-there : {X : Type 0} (xs : List X) (i : ℕ) → i < length xs → (x : 
 get-there [] i h = absurd (omega (arith, h))
 get-there (x ∷ xs) zero h = (x, refl)
 get-there (x ∷ xs) (suc i) h = get-there xs i (omega (arith, h))
+
+-- a set that took something, and then something more of the same
+pub took_more : (old x y k : Bool) → ((old || (x && k)) || (y && k)) ≡ (old || ((x || y) && k))
+took_more true x y k = refl
+took_more false true y true = refl
+took_more false true y false = and-false y
+took_more false false y k = refl

@@ -27,12 +27,10 @@ use Rattle.race_order.proofs.Nexts as Next
 use Rattle.race_order.specs.Sources.{HaveOwn, IsKept, QueueSource}
 use Rattle.race_order.specs.Lives.{ShowsLives, moved}
 use Rattle.race_order.specs.Pasts.{IsPast, Holds}
-use Rattle.race_order.specs.Passes.{View, is_over, is_over_as, with_into, with_touch, with_moves, with_done, with_stalls}
-use Rattle.race_order.specs.declared.roles.Role.{Role}
-use Rattle.race_order.specs.Roles.{write_roles}
-use Rattle.race_order.specs.Ordering.{issued_in, self_roles, issue_list, fix_list, spe_in}
+use Rattle.race_order.specs.Passes.{View, is_over, is_over_as}
+use Rattle.race_order.specs.Bringing.{AreKept}
+use Rattle.race_order.specs.Ordering.{issued_in}
 use Rattle.race_order.proofs.Answering.{by_plain, made, IsKnown, answers}
-use Rattle.race_order.proofs.Causes.{t6}
 use Rattle.race_order.proofs.Composed.{passes_local}
 use Rattle.race_order.proofs.Locals.{local_next}
 use Rattle.race_order.proofs.Passed.{Picked, picked}
@@ -54,26 +52,31 @@ name_within o trace i a stands st =
     let l : length o.last.ends.items ≡ 3 * o.spes + 1 = stands.last_chains in
     omega arith
 
+none_over : (next : List Live) → list_any (λ (l : Live). false) next ≡ false
+none_over [] = refl
+none_over (l ∷ ls) = none_over ls
+
+-- no set that is kept is of a command that is complete now
+pub kept_not_over : (trace : Trace) (e : Event) (may : QueueMay trace e) (lives : List Live) (shows : ShowsLives lives trace) (r : QueueRole) → IsKept (trace ++ (e ∷ [])) r → is_over (map (λ l. moved l e.step e.effect.note) lives) r ≡ false
+kept_not_over trace e may lives shows (Base r) kept = none_over (map (λ l. moved l e.step e.effect.note) lives)
+kept_not_over trace e may lives shows (Complete p class) kept = none_over (map (λ l. moved l e.step e.effect.note) lives)
+kept_not_over trace e may lives shows (Fixed p g) kept = none_over (map (λ l. moved l e.step e.effect.note) lives)
+kept_not_over trace e may lives shows (Stalled p g) kept = none_over (map (λ l. moved l e.step e.effect.note) lives)
+kept_not_over trace e may lives shows (Waits p d) kept = false_from_ne_true _ (λ u. over (picked (is_over_as (Waits p d)) (map (λ l. moved l e.step e.effect.note) lives) u))
+  where
+    over : Picked (is_over_as (Waits p d)) (map (λ l. moved l e.step e.effect.note) lives) → ⊥
+    over x =
+        let m = after_has trace e may lives shows x.one x.place x.at in
+        let a = and_parts x.one.progress.done (x.one.spe == p && x.one.cmd == d) x.passes in
+        let b = and_parts (x.one.spe == p) (x.one.cmd == d) a.1 in
+        both_ways _ (kept x.one.progress (subst₂ (λ y z. Has (trace ++ (e ∷ [])) y z x.one.progress) (eqb-true x.one.spe p b.0) (eqb-true x.one.cmd d b.1) m)) a.0
+
 module _ (n : ℕ) (trace : Trace) (e : Event) (orderly : IsOrderly n (trace ++ (e ∷ []))) (queued : IsQueued (trace ++ (e ∷ []))) (known : At → Bool) (lives : List Live) (shows : ShowsLives lives trace) (sets : View) (have : HaveOwn n sets trace) (kept : Keep n trace sets) (known_is : (a : At) → known a ≡ list_any (λ r. sets r a) (looked_list trace e)) where
   abbrev T : Trace
   T = trace ++ (e ∷ [])
 
-  abbrev pub next_view : View
-  next_view = t6 n trace e known lives sets (into_list trace e) (issue_list (issued_in e.step e.effect.note)) (fix_list e.effect.fixed (spe_in e.step)) (are_lists trace e)
-
   isk : IsKnown sets trace e known
   isk = is_known trace e sets known known_is
-
-  nx : AreNext n sets next_view trace e known
-  nx = local_next trace e n sets next_view known have (passes_local n trace e orderly queued known lives shows sets have (into_list trace e) (issue_list (issued_in e.step e.effect.note)) (fix_list e.effect.fixed (spe_in e.step)) (are_lists trace e))
-
-  pub keep_next : (sets' : View) → ((r : QueueRole) → IsKept T r → (a : At) → sets' r a ≡ next_view r a) → Keep n T sets'
-  keep_next sets' same =
-      record { holds = λ r k. subst (λ s. Holds Rule n (IsPast n) T s (QueueSource T r)) (sym (fun_ext (λ a. same r k a))) (all_kept n trace e orderly queued sets next_view kept.holds known isk nx r (kept_before n trace e orderly queued sets next_view kept.holds known isk nx r k)) }
-
-  pub own_next : (sets' : View) → ((r : QueueRole) → IsKept T r → (a : At) → sets' r a ≡ next_view r a) → HaveOwn n sets' T
-  own_next sets' same =
-      record { own = λ p d a k o. same (Waits p d) k a ∙ (nx.waits p d a (kept_before n trace e orderly queued sets next_view kept.holds known isk nx (Waits p d) k)).1 (Next.Own o) }
 
   pub last_next : IsLast n T known
   last_next =
@@ -87,6 +90,21 @@ module _ (n : ℕ) (trace : Trace) (e : Event) (orderly : IsOrderly n (trace ++ 
 
       last : length trace ≡ length T - 1
       last = let k : length T ≡ length trace + 1 = longer trace e in omega arith
+
+  module _ (may : QueueMay trace e) (final : View) (passed : AreKept n e.step e.effect (after n trace e known) lives (into_list trace e) sets final) where
+    nx : AreNext n sets passed.all trace e known
+    nx = local_next trace e n sets passed.all known have (passes_local n trace e orderly queued known lives shows sets have (into_list trace e) (are_lists trace e) passed.all passed.stepped)
+
+    same : (r : QueueRole) → IsKept T r → (a : At) → final r a ≡ passed.all r a
+    same r k a = passed.kept r a (kept_not_over trace e may lives shows r k)
+
+    pub keep_next : Keep n T final
+    keep_next =
+        record { holds = λ r k. subst (λ s. Holds Rule n (IsPast n) T s (QueueSource T r)) (sym (fun_ext (λ a. same r k a))) (all_kept n trace e orderly queued sets passed.all kept.holds known isk nx r (kept_before n trace e orderly queued sets passed.all kept.holds known isk nx r k)) }
+
+    pub own_next : HaveOwn n final T
+    own_next =
+        record { own = λ p d a k o. same (Waits p d) k a ∙ (nx.waits p d a (kept_before n trace e orderly queued sets passed.all kept.holds known isk nx (Waits p d) k)).1 (Next.Own o) }
 
 pub queued_next : (trace : Trace) (e : Event) → IsQueued trace → QueueMay trace e → IsQueued (trace ++ (e ∷ []))
 queued_next trace e o may i f at = by (place_of trace e i f at)
@@ -107,34 +125,3 @@ lives_next trace e may lives shows = by (issued_in e.step e.effect.note) refl
     by : (o : Option Issued) → issued_in e.step e.effect.note ≡ o → ShowsLives (with_issued o (kept_lives trace e may lives shows)) (trace ++ (e ∷ []))
     by None q = shows_same trace e may lives shows (λ p c command h. none (issued_in e.step e.effect.note) record { spe = p; cmd = c; command = command } q (issue_found e p c command h))
     by (Some i) q = let h = issued_is e.step e.effect.note i q in shows_issue trace e may lives shows i.spe i.cmd i.command record { is = h.0; notes = h.1 }
-
--- the view of the sets after the passes, with what the code has in place of what it stands for
-pub view_of : (n : ℕ) (trace : Trace) (e : Event) (known : At → Bool) (lives : List Live) (sets : View) (lv nv : List Live) (av : At → Bool) (wv : List Role)
-    → lv ≡ lives → nv ≡ map (λ l. moved l e.step e.effect.note) lives → av ≡ after n trace e known → wv ≡ write_roles trace e
-    → (r : QueueRole) (a : At)
-    → with_moves (fix_list e.effect.fixed (spe_in e.step)) (with_stalls lv e.step e.effect.note (with_done nv (with_moves (issue_list (issued_in e.step e.effect.note)) (with_touch n e.step e.effect.note av lv (with_into (map Base wv ++ self_roles (issued_in e.step e.effect.note)) av sets))))) r a
-    ≡ t6 n trace e known lives sets (into_list trace e) (issue_list (issued_in e.step e.effect.note)) (fix_list e.effect.fixed (spe_in e.step)) (are_lists trace e) r a
-view_of n trace e known lives sets lv nv av wv l m k w r a =
-    ap (λ (x : List Live). with_moves (fix_list e.effect.fixed (spe_in e.step)) (with_stalls x e.step e.effect.note (with_done nv (with_moves (issue_list (issued_in e.step e.effect.note)) (with_touch n e.step e.effect.note av x (with_into (map Base wv ++ self_roles (issued_in e.step e.effect.note)) av sets))))) r a) l
-    ∙ (ap (λ (x : List Live). with_moves (fix_list e.effect.fixed (spe_in e.step)) (with_stalls lives e.step e.effect.note (with_done x (with_moves (issue_list (issued_in e.step e.effect.note)) (with_touch n e.step e.effect.note av lives (with_into (map Base wv ++ self_roles (issued_in e.step e.effect.note)) av sets))))) r a) m
-    ∙ (ap (λ (x : At → Bool). with_moves (fix_list e.effect.fixed (spe_in e.step)) (with_stalls lives e.step e.effect.note (with_done (map (λ l. moved l e.step e.effect.note) lives) (with_moves (issue_list (issued_in e.step e.effect.note)) (with_touch n e.step e.effect.note x lives (with_into (map Base wv ++ self_roles (issued_in e.step e.effect.note)) x sets))))) r a) k
-    ∙ ap (λ (x : List Role). with_moves (fix_list e.effect.fixed (spe_in e.step)) (with_stalls lives e.step e.effect.note (with_done (map (λ l. moved l e.step e.effect.note) lives) (with_moves (issue_list (issued_in e.step e.effect.note)) (with_touch n e.step e.effect.note (after n trace e known) lives (with_into (map Base x ++ self_roles (issued_in e.step e.effect.note)) (after n trace e known) sets))))) r a) w))
-
-none_over : (next : List Live) → list_any (λ (l : Live). false) next ≡ false
-none_over [] = refl
-none_over (l ∷ ls) = none_over ls
-
--- no set that is kept is of a command that is complete now
-pub kept_not_over : (trace : Trace) (e : Event) (may : QueueMay trace e) (lives : List Live) (shows : ShowsLives lives trace) (r : QueueRole) → IsKept (trace ++ (e ∷ [])) r → is_over (map (λ l. moved l e.step e.effect.note) lives) r ≡ false
-kept_not_over trace e may lives shows (Base r) kept = none_over (map (λ l. moved l e.step e.effect.note) lives)
-kept_not_over trace e may lives shows (Complete p class) kept = none_over (map (λ l. moved l e.step e.effect.note) lives)
-kept_not_over trace e may lives shows (Fixed p g) kept = none_over (map (λ l. moved l e.step e.effect.note) lives)
-kept_not_over trace e may lives shows (Stalled p g) kept = none_over (map (λ l. moved l e.step e.effect.note) lives)
-kept_not_over trace e may lives shows (Waits p d) kept = false_from_ne_true _ (λ u. over (picked (is_over_as (Waits p d)) (map (λ l. moved l e.step e.effect.note) lives) u))
-  where
-    over : Picked (is_over_as (Waits p d)) (map (λ l. moved l e.step e.effect.note) lives) → ⊥
-    over x =
-        let m = after_has trace e may lives shows x.one x.place x.at in
-        let a = and_parts x.one.progress.done (x.one.spe == p && x.one.cmd == d) x.passes in
-        let b = and_parts (x.one.spe == p) (x.one.cmd == d) a.1 in
-        both_ways _ (kept x.one.progress (subst₂ (λ y z. Has (trace ++ (e ∷ [])) y z x.one.progress) (eqb-true x.one.spe p b.0) (eqb-true x.one.cmd d b.1) m)) a.0

@@ -14,7 +14,8 @@ use Rattle.cell_base.specs.declared.steps.Step.TheVariants.{Exec, Piece, Elem, R
 use Rattle.race_order.specs.Stamps.{stamp, chain_of}
 use Rattle.race_order.specs.Counted.{Shows, Fits, one_more, counts_after_put, counts_after_take}
 use Rattle.race_order.specs.Listed.{read_roles_by, write_roles_by, note_reads_by, note_writes_by, box_of}
-use Rattle.race_order.specs.Roles.{read_roles, write_roles, note_reads, note_writes, step_reads, step_writes, line_roles, put_role, take_role}
+use Rattle.race_order.specs.Roles.{read_roles, write_roles, note_reads, note_writes, step_reads, step_writes, line_roles, put_role, take_role, fact_by}
+use Rattle.race_order.specs.Tables.{FitsChains}
 use Rattle.race_order.specs.Orderly.{MayCome, IsOrderly, IsNoted, IsWithin}
 use Rattle.race_order.specs.Standing.{AreNamed}
 use Rattle.race_order.proofs.Counts.{count_more}
@@ -139,3 +140,12 @@ chain_low n (Elem p c) w = omega arith
 chain_low n (Retire p c) w = omega arith
 chain_low n (Atomic p) w = omega arith
 chain_low n Host w = omega arith
+
+-- what names a step in a set is of one of the chains
+pub fact_fits : (n : ℕ) (a : At) (s : Step) → IsWithin n s → a.place + 1 < 2 ^ 32 → FitsChains (3 * n + 1) (fact_by n a s)
+fact_fits n a (Exec p) w room = (omega arith, room)
+fact_fits n a (Piece p c x k) w room = tt
+fact_fits n a (Elem p c) w room = tt
+fact_fits n a (Retire p c) w room = tt
+fact_fits n a (Atomic p) w room = (omega arith, room)
+fact_fits n a Host w room = (omega arith, room)

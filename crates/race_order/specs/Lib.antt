@@ -14,6 +14,7 @@ pub mod Tables
 pub mod Lives
 pub mod Passes
 pub mod Ordering
+pub mod Bringing
 pub mod Standing
 pub mod Stages
 pub mod RunLaws

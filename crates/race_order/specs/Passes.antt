@@ -1,5 +1,5 @@
 -- Which sets go into which others at a step.
-use Rattle.std.specs.Prelude.{ℕ, ◌==◌, nat_lt, ◌&&◌, ◌||◌, not, Bool, true, false, List, [], ◌∷◌, ◌++◌}
+use Rattle.std.specs.Prelude.{◌≡◌, ℕ, ◌==◌, nat_lt, ◌&&◌, ◌||◌, not, Bool, true, false, List, [], ◌∷◌, ◌++◌}
 use Rattle.std.specs.List.{list_any}
 use Rattle.cell_base.specs.declared.steps.Step.{Step}
 use Rattle.mfc_command.specs.declared.command.Mark.{Mark}
@@ -70,14 +70,11 @@ with_touch n step note after lives t r a = t r a || list_any (touch_brings n ste
 abbrev pub brings : View → QueueRole → At → Move → Bool
 brings t r a m = same_role m.to r && t m.from a
 
-abbrev pub with_moves : List Move → View → View
-with_moves moves t r a = t r a || list_any (brings t r a) moves
-
-abbrev pub with_done : List Live → View → View
-with_done next t r a = t r a || list_any (done_any (brings t r a) next) next
-
-abbrev pub with_stalls : List Live → Step → Note → View → View
-with_stalls lives step note t r a = t r a || list_any (stall_any (brings t r a) step note) lives
+-- the sets t become u by moves, of which one passes a test where `some` says so: u has what t had and what they bring of that,
+-- and nothing else but what they bring of u itself
+pub record AreMoved (some : (Move → Bool) → Bool) (t u : View) : Type 0 where
+  pub has : (r : QueueRole) (a : At) → (t r a || some (brings t r a)) ≡ true → u r a ≡ true
+  pub only : (r : QueueRole) (a : At) → u r a ≡ true → (t r a || some (brings u r a)) ≡ true
 
 -- the command is complete, and what its steps wait for is looked at no more
 abbrev pub is_over_as : QueueRole → Live → Bool

@@ -43,6 +43,7 @@ pub record StandsFor (o : Orderer) (trace : Trace) : Type 0 where
   pub queued : IsQueued trace
   pub chains : AreOf (3 * o.spes + 1) o.sets
   pub last_chains : length o.last.ends.items ≡ 3 * o.spes + 1
+  pub spare_chains : length o.spare.ends.items ≡ 3 * o.spes + 1
   pub counts : Shows o.spes o.boxes trace
   pub names : AreNamed o.spes trace o.names.items
   pub lives : ShowsLives o.lives.items trace

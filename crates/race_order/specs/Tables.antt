@@ -1,7 +1,9 @@
 -- What a table of sets has.
-use Rattle.std.specs.Prelude.{◌≡◌, ℕ, zero, suc, ◌+◌, ◌*◌, ◌/◌, ◌%◌, ◌≤◌, ◌==◌, ◌&&◌, Bool, true, false, List, [], ◌∷◌, length, All as Each}
+use Rattle.std.specs.Prelude.{◌≡◌, ℕ, zero, suc, ◌+◌, ◌*◌, ◌/◌, ◌%◌, ◌<◌, ◌≤◌, ◌^◌, ◌==◌, ◌&&◌, Bool, true, false, ⊤, List, [], ◌∷◌, length, All as Each}
 use Rattle.std.specs.List.{list_any}
 use Rattle.order_sets.specs.declared.facts.At.{At}
+use Rattle.order_sets.specs.declared.facts.Fact.{Fact}
+use Rattle.order_sets.specs.declared.facts.Fact.TheVariants.{Upto}
 use Rattle.order_sets.specs.Stands.{has_at}
 use Rattle.race_order.specs.Roles.{same_role as same_base}
 use Rattle.race_order.specs.declared.roles.Role.{Role}
@@ -67,6 +69,11 @@ number (Waits p c) = 256 * p + 160 + c % 64
 number (Complete p class) = 256 * p + class_number class
 number (Fixed p g) = 256 * p + 96 + g
 number (Stalled p g) = 256 * p + 128 + g
+
+-- the fact is of one of so many chains
+abbrev pub FitsChains : ℕ → Fact → Type 0
+FitsChains chains (Upto chain place) = (chain < chains) × (place + 1 < 2 ^ 32)
+FitsChains chains _ = ⊤
 
 -- the set of the role
 abbrev pub sets_have : Sets → QueueRole → At → Bool

@@ -1,108 +1,124 @@
-//! All that a step does to the sets.
+//! All that a step does to the sets and to the outstanding commands.
 
-ghost use Rattle.std.specs.Prelude.{◌≡◌, ℕ, ◌+◌, ◌*◌, ◌<◌, ◌≤◌, OnOk, length, map};
+ghost use Rattle.std.specs.Prelude.{◌≡◌, ℕ, ◌+◌, ◌*◌, ◌≤◌, IfOk, OnOk, length, filter, not, false};
+ghost use Rattle.std.specs.List.{list_any};
 ghost use Rattle.order_sets.specs.declared.facts.At.{At};
-ghost use Rattle.order_sets.specs.Stands.{has_at};
 ghost use Rattle.race_order.specs.declared.roles.QueueRole.{QueueRole as ARole};
-ghost use Rattle.race_order.specs.Lives.{HaveRoom, AreWithin, AreOutstanding, moved};
-ghost use Rattle.race_order.specs.Passes.{with_into, with_touch, with_moves, with_done, with_stalls};
+ghost use Rattle.race_order.specs.Counted.{Fits};
+ghost use Rattle.race_order.specs.Lives.{HaveRoom, AreWithin, AreOutstanding};
+ghost use Rattle.race_order.specs.Ordering.{issued_in, issue_list};
+ghost use Rattle.race_order.specs.Passes.{AreMoved, is_over};
+ghost use Rattle.race_order.specs.Bringing.{has_brought, IsOfChains, entered, nexts, AreStepped, AreKept};
+ghost use Rattle.race_order.specs.Standing.{with_issued};
 ghost use Rattle.race_order.specs.Tables.{sets_have, AreOf};
 
+use crate::boxes::Boxes;
+use crate::brought::Brought;
+use crate::entering::enter_all;
 use crate::error::OrderError;
+use crate::going::go_on_all;
+use crate::lists::find_issue;
 use crate::lives::{Live, touch_all};
-use crate::moves::{Move, move_all};
-use crate::passes::{done_moves, stall_moves};
-use crate::roles::QueueRole;
+use crate::passes::{pass_done, pass_fixed, pass_issued};
+use crate::progress::begin;
 use crate::sets::Sets;
 use cell_base::Step;
 use cell_machine::Note;
 use order_sets::Known;
-use std::alloc::Global;
 
-/// The step goes into its sets, and what is done of the touched commands.
-fn apply_step(
-    alloc: Global,
-    sets: &mut Sets,
-    spes: u8,
-    lives: &[Live],
-    step: Step,
-    note: Note,
-    after: &Known,
-    into: &[QueueRole],
-) -> Result<(), OrderError>
-    requires room { HaveRoom lives.now }
-    requires live { AreOutstanding lives.now }
-    requires within { AreWithin spes lives.now }
-    requires some { 1 ≤ spes }
-    requires spes { spes ≤ 16 }
-    requires sets { AreOf (3 * spes + 1) sets.old }
-    requires after { length after.now.ends.items ≡ 3 * spes + 1 }
-    ensures has { OnOk result ((r : ARole) (at : At) → sets_have sets.new r at ≡ with_touch spes step note (has_at after.now) lives.now (with_into into.now (has_at after.now) (sets_have sets.old)) r at) }
-    ensures chains { OnOk result (AreOf (3 * spes + 1) sets.new) }
+/// What goes before a command goes into its set, where the step issues one.
+fn pass_issue(sets: &mut Sets, spare: &mut Known, step: Step, note: Note) -> Result<(), OrderError>
+    requires { AreOf (length spare.old.ends.items) sets.old }
+    ensures has { OnOk result (AreMoved (λ g. list_any g (issue_list (issued_in step note))) (sets_have sets.old) (sets_have sets.new)) }
+    ensures chains { OnOk result (AreOf (length spare.old.ends.items) sets.new) }
+    ensures spare { length spare.new.ends.items ≡ length spare.old.ends.items }
 {
-    sets.put_all(into, after)?;
-    touch_all(alloc, sets, spes, lives, step, note, after)?;
+    match find_issue(step, note) {
+        Some(issued) => pass_issued(sets, spare, &issued),
+        None => Ok(()),
+    }
+}
+
+/// The step and its moves, one after the other. The commands are then as after it, also complete ones; answers whether there is one of these.
+fn apply(
+    sets: &mut Sets,
+    spare: &mut Known,
+    lives: &mut [Live],
+    boxes: &Boxes,
+    brought: &Brought,
+) -> Result<bool, OrderError>
+    requires fits { Fits boxes.now brought.now.effect.now.note }
+    requires room { HaveRoom lives.old }
+    requires live { AreOutstanding lives.old }
+    requires within { AreWithin brought.now.spes lives.old }
+    requires brought { IsOfChains brought.now }
+    requires sets { AreOf (3 * brought.now.spes + 1) sets.old }
+    requires spare { length spare.old.ends.items ≡ 3 * brought.now.spes + 1 }
+    ensures stepped { OnOk result (AreStepped brought.now.spes brought.now.step brought.now.effect.now (has_brought brought.now) lives.old (entered boxes.now brought.now) (sets_have sets.old) (sets_have sets.new)) }
+    ensures next { OnOk result (lives.new ≡ nexts brought.now.step brought.now.effect.now lives.old) }
+    ensures done { IfOk result (λ done. done ≡ list_any (λ l. l.progress.done) lives.new) }
+    ensures chains { OnOk result (AreOf (3 * brought.now.spes + 1) sets.new) }
+    ensures spare { length spare.new.ends.items ≡ length spare.old.ends.items }
+{
+    let (step, note) = (brought.step, brought.effect.note);
+    enter_all(sets, boxes, brought)?;
+    touch_all(sets, lives, brought)?;
+    pass_issue(sets, spare, step, note)?;
+    let done = go_on_all(sets, spare, lives, step, note)?;
+    pass_done(sets, spare, lives, done)?;
+    pass_fixed(sets, spare, step, brought.effect.fixed)?;
+    Ok(done)
+}
+
+/// Drops the commands that are complete, of which there is one or none, and the sets that their steps waited for.
+fn drop_done(sets: &mut Sets, lives: &mut Vec<Live>, done: bool)
+    requires { done ≡ list_any (λ l. l.progress.done) lives.old.items }
+    ensures has { (r : ARole) (at : At) → is_over lives.old.items r ≡ false → sets_have sets.new r at ≡ sets_have sets.old r at }
+    ensures chains { (chains : ℕ) → AreOf chains sets.old → AreOf chains sets.new }
+    ensures lives { lives.new.items ≡ filter (λ l. not l.progress.done) lives.old.items }
+{
+    if done {
+        sets.drop_over(lives);
+        lives.retain(|l| !l.progress.done);
+    }
+}
+
+/// Adds the command that the step issues.
+fn add_issued(lives: &mut Vec<Live>, step: Step, note: Note) -> Result<(), OrderError>
+    ensures { OnOk result (lives.new.items ≡ with_issued (issued_in step note) lives.old.items) }
+{
+    if let Some(i) = find_issue(step, note) {
+        lives.push(Live {
+            spe: i.spe,
+            cmd: i.cmd,
+            progress: begin(i.command),
+        })?;
+    }
     Ok(())
 }
 
-/// The sets of commands that are complete go out.
-fn apply_done(alloc: Global, sets: &mut Sets, spes: u8, next: &[Live]) -> Result<(), OrderError>
-    requires { AreOf (3 * spes + 1) sets.old }
-    ensures has { OnOk result ((r : ARole) (at : At) → sets_have sets.new r at ≡ with_done next.now (sets_have sets.old) r at) }
-    ensures chains { OnOk result (AreOf (3 * spes + 1) sets.new) }
-{
-    let moves = done_moves(alloc, next)?;
-    move_all(alloc, sets, spes, moves.as_slice())?;
-    Ok(())
-}
-
-/// The sets of lists that are stalled go out.
-fn apply_stalls(
-    alloc: Global,
+/// Takes the step into the sets, and puts the outstanding commands forward.
+pub(crate) fn take_in(
     sets: &mut Sets,
-    spes: u8,
-    lives: &[Live],
-    step: Step,
-    note: Note,
+    spare: &mut Known,
+    lives: &mut Vec<Live>,
+    boxes: &Boxes,
+    brought: &Brought,
 ) -> Result<(), OrderError>
-    requires room { HaveRoom lives.now }
-    requires sets { AreOf (3 * spes + 1) sets.old }
-    ensures has { OnOk result ((r : ARole) (at : At) → sets_have sets.new r at ≡ with_stalls lives.now step note (sets_have sets.old) r at) }
-    ensures chains { OnOk result (AreOf (3 * spes + 1) sets.new) }
+    requires fits { Fits boxes.now brought.now.effect.now.note }
+    requires room { HaveRoom lives.old.items }
+    requires live { AreOutstanding lives.old.items }
+    requires within { AreWithin brought.now.spes lives.old.items }
+    requires brought { IsOfChains brought.now }
+    requires sets { AreOf (3 * brought.now.spes + 1) sets.old }
+    requires spare { length spare.old.ends.items ≡ 3 * brought.now.spes + 1 }
+    ensures stepped { OnOk result (AreKept brought.now.spes brought.now.step brought.now.effect.now (has_brought brought.now) lives.old.items (entered boxes.now brought.now) (sets_have sets.old) (sets_have sets.new)) }
+    ensures lives { OnOk result (lives.new.items ≡ with_issued (issued_in brought.now.step brought.now.effect.now.note) (filter (λ l. not l.progress.done) (nexts brought.now.step brought.now.effect.now lives.old.items))) }
+    ensures chains { OnOk result (AreOf (3 * brought.now.spes + 1) sets.new) }
+    ensures spare { length spare.new.ends.items ≡ length spare.old.ends.items }
 {
-    let moves = stall_moves(alloc, lives, step, note)?;
-    move_all(alloc, sets, spes, moves.as_slice())?;
-    Ok(())
-}
-
-/// All passes, in their order.
-pub(crate) fn apply(
-    alloc: Global,
-    sets: &mut Sets,
-    spes: u8,
-    lives: &[Live],
-    next: &[Live],
-    step: Step,
-    note: Note,
-    after: &Known,
-    into: &[QueueRole],
-    issue: &[Move],
-    fix: &[Move],
-) -> Result<(), OrderError>
-    requires room { HaveRoom lives.now }
-    requires live { AreOutstanding lives.now }
-    requires within { AreWithin spes lives.now }
-    requires some { 1 ≤ spes }
-    requires spes { spes ≤ 16 }
-    requires sets { AreOf (3 * spes + 1) sets.old }
-    requires after { length after.now.ends.items ≡ 3 * spes + 1 }
-    ensures has { OnOk result ((r : ARole) (at : At) → sets_have sets.new r at ≡ with_moves fix.now (with_stalls lives.now step note (with_done next.now (with_moves issue.now (with_touch spes step note (has_at after.now) lives.now (with_into into.now (has_at after.now) (sets_have sets.old)))))) r at) }
-    ensures chains { OnOk result (AreOf (3 * spes + 1) sets.new) }
-{
-    apply_step(alloc, sets, spes, lives, step, note, after, into)?;
-    move_all(alloc, sets, spes, issue)?;
-    apply_done(alloc, sets, spes, next)?;
-    apply_stalls(alloc, sets, spes, lives, step, note)?;
-    move_all(alloc, sets, spes, fix)?;
+    let done = apply(sets, spare, lives.as_mut_slice(), boxes, brought)?;
+    drop_done(sets, lives, done);
+    add_issued(lives, brought.step, brought.effect.note)?;
     Ok(())
 }

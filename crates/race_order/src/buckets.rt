@@ -1,17 +1,18 @@
 //! Sets of known steps that are searched one after the other.
 
-ghost use Rattle.std.specs.Prelude.{◌≡◌, ℕ, ◌+◌, ◌*◌, ◌≤◌, ◌||◌, ◌&&◌, IfOk, OnOk, length, [], true, false};
+ghost use Rattle.std.specs.Prelude.{◌≡◌, ℕ, ◌+◌, ◌*◌, ◌<◌, ◌≤◌, ◌||◌, ◌&&◌, IfOk, OnOk, length, slice_index_or, [], true, false};
 ghost use Rattle.std.specs.List.{list_any};
 ghost use Rattle.order_sets.specs.declared.facts.At.{At};
-ghost use Rattle.order_sets.specs.Stands.{has_at};
+ghost use Rattle.order_sets.specs.Facts.{covers};
+ghost use Rattle.order_sets.specs.Stands.{has_at, Fits};
 ghost use Rattle.race_order.specs.declared.roles.QueueRole.{QueueRole as ARole};
-ghost use Rattle.race_order.specs.Tables.{same_role, row_has, bucket_has, AreRowsOf};
+ghost use Rattle.race_order.specs.Tables.{same_role, row_has, bucket_has, AreRowsOf, FitsChains};
 ghost use Rattle.race_order.specs.Passes.{is_over_as, is_over};
 
 use crate::error::OrderError;
 use crate::lives::Live;
 use crate::roles::{QueueRole, is_role};
-use order_sets::Known;
+use order_sets::{Fact, Known};
 use std::alloc::Global;
 
 /// The set that is kept for a role.
@@ -25,19 +26,6 @@ pub(crate) struct Row {
 #[derive(Drop)]
 pub(crate) struct Bucket {
     pub(crate) rows: Vec<Row>,
-}
-
-/// A set that has what the other one has.
-pub(crate) fn copy_of(alloc: Global, spes: u8, known: &Known) -> Result<Known, OrderError>
-    requires some { 1 ≤ spes }
-    requires spes { spes ≤ 16 }
-    requires chains { length known.now.ends.items ≡ 3 * spes + 1 }
-    ensures same { IfOk result (λ copy. (at : At) → has_at copy at ≡ has_at known.now at) }
-    ensures chains { IfOk result (λ copy. length copy.ends.items ≡ 3 * spes + 1) }
-{
-    let mut copy = Known::new(alloc, spes)?;
-    copy.join(known)?;
-    Ok(copy)
 }
 
 /// Whether the role is of a command that is complete now.
@@ -65,6 +53,17 @@ fn gather_row(row: &Row, role: QueueRole, known: &mut Known) -> Result<(), Order
     if is_role(row.role, role) {
         known.join(&row.known)?;
     }
+    Ok(())
+}
+
+/// Adds what the fact covers to the row, which is the role's.
+fn add_row(row: &mut Row, role: QueueRole, fact: Fact) -> Result<(), OrderError>
+    requires role { same_role row.old.role role ≡ true }
+    requires fits { Fits row.old.known fact }
+    ensures has { OnOk result ((r : ARole) (at : At) → row_has r at row.new ≡ (row_has r at row.old || (same_role role r && covers fact at))) }
+    ensures chains { length row.new.known.ends.items ≡ length row.old.known.ends.items }
+{
+    row.known.add(fact)?;
     Ok(())
 }
 
@@ -107,6 +106,26 @@ impl Bucket {
         Ok(())
     }
 
+    /// The place of the role's set, which is made where there is none.
+    fn place(&mut self, alloc: Global, spes: u8, role: QueueRole) -> Result<usize, OrderError>
+        requires some { 1 ≤ spes }
+        requires spes { spes ≤ 16 }
+        requires rows { AreRowsOf (3 * spes + 1) self.old.rows.items }
+        ensures has { OnOk result ((r : ARole) (at : At) → bucket_has r at self.new ≡ bucket_has r at self.old) }
+        ensures rows { OnOk result (AreRowsOf (3 * spes + 1) self.new.rows.items) }
+        ensures inside { IfOk result (λ i. i < length self.new.rows.items) }
+        ensures role { IfOk result (λ i. (d : Row) → same_role (slice_index_or self.new.rows.items i d).role role ≡ true) }
+    {
+        for i in 0..self.rows.len() {
+            if is_role(self.rows[i].role, role) {
+                return Ok(i);
+            }
+        }
+        let known = Known::new(alloc, spes)?;
+        self.rows.push(Row { role, known })?;
+        Ok(self.rows.len() - 1)
+    }
+
     /// Adds the known steps to the role's set.
     pub(crate) fn put(
         &mut self,
@@ -117,19 +136,33 @@ impl Bucket {
     ) -> Result<(), OrderError>
         requires some { 1 ≤ spes }
         requires spes { spes ≤ 16 }
-        requires chains { 3 * spes + 1 ≡ length known.now.ends.items }
-        requires rows { AreRowsOf (length known.now.ends.items) self.old.rows.items }
+        requires known { length known.now.ends.items ≡ 3 * spes + 1 }
+        requires rows { AreRowsOf (3 * spes + 1) self.old.rows.items }
         ensures has { OnOk result ((r : ARole) (at : At) → bucket_has r at self.new ≡ (bucket_has r at self.old || (same_role role r && has_at known.now at))) }
-        ensures chains { OnOk result (AreRowsOf (length known.now.ends.items) self.new.rows.items) }
+        ensures rows { OnOk result (AreRowsOf (3 * spes + 1) self.new.rows.items) }
     {
-        for i in 0..self.rows.len() {
-            if is_role(self.rows[i].role, role) {
-                put_row(&mut self.rows[i], role, known)?;
-                return Ok(());
-            }
-        }
-        let known = copy_of(alloc, spes, known)?;
-        self.rows.push(Row { role, known })?;
+        let i = self.place(alloc, spes, role)?;
+        put_row(&mut self.rows[i], role, known)?;
+        Ok(())
+    }
+
+    /// Adds what the fact covers to the role's set.
+    pub(crate) fn add(
+        &mut self,
+        alloc: Global,
+        spes: u8,
+        role: QueueRole,
+        fact: Fact,
+    ) -> Result<(), OrderError>
+        requires some { 1 ≤ spes }
+        requires spes { spes ≤ 16 }
+        requires fact { FitsChains (3 * spes + 1) fact }
+        requires rows { AreRowsOf (3 * spes + 1) self.old.rows.items }
+        ensures has { OnOk result ((r : ARole) (at : At) → bucket_has r at self.new ≡ (bucket_has r at self.old || (same_role role r && covers fact at))) }
+        ensures rows { OnOk result (AreRowsOf (3 * spes + 1) self.new.rows.items) }
+    {
+        let i = self.place(alloc, spes, role)?;
+        add_row(&mut self.rows[i], role, fact)?;
         Ok(())
     }
 

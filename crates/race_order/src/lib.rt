@@ -5,8 +5,12 @@
 
 mod applying;
 mod boxes;
+mod brought;
 mod buckets;
+mod entering;
 mod error;
+mod gathering;
+mod going;
 mod lists;
 mod lives;
 mod looks;

@@ -1,26 +1,28 @@
 //! The outstanding commands.
 
-ghost use Rattle.std.specs.Prelude.{◌≡◌, ℕ, ◌+◌, ◌*◌, ◌<◌, ◌≤◌, ◌^◌, ◌||◌, ◌&&◌, IfOk, OnOk, length, map, filter, not, Bool, false, ◌++◌, List};
+ghost use Rattle.std.specs.Prelude.{◌≡◌, ℕ, ◌+◌, ◌*◌, ◌<◌, ◌≤◌, ◌^◌, ◌||◌, ◌&&◌, OnOk, false};
 ghost use Rattle.std.specs.List.{list_any};
-ghost use Rattle.race_order.specs.Trace.{is_of};
 ghost use Rattle.order_sets.specs.declared.facts.At.{At as AnAt};
-ghost use Rattle.order_sets.specs.Facts.{covers};
-ghost use Rattle.order_sets.specs.Stands.{has_at};
 ghost use Rattle.order_sets.specs.declared.facts.Fact.TheVariants.{Whole};
+ghost use Rattle.order_sets.specs.Facts.{covers};
+ghost use Rattle.race_order.specs.Trace.{is_of};
 ghost use Rattle.race_order.specs.Status.{elements_done};
+ghost use Rattle.race_order.specs.declared.lives.Live.{Live as ALive};
+ghost use Rattle.race_order.specs.declared.progress.Progress.{Progress as AProgress};
 ghost use Rattle.race_order.specs.declared.roles.QueueRole.{QueueRole as ARole};
-ghost use Rattle.race_order.specs.Tables.{same_role, sets_have, AreOf};
+ghost use Rattle.race_order.specs.declared.roles.QueueRole.TheVariants.{Waits};
+ghost use Rattle.race_order.specs.Bringing.{has_brought, IsOfChains};
 ghost use Rattle.race_order.specs.Lives.{acked_by, acks, reads_of, goes_in, is_touched, moved, own_has, HaveRoom, AreWithin, AreOutstanding, touch_brings};
+ghost use Rattle.race_order.specs.Tables.{same_role, sets_have, AreOf};
 
-use crate::buckets::copy_of;
+use crate::brought::Brought;
 use crate::error::OrderError;
 use crate::progress::{Progress, done_elements, step_on};
 use crate::roles::QueueRole;
 use crate::sets::Sets;
 use cell_base::Step;
 use cell_machine::Note;
-use order_sets::{Fact, Known};
-use std::alloc::Global;
+use order_sets::Fact;
 
 /// An outstanding command.
 #[derive(Clone, Copy)]
@@ -93,139 +95,142 @@ pub(crate) fn after_step(live: &Live, step: Step, note: Note) -> Live
     }
 }
 
-/// All commands after the step, those that are complete too.
-pub(crate) fn all_after(
-    alloc: Global,
-    lives: &[Live],
-    step: Step,
-    note: Note,
-) -> Result<Vec<Live>, OrderError>
-    requires { HaveRoom lives.now }
-    ensures { IfOk result (λ next. next.items ≡ map (λ l. moved l step note) lives.now) }
+fn is_ack(note: Note) -> bool
+    ensures { result ≡ false → (s : AProgress) → acked_by s note ≡ false }
 {
-    let mut next = Vec::new(alloc);
-    for live in lives {
-        next.push(after_step(live, step, note))?;
+    match note {
+        Note::Ack { .. } => true,
+        _ => false,
     }
-    Ok(next)
 }
 
-/// Those that aren't complete.
-pub(crate) fn outstanding(alloc: Global, lives: &[Live]) -> Result<Vec<Live>, OrderError>
-    ensures { IfOk result (λ kept. kept.items ≡ filter (λ l. not l.progress.done) lives.now) }
+/// Whether the step may be one of a command, or resume one.
+pub(crate) fn may_touch(step: Step, note: Note) -> bool
+    ensures { result ≡ false → (l : ALive) → is_touched l step note ≡ false }
 {
-    let mut kept = Vec::new(alloc);
-    for live in lives {
-        if !live.progress.done {
-            kept.push(*live)?;
-        }
+    match step {
+        Step::Exec { .. } => is_ack(note),
+        Step::Atomic { .. } => false,
+        Step::Host => false,
+        _ => true,
     }
-    Ok(kept)
 }
 
-/// The known steps, or none.
-fn chosen(alloc: Global, spes: u8, goes: bool, after: &Known) -> Result<Known, OrderError>
-    requires some { 1 ≤ spes }
-    requires spes { spes ≤ 16 }
-    requires chains { length after.now.ends.items ≡ 3 * spes + 1 }
-    ensures has { IfOk result (λ own. (at : AnAt) → has_at own at ≡ (goes && has_at after.now at)) }
-    ensures chains { IfOk result (λ own. length own.ends.items ≡ 3 * spes + 1) }
-{
-    if goes {
-        return copy_of(alloc, spes, after);
-    }
-    Ok(Known::new(alloc, spes)?)
-}
-
-fn add_whole(own: &mut Known, chain: u8, live: &Live) -> Result<(), OrderError>
-    ensures has { OnOk result ((at : AnAt) → has_at own.new at ≡ (has_at own.old at || (live.now.progress.done && covers (Whole chain live.now.cmd) at))) }
-    ensures chains { length own.new.ends.items ≡ length own.old.ends.items }
+/// Adds that the command is complete, where it is.
+fn add_whole(sets: &mut Sets, role: QueueRole, chain: u8, live: &Live) -> Result<(), OrderError>
+    requires { AreOf (3 * sets.old.spes + 1) sets.old }
+    ensures has { OnOk result ((r : ARole) (at : AnAt) → sets_have sets.new r at ≡ (sets_have sets.old r at || (same_role role r && (live.now.progress.done && covers (Whole chain live.now.cmd) at)))) }
+    ensures chains { OnOk result (AreOf (3 * sets.old.spes + 1) sets.new) }
 {
     if live.progress.done {
-        own.add(Fact::Whole {
-            chain,
-            cmd: live.cmd,
-        })?;
+        sets.add(
+            role,
+            Fact::Whole {
+                chain,
+                cmd: live.cmd,
+            },
+        )?;
     }
     Ok(())
 }
 
-/// Adds what is done of the command.
-fn add_own(own: &mut Known, spes: u8, live: &Live) -> Result<(), OrderError>
+/// Adds what is done of the command to its set.
+fn add_own(sets: &mut Sets, spes: u8, live: &Live) -> Result<(), OrderError>
     requires room { elements_done live.now.progress < 2 ^ 16 }
     requires spe { live.now.spe < spes }
     requires spes { spes ≤ 16 }
-    ensures has { OnOk result ((at : AnAt) → has_at own.new at ≡ (has_at own.old at || own_has spes live.now at)) }
-    ensures chains { length own.new.ends.items ≡ length own.old.ends.items }
-{
-    let chain = 2 * spes + live.spe;
-    let below = done_elements(&live.progress) as u16;
-    own.add(Fact::Elements {
-        chain,
-        cmd: live.cmd,
-        below,
-    })?;
-    add_whole(own, chain, live)?;
-    Ok(())
-}
-
-/// What is done of a touched command goes into its set, and the step where it goes in itself.
-fn touch(
-    alloc: Global,
-    sets: &mut Sets,
-    spes: u8,
-    live: &Live,
-    step: Step,
-    note: Note,
-    after: &Known,
-) -> Result<(), OrderError>
-    requires room { live.now.progress.read + 1 < 2 ^ 16 }
-    requires live { live.now.progress.done ≡ false }
-    requires spe { live.now.spe < spes }
-    requires some { 1 ≤ spes }
-    requires spes { spes ≤ 16 }
     requires sets { AreOf (3 * spes + 1) sets.old }
-    requires after { length after.now.ends.items ≡ 3 * spes + 1 }
-    ensures has { OnOk result ((r : ARole) (at : AnAt) → sets_have sets.new r at ≡ (sets_have sets.old r at || touch_brings spes step note (has_at after.now) r at live.now)) }
+    ensures has { OnOk result ((r : ARole) (at : AnAt) → sets_have sets.new r at ≡ (sets_have sets.old r at || (same_role (Waits live.now.spe live.now.cmd) r && own_has spes live.now at))) }
     ensures chains { OnOk result (AreOf (3 * spes + 1) sets.new) }
 {
-    if !touches(live, step, note) {
-        return Ok(());
-    }
-    let next = after_step(live, step, note);
-    let goes = goes_into(live, step, note);
-    let mut own = chosen(alloc, spes, goes, after)?;
-    add_own(&mut own, spes, &next)?;
     let role = QueueRole::Waits {
         spe: live.spe,
         cmd: live.cmd,
     };
-    sets.put(role, &own)?;
+    let chain = 2 * spes + live.spe;
+    let below = done_elements(&live.progress) as u16;
+    sets.add(
+        role,
+        Fact::Elements {
+            chain,
+            cmd: live.cmd,
+            below,
+        },
+    )?;
+    add_whole(sets, role, chain, live)?;
+    Ok(())
+}
+
+/// What the step brings goes into the set of the command, where it goes in itself.
+fn enter(sets: &mut Sets, live: &Live, brought: &Brought) -> Result<(), OrderError>
+    requires brought { IsOfChains brought.now }
+    requires sets { AreOf (3 * brought.now.spes + 1) sets.old }
+    ensures has { OnOk result ((r : ARole) (at : AnAt) → sets_have sets.new r at ≡ (sets_have sets.old r at || (same_role (Waits live.now.spe live.now.cmd) r && (goes_in live.now brought.now.step brought.now.effect.now.note && has_brought brought.now at)))) }
+    ensures chains { OnOk result (AreOf (3 * brought.now.spes + 1) sets.new) }
+{
+    if goes_into(live, brought.step, brought.effect.note) {
+        sets.bring(
+            QueueRole::Waits {
+                spe: live.spe,
+                cmd: live.cmd,
+            },
+            brought,
+        )?;
+    }
+    Ok(())
+}
+
+/// The same, and what is done of the command after the step, where it touches the command.
+fn touch(sets: &mut Sets, live: &Live, brought: &Brought) -> Result<(), OrderError>
+    requires room { live.now.progress.read + 1 < 2 ^ 16 }
+    requires live { live.now.progress.done ≡ false }
+    requires spe { live.now.spe < brought.now.spes }
+    requires brought { IsOfChains brought.now }
+    requires sets { AreOf (3 * brought.now.spes + 1) sets.old }
+    ensures has { OnOk result ((r : ARole) (at : AnAt) → sets_have sets.new r at ≡ (sets_have sets.old r at || touch_brings brought.now.spes brought.now.step brought.now.effect.now.note (has_brought brought.now) r at live.now)) }
+    ensures chains { OnOk result (AreOf (3 * brought.now.spes + 1) sets.new) }
+{
+    let (step, note) = (brought.step, brought.effect.note);
+    if !touches(live, step, note) {
+        return Ok(());
+    }
+    enter(sets, live, brought)?;
+    add_own(sets, brought.spes, &after_step(live, step, note))?;
+    Ok(())
+}
+
+fn touch_each(sets: &mut Sets, lives: &[Live], brought: &Brought) -> Result<(), OrderError>
+    requires room { HaveRoom lives.now }
+    requires live { AreOutstanding lives.now }
+    requires spe { AreWithin brought.now.spes lives.now }
+    requires brought { IsOfChains brought.now }
+    requires sets { AreOf (3 * brought.now.spes + 1) sets.old }
+    ensures has { OnOk result ((r : ARole) (at : AnAt) → sets_have sets.new r at ≡ (sets_have sets.old r at || list_any (touch_brings brought.now.spes brought.now.step brought.now.effect.now.note (has_brought brought.now) r at) lives.now)) }
+    ensures chains { OnOk result (AreOf (3 * brought.now.spes + 1) sets.new) }
+{
+    for live in lives {
+        touch(sets, live, brought)?;
+    }
     Ok(())
 }
 
 /// The same for all commands.
 pub(crate) fn touch_all(
-    alloc: Global,
     sets: &mut Sets,
-    spes: u8,
     lives: &[Live],
-    step: Step,
-    note: Note,
-    after: &Known,
+    brought: &Brought,
 ) -> Result<(), OrderError>
     requires room { HaveRoom lives.now }
     requires live { AreOutstanding lives.now }
-    requires spe { AreWithin spes lives.now }
-    requires some { 1 ≤ spes }
-    requires spes { spes ≤ 16 }
-    requires sets { AreOf (3 * spes + 1) sets.old }
-    requires after { length after.now.ends.items ≡ 3 * spes + 1 }
-    ensures has { OnOk result ((r : ARole) (at : AnAt) → sets_have sets.new r at ≡ (sets_have sets.old r at || list_any (touch_brings spes step note (has_at after.now) r at) lives.now)) }
-    ensures chains { OnOk result (AreOf (3 * spes + 1) sets.new) }
+    requires spe { AreWithin brought.now.spes lives.now }
+    requires brought { IsOfChains brought.now }
+    requires sets { AreOf (3 * brought.now.spes + 1) sets.old }
+    ensures has { OnOk result ((r : ARole) (at : AnAt) → sets_have sets.new r at ≡ (sets_have sets.old r at || list_any (touch_brings brought.now.spes brought.now.step brought.now.effect.now.note (has_brought brought.now) r at) lives.now)) }
+    ensures chains { OnOk result (AreOf (3 * brought.now.spes + 1) sets.new) }
 {
-    for live in lives {
-        touch(alloc, sets, spes, live, step, note, after)?;
+    if !may_touch(brought.step, brought.effect.note) {
+        return Ok(());
     }
+    touch_each(sets, lives, brought)?;
     Ok(())
 }

@@ -1,4 +1,4 @@
-//! Which sets a step looks at, and which it goes into.
+//! Which plain sets a step looks at, and which it goes into.
 
 ghost use Rattle.std.specs.Prelude.{◌≡◌, ℕ, ◌+◌, ◌*◌, ◌<◌, ◌++◌, IfOk, OnOk, length};
 ghost use Rattle.race_order.specs.Trace.{Trace};
@@ -8,13 +8,12 @@ ghost use Rattle.race_order.specs.Roles.{step_reads, step_writes, note_reads, no
 ghost use Rattle.race_order.specs.Listed.{listed, IsBoxOf, note_reads_by, note_writes_by, read_roles_by, write_roles_by};
 
 use crate::boxes::{Boxes, place};
-use crate::error::OrderError;
 use crate::roles::Role;
 use cell_base::Step;
 use cell_machine::{Effect, Note, Place, Span};
-use std::alloc::Global;
 
-fn step_read(step: Step) -> Option<Role>
+/// What the step looks at by its kind.
+pub(crate) fn step_read(step: Step) -> Option<Role>
     ensures { listed result ≡ step_reads step }
 {
     match step {
@@ -27,7 +26,8 @@ fn step_read(step: Step) -> Option<Role>
     }
 }
 
-fn step_write(step: Step) -> Option<Role>
+/// What the step goes into by its kind.
+pub(crate) fn step_write(step: Step) -> Option<Role>
     ensures { listed result ≡ step_writes step }
 {
     match step {
@@ -97,7 +97,8 @@ fn take_box(boxes: &Boxes, spe: u8, mailbox: u8) -> Role
     }
 }
 
-fn note_read(boxes: &Boxes, step: Step, note: Note) -> Option<Role>
+/// What it looks at by its note.
+pub(crate) fn note_read(boxes: &Boxes, step: Step, note: Note) -> Option<Role>
     requires { Fits boxes.now note }
     ensures { listed result ≡ note_reads_by boxes.now.puts.items boxes.now.takes.items step note }
 {
@@ -111,7 +112,8 @@ fn note_read(boxes: &Boxes, step: Step, note: Note) -> Option<Role>
     }
 }
 
-fn note_write(boxes: &Boxes, step: Step, note: Note) -> Option<Role>
+/// What it goes into by its note.
+pub(crate) fn note_write(boxes: &Boxes, step: Step, note: Note) -> Option<Role>
     requires { Fits boxes.now note }
     ensures { listed result ≡ note_writes_by boxes.now.puts.items boxes.now.takes.items step note }
 {
@@ -139,55 +141,12 @@ fn line(span: &Span) -> Option<Role>
     }
 }
 
-fn push_some(roles: &mut Vec<Role>, role: Option<Role>) -> Result<(), OrderError>
-    ensures { OnOk result (roles.new.items ≡ roles.old.items ++ listed role) }
+/// The lines of memory that the step is on.
+pub(crate) fn lines(step: Step, effect: &Effect) -> (Option<Role>, Option<Role>)
+    ensures { listed result.0 ++ listed result.1 ≡ line_roles step effect.now }
 {
-    if let Some(role) = role {
-        roles.push(role)?;
+    match step {
+        Step::Atomic { .. } => (line(&effect.reads), line(&effect.writes)),
+        _ => (None, None),
     }
-    Ok(())
-}
-
-fn push_lines(roles: &mut Vec<Role>, step: Step, effect: &Effect) -> Result<(), OrderError>
-    ensures { OnOk result (roles.new.items ≡ roles.old.items ++ line_roles step effect.now) }
-{
-    if let Step::Atomic { .. } = step {
-        push_some(roles, line(&effect.reads))?;
-        push_some(roles, line(&effect.writes))?;
-    }
-    Ok(())
-}
-
-/// The sets that the step looks at.
-pub(crate) fn reads(
-    alloc: Global,
-    boxes: &Boxes,
-    step: Step,
-    effect: &Effect,
-) -> Result<Vec<Role>, OrderError>
-    requires { Fits boxes.now effect.now.note }
-    ensures { IfOk result (λ roles. roles.items ≡ read_roles_by boxes.now.puts.items boxes.now.takes.items (event_of step effect.now)) }
-{
-    let mut roles = Vec::new(alloc);
-    push_some(&mut roles, step_read(step))?;
-    push_some(&mut roles, note_read(boxes, step, effect.note))?;
-    push_lines(&mut roles, step, effect)?;
-    Ok(roles)
-}
-
-/// The sets that the step goes into.
-pub(crate) fn writes(
-    alloc: Global,
-    boxes: &Boxes,
-    step: Step,
-    effect: &Effect,
-) -> Result<Vec<Role>, OrderError>
-    requires { Fits boxes.now effect.now.note }
-    ensures { IfOk result (λ roles. roles.items ≡ write_roles_by boxes.now.puts.items boxes.now.takes.items (event_of step effect.now)) }
-{
-    let mut roles = Vec::new(alloc);
-    push_some(&mut roles, step_write(step))?;
-    push_some(&mut roles, note_write(boxes, step, effect.note))?;
-    push_lines(&mut roles, step, effect)?;
-    Ok(roles)
 }

@@ -1,21 +1,25 @@
 //! Which sets go into which others at a step.
 
-ghost use Rattle.std.specs.Prelude.{◌≡◌, ℕ, ◌+◌, ◌<◌, ◌^◌, ◌||◌, ◌&&◌, ◌++◌, ◌==◌, nat_lt, not, Bool, true, false, List, map, IfOk, OnOk};
+ghost use Rattle.std.specs.Prelude.{Some, ◌≡◌, ℕ, ◌||◌, ◌&&◌, map, OnOk, length};
 ghost use Rattle.std.specs.List.{list_any};
-ghost use Rattle.race_order.specs.declared.moves.Move.{Move as AMove};
-ghost use Rattle.race_order.specs.declared.roles.Class.TheVariants.{All, Tag, BarredTag, Barriers};
+ghost use Rattle.order_sets.specs.declared.facts.At.{At};
+ghost use Rattle.order_sets.specs.Stands.{has_at};
 ghost use Rattle.mfc_command.specs.Order.{is_barred, is_barrier};
-ghost use Rattle.race_order.specs.Lives.{HaveRoom};
-ghost use Rattle.race_order.specs.Passes.{is_marked, when, classes_ahead, classes_of, into_class, into_waits, from_class, into_stalled, is_ahead, done_any, stall_any};
+ghost use Rattle.race_order.specs.declared.roles.QueueRole.{QueueRole as ARole};
+ghost use Rattle.race_order.specs.declared.roles.QueueRole.TheVariants.{Waits, Complete};
+ghost use Rattle.race_order.specs.Ordering.{issue_list, below, fix_move, fix_list, spe_in};
+ghost use Rattle.race_order.specs.Passes.{is_marked, when, classes_of, from_class, is_ahead, done_any, AreMoved};
+ghost use Rattle.race_order.specs.Tables.{same_role, sets_have, AreOf};
 
 use crate::error::OrderError;
-use crate::lives::{Live, after_step};
-use crate::moves::Move;
+use crate::lists::{Issued, spe_of};
+use crate::lives::Live;
+use crate::moves::{Move, make};
 use crate::roles::{Class, QueueRole};
+use crate::sets::Sets;
 use cell_base::Step;
-use cell_machine::Note;
 use mfc_command::{Command, Kind, Mark, precedes};
-use std::alloc::Global;
+use order_sets::Known;
 
 fn marked(mark: Mark) -> bool
     ensures { result ≡ is_marked mark }
@@ -55,173 +59,237 @@ fn ahead(c: &Live, d: &Live) -> bool
     c.spe == d.spe && (c.cmd < d.cmd && precedes(&c.progress.command, &d.progress.command))
 }
 
-fn push_when(classes: &mut Vec<Class>, holds: bool, class: Class) -> Result<(), OrderError>
-    ensures { OnOk result (classes.new.items ≡ classes.old.items ++ when holds class) }
+/// Makes the move from a class, where it is one of those that go before the command.
+fn pass_when(
+    sets: &mut Sets,
+    spare: &mut Known,
+    holds: bool,
+    issued: &Issued,
+    class: Class,
+) -> Result<(), OrderError>
+    requires { AreOf (length spare.old.ends.items) sets.old }
+    ensures has { OnOk result (AreMoved (λ g. list_any g (map (from_class issued.now.spe issued.now.cmd) (when holds class))) (sets_have sets.old) (sets_have sets.new)) }
+    ensures chains { OnOk result (AreOf (length spare.old.ends.items) sets.new) }
+    ensures spare { length spare.new.ends.items ≡ length spare.old.ends.items }
 {
-    if holds {
-        classes.push(class)?;
+    if !holds {
+        return Ok(());
     }
+    let m = Move {
+        from: QueueRole::Complete {
+            spe: issued.spe,
+            class,
+        },
+        to: QueueRole::Waits {
+            spe: issued.spe,
+            cmd: issued.cmd,
+        },
+    };
+    make(sets, spare, m)?;
     Ok(())
-}
-
-/// The classes of which every command goes before the command.
-fn ahead_of(alloc: Global, command: &Command) -> Result<Vec<Class>, OrderError>
-    ensures { IfOk result (λ classes. classes.items ≡ classes_ahead command.now) }
-{
-    let mut classes = Vec::new(alloc);
-    push_when(&mut classes, barrier(command.kind), Class::All)?;
-    push_when(
-        &mut classes,
-        marked(command.mark),
-        Class::Tag { tag: command.tag },
-    )?;
-    classes.push(Class::BarredTag { tag: command.tag })?;
-    classes.push(Class::Barriers)?;
-    Ok(classes)
-}
-
-/// The classes that the command is in.
-fn all_of(alloc: Global, command: &Command) -> Result<Vec<Class>, OrderError>
-    ensures { IfOk result (λ classes. classes.items ≡ classes_of command.now) }
-{
-    let mut classes = Vec::new(alloc);
-    classes.push(Class::All)?;
-    classes.push(Class::Tag { tag: command.tag })?;
-    push_when(
-        &mut classes,
-        barred(command.mark),
-        Class::BarredTag { tag: command.tag },
-    )?;
-    push_when(&mut classes, barrier(command.kind), Class::Barriers)?;
-    Ok(classes)
 }
 
 /// Where a command is issued: what goes before it goes into its set.
-pub(crate) fn issue_moves(
-    alloc: Global,
+pub(crate) fn pass_issued(
+    sets: &mut Sets,
+    spare: &mut Known,
+    issued: &Issued,
+) -> Result<(), OrderError>
+    requires { AreOf (length spare.old.ends.items) sets.old }
+    ensures has { OnOk result (AreMoved (λ g. list_any g (issue_list (Some issued.now))) (sets_have sets.old) (sets_have sets.new)) }
+    ensures chains { OnOk result (AreOf (length spare.old.ends.items) sets.new) }
+    ensures spare { length spare.new.ends.items ≡ length spare.old.ends.items }
+{
+    let command = issued.command;
+    let tag = command.tag;
+    pass_when(sets, spare, barrier(command.kind), issued, Class::All)?;
+    pass_when(
+        sets,
+        spare,
+        marked(command.mark),
+        issued,
+        Class::Tag { tag },
+    )?;
+    pass_when(sets, spare, true, issued, Class::BarredTag { tag })?;
+    pass_when(sets, spare, true, issued, Class::Barriers)?;
+    Ok(())
+}
+
+/// Adds the known steps to the set of the class, where the command is in it.
+fn put_when(
+    sets: &mut Sets,
+    holds: bool,
     spe: u8,
-    cmd: u32,
-    command: &Command,
-) -> Result<Vec<Move>, OrderError>
-    ensures { IfOk result (λ moves. moves.items ≡ map (from_class spe cmd) (classes_ahead command.now)) }
+    class: Class,
+    known: &Known,
+) -> Result<(), OrderError>
+    requires { AreOf (length known.now.ends.items) sets.old }
+    ensures has { OnOk result ((r : ARole) (at : At) → sets_have sets.new r at ≡ (sets_have sets.old r at || list_any (λ x. same_role (Complete spe x) r && has_at known.now at) (when holds class))) }
+    ensures chains { OnOk result (AreOf (length known.now.ends.items) sets.new) }
 {
-    let mut moves = Vec::new(alloc);
-    let classes = ahead_of(alloc, command)?;
-    for class in &classes {
-        moves.push(Move {
-            from: QueueRole::Complete { spe, class: *class },
-            to: QueueRole::Waits { spe, cmd },
-        })?;
-    }
-    Ok(moves)
-}
-
-fn push_classes(moves: &mut Vec<Move>, c: &Live, classes: &[Class]) -> Result<(), OrderError>
-    ensures { OnOk result ((g : AMove → Bool) → list_any g moves.new.items ≡ (list_any g moves.old.items || list_any (λ class. g (into_class c.now class)) classes.now)) }
-{
-    for class in classes {
-        moves.push(Move {
-            from: QueueRole::Waits {
-                spe: c.spe,
-                cmd: c.cmd,
-            },
-            to: QueueRole::Complete {
-                spe: c.spe,
-                class: *class,
-            },
-        })?;
+    if holds {
+        sets.put(QueueRole::Complete { spe, class }, known)?;
     }
     Ok(())
 }
 
-fn push_ahead(moves: &mut Vec<Move>, c: &Live, d: &Live) -> Result<(), OrderError>
-    ensures { OnOk result ((g : AMove → Bool) → list_any g moves.new.items ≡ (list_any g moves.old.items || (is_ahead c.now d.now && g (into_waits c.now d.now)))) }
+/// Adds the known steps to the sets of the command's classes.
+fn put_classes(sets: &mut Sets, spe: u8, command: &Command, known: &Known) -> Result<(), OrderError>
+    requires { AreOf (length known.now.ends.items) sets.old }
+    ensures has { OnOk result ((r : ARole) (at : At) → sets_have sets.new r at ≡ (sets_have sets.old r at || list_any (λ x. same_role (Complete spe x) r && has_at known.now at) (classes_of command.now))) }
+    ensures chains { OnOk result (AreOf (length known.now.ends.items) sets.new) }
 {
-    if ahead(c, d) {
-        moves.push(Move {
-            from: QueueRole::Waits {
-                spe: c.spe,
-                cmd: c.cmd,
-            },
-            to: QueueRole::Waits {
-                spe: d.spe,
-                cmd: d.cmd,
-            },
-        })?;
-    }
+    let tag = command.tag;
+    put_when(sets, true, spe, Class::All, known)?;
+    put_when(sets, true, spe, Class::Tag { tag }, known)?;
+    put_when(
+        sets,
+        barred(command.mark),
+        spe,
+        Class::BarredTag { tag },
+        known,
+    )?;
+    put_when(sets, barrier(command.kind), spe, Class::Barriers, known)?;
     Ok(())
 }
 
-fn push_waits(moves: &mut Vec<Move>, c: &Live, next: &[Live]) -> Result<(), OrderError>
-    ensures { OnOk result ((g : AMove → Bool) → list_any g moves.new.items ≡ (list_any g moves.old.items || list_any (λ d. is_ahead c.now d && g (into_waits c.now d)) next.now)) }
+/// Adds the known steps to the set of a command that waits for the first one.
+fn put_ahead(sets: &mut Sets, c: &Live, d: &Live, known: &Known) -> Result<(), OrderError>
+    requires { AreOf (length known.now.ends.items) sets.old }
+    ensures has { OnOk result ((r : ARole) (at : At) → sets_have sets.new r at ≡ (sets_have sets.old r at || (is_ahead c.now d.now && (same_role (Waits d.now.spe d.now.cmd) r && has_at known.now at)))) }
+    ensures chains { OnOk result (AreOf (length known.now.ends.items) sets.new) }
+{
+    if !ahead(c, d) {
+        return Ok(());
+    }
+    sets.put(
+        QueueRole::Waits {
+            spe: d.spe,
+            cmd: d.cmd,
+        },
+        known,
+    )?;
+    Ok(())
+}
+
+fn put_waits(sets: &mut Sets, c: &Live, next: &[Live], known: &Known) -> Result<(), OrderError>
+    requires { AreOf (length known.now.ends.items) sets.old }
+    ensures has { OnOk result ((r : ARole) (at : At) → sets_have sets.new r at ≡ (sets_have sets.old r at || list_any (λ d. is_ahead c.now d && (same_role (Waits d.spe d.cmd) r && has_at known.now at)) next.now)) }
+    ensures chains { OnOk result (AreOf (length known.now.ends.items) sets.new) }
 {
     for d in next {
-        push_ahead(moves, c, d)?;
+        put_ahead(sets, c, d, known)?;
     }
     Ok(())
 }
 
-fn push_done(
-    alloc: Global,
-    moves: &mut Vec<Move>,
+/// Where the command is complete now: its set goes into those of its classes and of the commands that wait for it.
+fn pass_complete(
+    sets: &mut Sets,
+    spare: &mut Known,
     c: &Live,
     next: &[Live],
 ) -> Result<(), OrderError>
-    ensures { OnOk result ((g : AMove → Bool) → list_any g moves.new.items ≡ (list_any g moves.old.items || done_any g next.now c.now)) }
+    requires { AreOf (length spare.old.ends.items) sets.old }
+    ensures has { OnOk result (AreMoved (λ g. done_any g next.now c.now) (sets_have sets.old) (sets_have sets.new)) }
+    ensures chains { OnOk result (AreOf (length spare.old.ends.items) sets.new) }
+    ensures spare { length spare.new.ends.items ≡ length spare.old.ends.items }
 {
     if !c.progress.done {
         return Ok(());
     }
-    let classes = all_of(alloc, &c.progress.command)?;
-    push_classes(moves, c, classes.as_slice())?;
-    push_waits(moves, c, next)?;
+    spare.clear();
+    sets.gather(
+        QueueRole::Waits {
+            spe: c.spe,
+            cmd: c.cmd,
+        },
+        spare,
+    )?;
+    put_classes(sets, c.spe, &c.progress.command, spare)?;
+    put_waits(sets, c, next, spare)?;
     Ok(())
 }
 
-/// Where commands are complete now: their sets go into those of their classes and of the commands that wait for them.
-pub(crate) fn done_moves(alloc: Global, next: &[Live]) -> Result<Vec<Move>, OrderError>
-    ensures { IfOk result (λ moves. (g : AMove → Bool) → list_any g moves.items ≡ list_any (done_any g next.now) next.now) }
+fn pass_each(sets: &mut Sets, spare: &mut Known, next: &[Live]) -> Result<(), OrderError>
+    requires { AreOf (length spare.old.ends.items) sets.old }
+    ensures has { OnOk result (AreMoved (λ g. list_any (done_any g next.now) next.now) (sets_have sets.old) (sets_have sets.new)) }
+    ensures chains { OnOk result (AreOf (length spare.old.ends.items) sets.new) }
+    ensures spare { length spare.new.ends.items ≡ length spare.old.ends.items }
 {
-    let mut moves = Vec::new(alloc);
     for c in next {
-        push_done(alloc, &mut moves, c, next)?;
-    }
-    Ok(moves)
-}
-
-fn push_stall(moves: &mut Vec<Move>, l: &Live, step: Step, note: Note) -> Result<(), OrderError>
-    requires { l.now.progress.read + 1 < 2 ^ 16 }
-    ensures { OnOk result ((g : AMove → Bool) → list_any g moves.new.items ≡ (list_any g moves.old.items || stall_any g step note l.now)) }
-{
-    let next = after_step(l, step, note);
-    if !l.progress.stalled && next.progress.stalled {
-        moves.push(Move {
-            from: QueueRole::Waits {
-                spe: l.spe,
-                cmd: l.cmd,
-            },
-            to: QueueRole::Stalled {
-                spe: l.spe,
-                tag: l.progress.command.tag,
-            },
-        })?;
+        pass_complete(sets, spare, c, next)?;
     }
     Ok(())
 }
 
-/// Where lists are stalled now: their sets go into those of their tags.
-pub(crate) fn stall_moves(
-    alloc: Global,
-    lives: &[Live],
-    step: Step,
-    note: Note,
-) -> Result<Vec<Move>, OrderError>
-    requires { HaveRoom lives.now }
-    ensures { IfOk result (λ moves. (g : AMove → Bool) → list_any g moves.items ≡ list_any (stall_any g step note) lives.now) }
+/// The same for all commands, of which one is complete or none.
+pub(crate) fn pass_done(
+    sets: &mut Sets,
+    spare: &mut Known,
+    next: &[Live],
+    done: bool,
+) -> Result<(), OrderError>
+    requires done { done ≡ list_any (λ l. l.progress.done) next.now }
+    requires sets { AreOf (length spare.old.ends.items) sets.old }
+    ensures has { OnOk result (AreMoved (λ g. list_any (done_any g next.now) next.now) (sets_have sets.old) (sets_have sets.new)) }
+    ensures chains { OnOk result (AreOf (length spare.old.ends.items) sets.new) }
+    ensures spare { length spare.new.ends.items ≡ length spare.old.ends.items }
 {
-    let mut moves = Vec::new(alloc);
-    for l in lives {
-        push_stall(&mut moves, l, step, note)?;
+    if !done {
+        return Ok(());
     }
-    Ok(moves)
+    pass_each(sets, spare, next)?;
+    Ok(())
+}
+
+/// Where a status of the processor is fixed: what is complete of the tag goes into its set.
+fn pass_tag(sets: &mut Sets, spare: &mut Known, spe: u8, tag: u8) -> Result<(), OrderError>
+    requires { AreOf (length spare.old.ends.items) sets.old }
+    ensures has { OnOk result (AreMoved (λ g. g (fix_move spe tag)) (sets_have sets.old) (sets_have sets.new)) }
+    ensures chains { OnOk result (AreOf (length spare.old.ends.items) sets.new) }
+    ensures spare { length spare.new.ends.items ≡ length spare.old.ends.items }
+{
+    let m = Move {
+        from: QueueRole::Complete {
+            spe,
+            class: Class::Tag { tag },
+        },
+        to: QueueRole::Fixed { spe, tag },
+    };
+    make(sets, spare, m)?;
+    Ok(())
+}
+
+fn pass_tags(sets: &mut Sets, spare: &mut Known, spe: u8) -> Result<(), OrderError>
+    requires { AreOf (length spare.old.ends.items) sets.old }
+    ensures has { OnOk result (AreMoved (λ g. list_any g (map (fix_move spe) (below 32))) (sets_have sets.old) (sets_have sets.new)) }
+    ensures chains { OnOk result (AreOf (length spare.old.ends.items) sets.new) }
+    ensures spare { length spare.new.ends.items ≡ length spare.old.ends.items }
+{
+    for tag in 0..32u8 {
+        pass_tag(sets, spare, spe, tag)?;
+    }
+    Ok(())
+}
+
+/// Where the step fixes a status, the same for all tags.
+pub(crate) fn pass_fixed(
+    sets: &mut Sets,
+    spare: &mut Known,
+    step: Step,
+    fixed: bool,
+) -> Result<(), OrderError>
+    requires { AreOf (length spare.old.ends.items) sets.old }
+    ensures has { OnOk result (AreMoved (λ g. list_any g (fix_list fixed (spe_in step))) (sets_have sets.old) (sets_have sets.new)) }
+    ensures chains { OnOk result (AreOf (length spare.old.ends.items) sets.new) }
+    ensures spare { length spare.new.ends.items ≡ length spare.old.ends.items }
+{
+    if !fixed {
+        return Ok(());
+    }
+    match spe_of(step) {
+        Some(spe) => pass_tags(sets, spare, spe),
+        None => Ok(()),
+    }
 }

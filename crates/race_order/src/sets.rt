@@ -1,19 +1,22 @@
 //! A set of known steps for each role.
 
-ghost use Rattle.std.specs.Prelude.{◌≡◌, ℕ, ◌+◌, ◌*◌, ◌<◌, ◌≤◌, ◌^◌, ◌||◌, ◌&&◌, OnOk, length, List, [], true, false};
+ghost use Rattle.std.specs.Prelude.{◌≡◌, ℕ, ◌+◌, ◌*◌, ◌<◌, ◌≤◌, ◌^◌, ◌||◌, ◌&&◌, OnOk, IfOk, length, List, [], true, false};
 ghost use Rattle.std.specs.List.{list_any};
 ghost use Rattle.order_sets.specs.declared.facts.At.{At};
+ghost use Rattle.order_sets.specs.Facts.{covers};
 ghost use Rattle.order_sets.specs.Stands.{has_at};
 ghost use Rattle.race_order.specs.declared.roles.QueueRole.{QueueRole as ARole};
-ghost use Rattle.race_order.specs.Tables.{same_role, is_among, sets_have, AreOf};
+ghost use Rattle.race_order.specs.Tables.{same_role, number, sets_have, AreOf, FitsChains};
+ghost use Rattle.race_order.specs.Bringing.{has_brought, IsOfChains};
 ghost use Rattle.race_order.specs.Passes.{is_over};
 
+use crate::brought::Brought;
 use crate::buckets::Bucket;
 use crate::error::OrderError;
 use crate::lives::Live;
 use crate::numbers::number;
 use crate::roles::QueueRole;
-use order_sets::Known;
+use order_sets::{Fact, Known};
 use std::alloc::Global;
 
 /// The sets of `spes` processors, each in the bucket of its role's number. A role without one has the empty set.
@@ -70,45 +73,53 @@ impl Sets {
         Ok(())
     }
 
+    /// The number of the role's bucket, which is there then.
+    fn bucket(&mut self, role: QueueRole) -> Result<usize, OrderError>
+        ensures has { OnOk result ((r : ARole) (at : At) → sets_have self.new r at ≡ sets_have self.old r at) }
+        ensures chains { OnOk result ((chains : ℕ) → AreOf chains self.old → AreOf chains self.new) }
+        ensures number { IfOk result (λ k. k ≡ number role) }
+        ensures inside { IfOk result (λ k. k < length self.new.buckets.items) }
+    {
+        let k = number(role) as usize;
+        let count = self.buckets.len();
+        self.lengthen((k + 1).saturating_sub(count))?;
+        Ok(k)
+    }
+
     /// Adds the known steps to the role's set.
     pub(crate) fn put(&mut self, role: QueueRole, known: &Known) -> Result<(), OrderError>
         requires { AreOf (length known.now.ends.items) self.old }
         ensures has { OnOk result ((r : ARole) (at : At) → sets_have self.new r at ≡ (sets_have self.old r at || (same_role role r && has_at known.now at))) }
         ensures chains { OnOk result (AreOf (length known.now.ends.items) self.new) }
     {
-        let k = number(role) as usize;
-        let count = self.buckets.len();
-        self.lengthen((k + 1).saturating_sub(count))?;
+        let k = self.bucket(role)?;
         let (alloc, spes) = (self.alloc, self.spes);
         self.buckets[k].put(alloc, spes, role, known)?;
         Ok(())
     }
 
-    /// Adds to the known steps what the sets of the roles have.
-    pub(crate) fn gather_all(
-        &self,
-        roles: &[QueueRole],
-        known: &mut Known,
-    ) -> Result<(), OrderError>
-        requires { AreOf (length known.old.ends.items) self.now }
-        ensures has { OnOk result ((at : At) → has_at known.new at ≡ (has_at known.old at || list_any (λ r. sets_have self.now r at) roles.now)) }
-        ensures chains { length known.new.ends.items ≡ length known.old.ends.items }
+    /// Adds what the fact covers to the role's set.
+    pub(crate) fn add(&mut self, role: QueueRole, fact: Fact) -> Result<(), OrderError>
+        requires sets { AreOf (3 * self.old.spes + 1) self.old }
+        requires fact { FitsChains (3 * self.old.spes + 1) fact }
+        ensures has { OnOk result ((r : ARole) (at : At) → sets_have self.new r at ≡ (sets_have self.old r at || (same_role role r && covers fact at))) }
+        ensures chains { OnOk result (AreOf (3 * self.old.spes + 1) self.new) }
     {
-        for role in roles {
-            self.gather(*role, known)?;
-        }
+        let k = self.bucket(role)?;
+        let (alloc, spes) = (self.alloc, self.spes);
+        self.buckets[k].add(alloc, spes, role, fact)?;
         Ok(())
     }
 
-    /// Adds the known steps to the sets of the roles.
-    pub(crate) fn put_all(&mut self, roles: &[QueueRole], known: &Known) -> Result<(), OrderError>
-        requires { AreOf (length known.now.ends.items) self.old }
-        ensures has { OnOk result ((r : ARole) (at : At) → sets_have self.new r at ≡ (sets_have self.old r at || (is_among r roles.now && has_at known.now at))) }
-        ensures chains { OnOk result (AreOf (length known.now.ends.items) self.new) }
+    /// Adds what the step brings to the role's set.
+    pub(crate) fn bring(&mut self, role: QueueRole, brought: &Brought) -> Result<(), OrderError>
+        requires brought { IsOfChains brought.now }
+        requires sets { AreOf (3 * brought.now.spes + 1) self.old }
+        ensures has { OnOk result ((r : ARole) (at : At) → sets_have self.new r at ≡ (sets_have self.old r at || (same_role role r && has_brought brought.now at))) }
+        ensures chains { OnOk result (AreOf (3 * brought.now.spes + 1) self.new) }
     {
-        for role in roles {
-            self.put(*role, known)?;
-        }
+        self.put(role, brought.known)?;
+        self.add(role, brought.fact)?;
         Ok(())
     }
 

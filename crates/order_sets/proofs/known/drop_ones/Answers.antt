@@ -1,13 +1,13 @@
-use Rattle.std.proofs.Common.{◌||◌, not, rules, ap, ◌∙◌}
+use Rattle.std.proofs.Common.{not, rules, ap, ◌||◌, ◌∙◌}
 use Rattle.std.specs.List.{list_any}
 use Rattle.std.proofs.lemmas.Fn.{filter_same}
-use Rattle.order_sets.specs.Holds.{in_run}
 use Rattle.order_sets.specs.Facts.{is_at}
-use Rattle.order_sets.proofs.SetLaws.{in_runs, ones_dropped}
+use Rattle.order_sets.proofs.SetLaws.{is_covered, ones_dropped}
 use Rattle.order_sets.proofs.known.drop_ones.Goals as goal
 
 pub returns : goal.returns
 returns c =
     let runs = c.args.runs.now in
-    let kept = filter_same _ (λ x. not (in_runs runs x.chain x.cmd)) _ (λ x b f k. search rules) _ _ c.retain.ensures.filtered in
-    λ at. ap (λ l. list_any (in_run at) runs || list_any (λ a. is_at a at) l) kept ∙ ones_dropped runs c.args.ones.now.items at
+    let parts = c.args.parts.now in
+    let kept = filter_same _ (λ x. not (is_covered runs parts x)) _ (λ x b f k. search rules) _ _ c.retain.ensures.filtered in
+    λ at. ap (λ l. is_covered runs parts at || list_any (λ a. is_at a at) l) kept ∙ ones_dropped runs parts c.args.ones.now.items at

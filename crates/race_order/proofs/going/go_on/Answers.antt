@@ -1,0 +1,10 @@
+use Rattle.std.proofs.Common.{sym, ◌∙◌}
+use Rattle.race_order.specs.Passes.{stall_any}
+use Rattle.race_order.specs.Tables.{sets_have}
+use Rattle.race_order.proofs.Moved.{still}
+use Rattle.race_order.proofs.Untouched.{not_stalled}
+use Rattle.race_order.proofs.going.go_on.Goals as goal
+
+pub returns-then-not-touches-clause-has : goal.returns-then-not-touches-clause-has
+returns-then-not-touches-clause-has c =
+    still (λ g. stall_any g c.args.step c.args.note c.args.live.now) (sets_have c.args.sets.now) (λ g. not_stalled g c.args.live.now c.args.step c.args.note (sym c.touches.ensures ∙ c.if-not-touches.true))

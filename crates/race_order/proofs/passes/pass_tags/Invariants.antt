@@ -1,0 +1,13 @@
+use Rattle.std.proofs.Common.{◌≡◌, map, length}
+use Rattle.std.specs.List.{list_any}
+use Rattle.race_order.specs.Ordering.{below, fix_move}
+use Rattle.race_order.specs.Passes.{AreMoved}
+use Rattle.race_order.specs.Tables.{sets_have, AreOf}
+use Rattle.race_order.proofs.passes.pass_tags.Given as goal
+
+abbrev pub invariant-loop-tag : goal.invariant-loop-tag
+invariant-loop-tag l = record {
+  has : AreMoved (λ g. list_any g (map (fix_move l.spe) (below l.tag))) (sets_have l.fn.sets) (sets_have l.sets);
+  chains : AreOf (length l.spare.ends.items) l.sets;
+  spare : length l.spare.ends.items ≡ length l.fn.spare.ends.items;
+}

@@ -1,0 +1,117 @@
+//! How the outstanding commands go on by a step.
+
+ghost use Rattle.std.specs.Prelude.{◌≡◌, ◌+◌, ◌<◌, ◌^◌, ◌&&◌, IfOk, OnOk, length, map, not, false};
+ghost use Rattle.std.specs.List.{list_any};
+ghost use Rattle.race_order.specs.Lives.{moved, HaveRoom, AreOutstanding};
+ghost use Rattle.race_order.specs.Passes.{AreMoved, into_stalled, stall_any};
+ghost use Rattle.race_order.specs.Tables.{sets_have, AreOf};
+
+use crate::error::OrderError;
+use crate::lives::{Live, after_step, may_touch, touches};
+use crate::moves::{Move, make};
+use crate::roles::QueueRole;
+use crate::sets::Sets;
+use cell_base::Step;
+use cell_machine::Note;
+use order_sets::Known;
+
+/// The list's set goes into that of its tag, where the list is stalled by the step.
+fn pass_stall(
+    sets: &mut Sets,
+    spare: &mut Known,
+    live: &Live,
+    next: &Live,
+) -> Result<(), OrderError>
+    requires { AreOf (length spare.old.ends.items) sets.old }
+    ensures has { OnOk result (AreMoved (λ g. (not live.now.progress.stalled && next.now.progress.stalled) && g (into_stalled live.now)) (sets_have sets.old) (sets_have sets.new)) }
+    ensures chains { OnOk result (AreOf (length spare.old.ends.items) sets.new) }
+    ensures spare { length spare.new.ends.items ≡ length spare.old.ends.items }
+{
+    if live.progress.stalled || !next.progress.stalled {
+        return Ok(());
+    }
+    let m = Move {
+        from: QueueRole::Waits {
+            spe: live.spe,
+            cmd: live.cmd,
+        },
+        to: QueueRole::Stalled {
+            spe: live.spe,
+            tag: live.progress.command.tag,
+        },
+    };
+    make(sets, spare, m)?;
+    Ok(())
+}
+
+/// Puts the command forward, and answers whether it is complete then.
+fn go_on(
+    sets: &mut Sets,
+    spare: &mut Known,
+    live: &mut Live,
+    step: Step,
+    note: Note,
+) -> Result<bool, OrderError>
+    requires room { live.old.progress.read + 1 < 2 ^ 16 }
+    requires live { live.old.progress.done ≡ false }
+    requires sets { AreOf (length spare.old.ends.items) sets.old }
+    ensures next { OnOk result (live.new ≡ moved live.old step note) }
+    ensures has { OnOk result (AreMoved (λ g. stall_any g step note live.old) (sets_have sets.old) (sets_have sets.new)) }
+    ensures chains { OnOk result (AreOf (length spare.old.ends.items) sets.new) }
+    ensures spare { length spare.new.ends.items ≡ length spare.old.ends.items }
+    ensures done { IfOk result (λ done. done ≡ live.new.progress.done) }
+{
+    if !touches(live, step, note) {
+        return Ok(false);
+    }
+    let next = after_step(live, step, note);
+    pass_stall(sets, spare, live, &next)?;
+    *live = next;
+    Ok(next.progress.done)
+}
+
+fn go_on_each(
+    sets: &mut Sets,
+    spare: &mut Known,
+    lives: &mut [Live],
+    step: Step,
+    note: Note,
+) -> Result<bool, OrderError>
+    requires room { HaveRoom lives.old }
+    requires live { AreOutstanding lives.old }
+    requires sets { AreOf (length spare.old.ends.items) sets.old }
+    ensures next { OnOk result (lives.new ≡ map (λ l. moved l step note) lives.old) }
+    ensures has { OnOk result (AreMoved (λ g. list_any (stall_any g step note) lives.old) (sets_have sets.old) (sets_have sets.new)) }
+    ensures chains { OnOk result (AreOf (length spare.old.ends.items) sets.new) }
+    ensures spare { length spare.new.ends.items ≡ length spare.old.ends.items }
+    ensures done { IfOk result (λ done. done ≡ list_any (λ l. l.progress.done) lives.new) }
+{
+    let mut done = false;
+    for i in 0..lives.len() {
+        done |= go_on(sets, spare, &mut lives[i], step, note)?;
+    }
+    Ok(done)
+}
+
+/// Puts all commands forward, and answers whether one is complete then.
+pub(crate) fn go_on_all(
+    sets: &mut Sets,
+    spare: &mut Known,
+    lives: &mut [Live],
+    step: Step,
+    note: Note,
+) -> Result<bool, OrderError>
+    requires room { HaveRoom lives.old }
+    requires live { AreOutstanding lives.old }
+    requires sets { AreOf (length spare.old.ends.items) sets.old }
+    ensures next { OnOk result (lives.new ≡ map (λ l. moved l step note) lives.old) }
+    ensures has { OnOk result (AreMoved (λ g. list_any (stall_any g step note) lives.old) (sets_have sets.old) (sets_have sets.new)) }
+    ensures chains { OnOk result (AreOf (length spare.old.ends.items) sets.new) }
+    ensures spare { length spare.new.ends.items ≡ length spare.old.ends.items }
+    ensures done { IfOk result (λ done. done ≡ list_any (λ l. l.progress.done) lives.new) }
+{
+    if !may_touch(step, note) {
+        return Ok(false);
+    }
+    go_on_each(sets, spare, lives, step, note)
+}
