@@ -1,16 +1,17 @@
 -- The races with the last step of a run that is made again, and the least of all.
 use Rattle.std.proofs.Common.{◌≡◌, ℕ, ◌+◌, ◌-◌, ◌/◌, ◌≤◌, ◌<◌, Bool, true, false, not, List, [], length, get_or, ◌⊎◌, inl, inr, Some, sym, ap, ◌∙◌, subst, arith}
-use Rattle.std.specs.Prelude.{◌↔◌, IsTrue, Contains, slice_get}
+use Rattle.std.specs.Prelude.{◌↔◌, IsTrue, slice_get}
 use Rattle.std.proofs.lemmas.Bool.{both_ways, cases_Bool, cases_lt}
+use Rattle.cell_machine.specs.declared.effect.Place.{Place}
 use Rattle.cell_machine.specs.Run.{Ran}
 use Rattle.cell_machine.specs.Traces.{trace_of}
 use Rattle.race_order.specs.OrderedRuns.{trace_in, IsOrdered}
 use Rattle.race_order.proofs.Places.{get_take}
 use Rattle.race_check.specs.declared.access.Access.{Access}
 use Rattle.race_check.specs.Races.{accesses_in, Conflict, IsLeast, Race, RaceBy}
-use Rattle.race_check.specs.declared.entry.Entry.{Entry}
+use Rattle.race_check.specs.declared.crowd.Crowd.{Crowd}
 use Rattle.race_check.specs.declared.line.Line.{Line}
-use Rattle.race_check.specs.Kept.{IsSafe}
+use Rattle.race_check.specs.Crowds.{Has, IsSafe}
 use Rattle.race_check.specs.Lines.{InLine}
 use Rattle.race_check.specs.Shows.{Kept, Shows, slot_of}
 use Rattle.race_check.proofs.Places.{conflict_at, conflict_from}
@@ -62,15 +63,15 @@ module _ (Before : ℕ → ℕ → Type 0) (accesses : List Access) where
   shows_none lines empty =
       record {
         kept = λ i a p x w low at t. absurd (omega arith);
-        real = record { below = λ k line w e is has. absurd (nothing k line w e is has); real = λ k line w e is has. absurd (nothing k line w e is has) };
+        real = record { below = λ k line w s p x is has. absurd (nothing k line w s p x is has); real = λ k line w s p x is has. absurd (nothing k line w s p x is has) };
       }
     where
-      no : (es : List Entry) (e : Entry) → es ≡ [] → Contains es e → ⊥
-      no es e is has = let low : has.0 < 0 = subst (λ xs. has.0 < length xs) is has.1 in omega arith
+      no : (crowds : List Crowd) (s : ℕ) (p : Place) (x : ℕ) → crowds ≡ [] → Has crowds s p x → ⊥
+      no crowds s p x is has = let low : has.inside.0 < 0 = subst (λ xs. has.inside.0 < length xs) is has.inside.1 in omega arith
 
-      nothing : (k : ℕ) (line : Line) (w : Bool) (e : Entry) → slice_get lines k ≡ Some line → InLine line w e → ⊥
-      nothing k line w e is (inl has) = no line.writes.items e (empty k line is).0 has
-      nothing k line w e is (inr (reading, has)) = no line.reads.items e (empty k line is).1 has
+      nothing : (k : ℕ) (line : Line) (w : Bool) (s : ℕ) (p : Place) (x : ℕ) → slice_get lines k ≡ Some line → InLine line w s p x → ⊥
+      nothing k line w s p x is (inl has) = no line.writes.items s p x (empty k line is).0 has
+      nothing k line w s p x is (inr (reading, has)) = no line.reads.items s p x (empty k line is).1 has
 
 -- the two relations and the two lists agree on the first n places
 module _ (Before Other : ℕ → ℕ → Type 0) (accesses others : List Access) (n : ℕ) (to : (i j : ℕ) → j < n → Before i j → Other i j) (same : (i : ℕ) → i < n → slice_get accesses i ≡ slice_get others i) where
@@ -83,14 +84,14 @@ module _ (Before Other : ℕ → ℕ → Type 0) (accesses others : List Access)
       record {
         kept = λ i a p x w low at t.
             let k : Kept Before lines i p x w = shows.kept i a p x w low (same i (omega arith) ∙ at) t in
-            let less : k.entry.step < j = shows.real.below (slot_of (length lines) p (x / 128)) k.line w k.entry k.at k.inside in
-            record { line = k.line; at = k.at; entry = k.entry; inside = k.inside; there = k.there; safe = safe_below i k.entry.step (omega arith) k.safe };
+            let less : k.step < j = shows.real.below (slot_of (length lines) p (x / 128)) k.line w k.step p x k.at k.inside in
+            record { line = k.line; at = k.at; step = k.step; inside = k.inside; safe = safe_below i k.step (omega arith) k.safe };
         real = record {
           below = shows.real.below;
-          real = λ k line w e is has.
-              let r = shows.real.real k line w e is has in
-              let less : e.step < j = shows.real.below k line w e is has in
-              record { access = r.access; at = sym (same e.step (omega arith)) ∙ r.at; touches = r.touches };
+          real = λ k line w s p x is has.
+              let r = shows.real.real k line w s p x is has in
+              let less : s < j = shows.real.below k line w s p x is has in
+              record { access = r.access; at = sym (same s (omega arith)) ∙ r.at; touch = r.touch };
         };
       }
 

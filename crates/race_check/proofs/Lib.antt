@@ -4,8 +4,7 @@ pub mod Agree
 pub mod Prefixes
 pub mod Meets
 pub mod Places
-pub mod Parts
-pub mod Replaces
+pub mod CrowdLaws
 pub mod LineVisits
 pub mod Visits
 pub mod Spans

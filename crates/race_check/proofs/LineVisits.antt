@@ -1,110 +1,81 @@
 -- What a writing and a reading entry leave of a line.
-use Rattle.std.proofs.Common.{◌≡◌, ℕ, Bool, true, false, ◌||◌, List, [], ◌∷◌, ◌++◌, ◌⊎◌, inl, inr, refl, sym, subst}
-use Rattle.std.specs.Prelude.{Contains}
+use Rattle.std.proofs.Common.{◌≡◌, ℕ, Bool, true, false, List, ◌⊎◌, inl, inr, refl, subst}
 use Rattle.std.proofs.lemmas.Bool.{both_ways}
-use Rattle.std.proofs.lemmas.List.Elements.{All-contains, Contains-append_left, Contains-push, Contains-push_cases}
 use Rattle.cell_machine.specs.declared.effect.Place.{Place}
 use Rattle.race_check.specs.declared.entry.Entry.{Entry}
+use Rattle.race_check.specs.declared.crowd.Crowd.{Crowd}
 use Rattle.race_check.specs.declared.line.Line.{Line}
-use Rattle.race_check.specs.Kept.{Holds, IsClear, IsOf, IsPart, IsRenewed, IsReplaced, IsSifted, StandsFor, Tells}
-use Rattle.race_check.specs.Lines.{InLine, IsLineOf, IsLinePart, IsVisited, VisitTells}
-
--- the list `after` is what is left of `before`, and `more` is it with the new entry behind
-module _ (Before : ℕ → ℕ → Type 0) (new : Entry) (before after : List Entry) (renewed : IsRenewed Before new before after) where
-  pub part_at : (e : Entry) (p : Place) (x : ℕ) → Contains before e → Holds e p x → IsPart after e p x ⊎ StandsFor Before new e p x
-  part_at e p x inside h = (All-contains (IsSifted Before new after) before e renewed.sifted inside).left p x h
-
-  pub of_at : (f : Entry) → Contains after f → IsOf before f
-  of_at f inside = All-contains (IsOf before) after f renewed.rest inside
+use Rattle.race_check.specs.Entries.{Holds}
+use Rattle.race_check.specs.Crowds.{Has, HasClash, IsJoined, IsSafe, IsTrimmed, Tells}
+use Rattle.race_check.specs.Lines.{HasLineClash, InLine, IsVisited}
 
 module _ (Before : ℕ → ℕ → Type 0) (new : Entry) (before after : Line) where
-  -- a writer came
-  module _ (writes : List Entry) (first : IsRenewed Before new before.writes.items writes) (pushed : after.writes.items ≡ writes ++ (new ∷ [])) (second : IsRenewed Before new before.reads.items after.reads.items) where
-    in_writes : (e : Entry) → Contains writes e → Contains after.writes.items e
-    in_writes e h = subst (λ es. Contains es e) (sym pushed) (Contains-append_left writes (new ∷ []) e h)
+  -- a writer came, and clashes with none
+  module _ (trimmed : List Crowd) (writers : Tells Before new before.writes.items false) (readers : Tells Before new before.reads.items false)
+      (reads : IsTrimmed new before.reads.items after.reads.items) (writes : IsTrimmed new before.writes.items trimmed) (put : IsJoined Before new trimmed after.writes.items) where
+    clear : (w : Bool) (s : ℕ) (p : Place) (x : ℕ) → InLine before w s p x → Holds new p x → IsSafe Before s new.step
+    clear w s p x (inl has) h = writers s p x has h
+    clear w s p x (inr (reading, has)) h = readers s p x has h
 
-    new_writes : Contains after.writes.items new
-    new_writes = subst (λ es. Contains es new) (sym pushed) (Contains-push writes new)
+    new_there : (w : Bool) (p : Place) (x : ℕ) → Holds new p x → InLine after w new.step p x
+    new_there w p x h = inl (put.own p x h)
 
     pub written : IsVisited Before new true before after
-    written = record { left = λ w e p x inside h. left w e p x inside h; own = inl new_writes; rest = λ w f inside. rest w f inside }
+    written = record { clear = λ w s p x has h one. clear w s p x has h; left = λ w s p x has. left w s p x has; own = λ p x h. new_there true p x h; rest = λ w s p x has. rest w s p x has }
       where
-        left : (w : Bool) (e : Entry) (p : Place) (x : ℕ) → InLine before w e → Holds e p x → IsLinePart after w e p x ⊎ (InLine after w new × StandsFor Before new e p x)
-        left w e p x (inl inside) h =
-            elim (part_at Before new before.writes.items writes first e p x inside h) [
-              | inl part ↦ inl record { part = part.part; inside = inl (in_writes part.part part.inside); there = part.there; step = part.step }
-              | inr stands ↦ inr (inl new_writes, stands)
-            ]
-        left w e p x (inr (reads, inside)) h =
-            elim (part_at Before new before.reads.items after.reads.items second e p x inside h) [
-              | inl part ↦ inl record { part = part.part; inside = inr (reads, part.inside); there = part.there; step = part.step }
-              | inr stands ↦ inr (inl new_writes, stands)
-            ]
+        left : (w : Bool) (s : ℕ) (p : Place) (x : ℕ) → InLine before w s p x → InLine after w s p x ⊎ (InLine after w new.step p x × IsSafe Before s new.step)
+        left w s p x (inl has) = at (writes.left s p x has)
+          where
+            on : Has after.writes.items s p x ⊎ (Holds new p x × IsSafe Before s new.step) → InLine after w s p x ⊎ (InLine after w new.step p x × IsSafe Before s new.step)
+            on (inl kept) = inl (inl kept)
+            on (inr (h, safe)) = inr (new_there w p x h, safe)
 
-        rest : (w : Bool) (f : Entry) → InLine after w f → ((f ≡ new) × (w ≡ true → true ≡ true)) ⊎ IsLineOf before w f
-        rest w f (inl inside) =
-            elim (Contains-push_cases writes new f (subst (λ es. Contains es f) pushed inside)) [
-              | inl old ↦ let of = of_at Before new before.writes.items writes first f old in inr record { whole = of.whole; inside = inl of.inside; step = of.step; holds = of.holds }
-              | inr is ↦ inl (sym is, λ t. refl)
-            ]
-        rest w f (inr (reads, inside)) =
-            let of = of_at Before new before.reads.items after.reads.items second f inside in
-            inr record { whole = of.whole; inside = inr (reads, of.inside); step = of.step; holds = of.holds }
+            at : Has trimmed s p x ⊎ Holds new p x → InLine after w s p x ⊎ (InLine after w new.step p x × IsSafe Before s new.step)
+            at (inl kept) = on (put.left s p x kept)
+            at (inr h) = inr (new_there w p x h, writers s p x has h)
+        left w s p x (inr (reading, has)) = at (reads.left s p x has)
+          where
+            at : Has after.reads.items s p x ⊎ Holds new p x → InLine after w s p x ⊎ (InLine after w new.step p x × IsSafe Before s new.step)
+            at (inl kept) = inl (inr (reading, kept))
+            at (inr h) = inr (new_there w p x h, readers s p x has h)
 
-  -- a reader came
-  module _ (reads : List Entry) (same : after.writes ≡ before.writes) (renewed : IsRenewed Before new before.reads.items reads) (pushed : after.reads.items ≡ reads ++ (new ∷ [])) where
-    in_reads : (e : Entry) → Contains reads e → Contains after.reads.items e
-    in_reads e h = subst (λ es. Contains es e) (sym pushed) (Contains-append_left reads (new ∷ []) e h)
+        rest : (w : Bool) (s : ℕ) (p : Place) (x : ℕ) → InLine after w s p x → InLine before w s p x ⊎ ((w ≡ true → true ≡ true) × Holds new p x × (s ≡ new.step))
+        rest w s p x (inr (reading, has)) = inl (inr (reading, reads.rest s p x has))
+        rest w s p x (inl has) = at (put.rest s p x has)
+          where
+            at : Has trimmed s p x ⊎ (Holds new p x × (s ≡ new.step)) → InLine before w s p x ⊎ ((w ≡ true → true ≡ true) × Holds new p x × (s ≡ new.step))
+            at (inl old) = inl (inl (writes.rest s p x old))
+            at (inr (h, is)) = inr (λ t. refl, h, is)
 
-    new_reads : Contains after.reads.items new
-    new_reads = subst (λ es. Contains es new) (sym pushed) (Contains-push reads new)
-
+  -- a reader came, and clashes with no writer
+  module _ (writers : Tells Before new before.writes.items false) (same : after.writes ≡ before.writes) (reads : IsJoined Before new before.reads.items after.reads.items) where
     pub read : IsVisited Before new false before after
-    read = record { left = λ w e p x inside h. left w e p x inside h; own = inr (refl, new_reads); rest = λ w f inside. rest w f inside }
+    read = record { clear = λ w s p x has h one. clear w s p x has h one; left = λ w s p x has. left w s p x has; own = λ p x h. inr (refl, reads.own p x h); rest = λ w s p x has. rest w s p x has }
       where
-        left : (w : Bool) (e : Entry) (p : Place) (x : ℕ) → InLine before w e → Holds e p x → IsLinePart after w e p x ⊎ (InLine after w new × StandsFor Before new e p x)
-        left w e p x (inl inside) h = inl record { part = e; inside = inl (subst (λ v. Contains v.items e) (sym same) inside); there = h; step = refl }
-        left w e p x (inr (reading, inside)) h =
-            elim (part_at Before new before.reads.items reads renewed e p x inside h) [
-              | inl part ↦ inl record { part = part.part; inside = inr (reading, in_reads part.part part.inside); there = part.there; step = part.step }
-              | inr stands ↦ inr (inr (reading, new_reads), stands)
-            ]
+        clear : (w : Bool) (s : ℕ) (p : Place) (x : ℕ) → InLine before w s p x → Holds new p x → (w ≡ true) ⊎ (false ≡ true) → IsSafe Before s new.step
+        clear w s p x (inl has) h one = writers s p x has h
+        clear w s p x (inr (reading, has)) h (inl writing) = absurd (both_ways w reading writing)
+        clear w s p x (inr (reading, has)) h (inr wrong) = absurd (let e : false ≡ true = wrong in cc)
 
-        rest : (w : Bool) (f : Entry) → InLine after w f → ((f ≡ new) × (w ≡ true → false ≡ true)) ⊎ IsLineOf before w f
-        rest w f (inl inside) = inr record { whole = f; inside = inl (subst (λ v. Contains v.items f) same inside); step = refl; holds = λ p x h. h }
-        rest w f (inr (reading, inside)) =
-            elim (Contains-push_cases reads new f (subst (λ es. Contains es f) pushed inside)) [
-              | inl old ↦ let of = of_at Before new before.reads.items reads renewed f old in inr record { whole = of.whole; inside = inr (reading, of.inside); step = of.step; holds = of.holds }
-              | inr is ↦ inl (sym is, λ t. absurd (both_ways w reading t))
-            ]
+        left : (w : Bool) (s : ℕ) (p : Place) (x : ℕ) → InLine before w s p x → InLine after w s p x ⊎ (InLine after w new.step p x × IsSafe Before s new.step)
+        left w s p x (inl has) = inl (inl (rw same has))
+        left w s p x (inr (reading, has)) = at (reads.left s p x has)
+          where
+            at : Has after.reads.items s p x ⊎ (Holds new p x × IsSafe Before s new.step) → InLine after w s p x ⊎ (InLine after w new.step p x × IsSafe Before s new.step)
+            at (inl kept) = inl (inr (reading, kept))
+            at (inr (h, safe)) = inr (inr (reading, reads.own p x h), safe)
 
-  -- a reader came in the place of one that it stands for
-  module _ (same : after.writes ≡ before.writes) (replaced : IsReplaced Before new before.reads.items after.reads.items) where
-    pub read_replaced : IsVisited Before new false before after
-    read_replaced = record { left = λ w e p x inside h. left w e p x inside h; own = inr (refl, replaced.own); rest = λ w f inside. rest w f inside }
-      where
-        left : (w : Bool) (e : Entry) (p : Place) (x : ℕ) → InLine before w e → Holds e p x → IsLinePart after w e p x ⊎ (InLine after w new × StandsFor Before new e p x)
-        left w e p x (inl inside) h = inl record { part = e; inside = inl (subst (λ v. Contains v.items e) (sym same) inside); there = h; step = refl }
-        left w e p x (inr (reading, inside)) h =
-            elim ((All-contains (IsSifted Before new after.reads.items) before.reads.items e replaced.sifted inside).left p x h) [
-              | inl part ↦ inl record { part = part.part; inside = inr (reading, part.inside); there = part.there; step = part.step }
-              | inr stands ↦ inr (inr (reading, replaced.own), stands)
-            ]
+        rest : (w : Bool) (s : ℕ) (p : Place) (x : ℕ) → InLine after w s p x → InLine before w s p x ⊎ ((w ≡ true → false ≡ true) × Holds new p x × (s ≡ new.step))
+        rest w s p x (inl has) = inl (inl (subst (λ v. Has v.items s p x) same has))
+        rest w s p x (inr (reading, has)) = at (reads.rest s p x has)
+          where
+            at : Has before.reads.items s p x ⊎ (Holds new p x × (s ≡ new.step)) → InLine before w s p x ⊎ ((w ≡ true → false ≡ true) × Holds new p x × (s ≡ new.step))
+            at (inl old) = inl (inr (reading, old))
+            at (inr (h, is)) = inr (λ t. absurd (both_ways w reading t), h, is)
 
-        rest : (w : Bool) (f : Entry) → InLine after w f → ((f ≡ new) × (w ≡ true → false ≡ true)) ⊎ IsLineOf before w f
-        rest w f (inl inside) = inr record { whole = f; inside = inl (subst (λ v. Contains v.items f) same inside); step = refl; holds = λ p x h. h }
-        rest w f (inr (reading, inside)) =
-            elim (replaced.rest f inside) [
-              | inl is ↦ inl (is, λ t. absurd (both_ways w reading t))
-              | inr old ↦ inr record { whole = f; inside = inr (reading, old); step = refl; holds = λ p x h. h }
-            ]
+  -- a clash with a writer, or of a writer with a reader
+  pub clash_with_writer : (writes : Bool) → HasClash Before new before.writes.items → HasLineClash Before new writes before
+  clash_with_writer writes c = record { kind = true; step = c.step; place = c.place; at = c.at; has = inl c.has; in_new = c.in_new; one_writes = inl refl; unsafe = c.unsafe }
 
--- a clash with a writer, or with a reader
-pub write_tells : (Before : ℕ → ℕ → Type 0) (new : Entry) (before : Line) (first second : Bool) → Tells Before new before.writes.items first → Tells Before new before.reads.items second → VisitTells Before new true before (first || second)
-write_tells Before new before true second clash s = record { kind = true; entry = clash.entry; inside = inl clash.inside; one_writes = inl refl; clash = clash.clash }
-write_tells Before new before false true f clash = record { kind = false; entry = clash.entry; inside = inr (refl, clash.inside); one_writes = inr refl; clash = clash.clash }
-write_tells Before new before false false f s = λ w e inside one. at w e inside
-  where
-    at : (w : Bool) (e : Entry) → InLine before w e → IsClear Before new e
-    at w e (inl inside) = All-contains (IsClear Before new) before.writes.items e f inside
-    at w e (inr (reading, inside)) = All-contains (IsClear Before new) before.reads.items e s inside
+  pub clash_with_reader : HasClash Before new before.reads.items → HasLineClash Before new true before
+  clash_with_reader c = record { kind = false; step = c.step; place = c.place; at = c.at; has = inr (refl, c.has); in_new = c.in_new; one_writes = inr refl; unsafe = c.unsafe }

@@ -1,52 +1,66 @@
 -- What stands in a span, line by line.
-use Rattle.std.proofs.Common.{◌≡◌, ℕ, ◌+◌, ◌/◌, ◌<◌, Bool, true, List, ◌⊎◌, inl, inr, sym, ap, ◌∙◌, subst, arith}
-use Rattle.std.specs.Prelude.{slice_get}
+use Rattle.std.proofs.Common.{◌≡◌, ℕ, ◌+◌, ◌/◌, ◌<◌, Bool, true, List, ◌⊎◌, inl, inr, sym, subst, arith}
 use Rattle.std.proofs.lemmas.Bool.{and_parts, ltb-true, cases_eq}
 use Rattle.cell_machine.specs.declared.effect.Place.{Place}
-use Rattle.race_check.specs.declared.access.Access.{Access}
 use Rattle.cell_machine.specs.declared.effect.Span.{Span}
 use Rattle.cell_machine.specs.Sound.{covers}
+use Rattle.race_check.specs.declared.access.Access.{Access}
 use Rattle.race_check.specs.declared.entry.Entry.{Entry}
 use Rattle.race_check.specs.declared.line.Line.{Line}
-use Rattle.race_check.specs.Kept.{Holds, IsSafe}
-use Rattle.race_check.specs.Shows.{AreReal, HasRace, IsAccess, IsSpanOf, Kept, KeepsAll}
+use Rattle.race_check.specs.Entries.{Holds}
+use Rattle.race_check.specs.Crowds.{IsSafe}
+use Rattle.race_check.specs.Shows.{AreReal, EntryTells, HasRace, IsAccess, IsReal, IsSpanOf, Kept, KeepsAll, TakesEntry, TakesSpan}
 
 pub below_end : (s : Span) (p : Place) (x : ℕ) → covers s p x ≡ true → x < s.at + s.len
 below_end s p x e = let parts = and_parts _ _ e in let inner = and_parts _ _ parts.1 in ltb-true _ _ inner.1
 
-pub keeps_after : (Before : ℕ → ℕ → Type 0) (first second third : List Line) → KeepsAll Before first second → KeepsAll Before second third → KeepsAll Before first third
-keeps_after Before first second third a b = record { keeps = λ i p x w k. b.keeps i p x w (a.keeps i p x w k) }
+-- the bytes of a span in the lines below `line` were taken in
+pub record TakesBelow (Before : ℕ → ℕ → Type 0) (before after : List Line) (span : Span) (step : ℕ) (writes : Bool) (line : ℕ) : Type 0 where
+  pub keeps : KeepsAll Before before after
+  pub own : (p : Place) (x : ℕ) → covers span p x ≡ true → x / 128 < line → Kept Before after step p x writes
+  pub real : (steps : List Access) → IsSpanOf steps step span writes → AreReal steps before (step + 1) → AreReal steps after (step + 1)
+  pub clear : (i : ℕ) (p : Place) (x : ℕ) (w : Bool) → Kept Before before i p x w → covers span p x ≡ true → x / 128 < line → (w ≡ true) ⊎ (writes ≡ true) → IsSafe Before i step
 
--- the bytes of a span up to and with those of a line, whose entry was taken in
-module _ (Before : ℕ → ℕ → Type 0) (first before after : List Line) (span : Span) (step : ℕ) (writes : Bool) (line : ℕ) (entry : Entry) (is_step : entry.step ≡ step) where
-  module _ (holds : (p : Place) (x : ℕ) → covers span p x ≡ true → x / 128 ≡ line → Holds entry p x) where
-    pub own_more : KeepsAll Before before after → ((p : Place) (x : ℕ) → Holds entry p x → x / 128 ≡ line → Kept Before after entry.step p x writes)
-        → ((p : Place) (x : ℕ) → covers span p x ≡ true → x / 128 < line → Kept Before before step p x writes)
-        → (p : Place) (x : ℕ) → covers span p x ≡ true → x / 128 < line + 1 → Kept Before after step p x writes
-    own_more keeps own below p x c low = at (cases_eq (x / 128) line)
-      where
-        at : (x / 128 ≡ line) ⊎ (x / 128 ≡ line → ⊥) → Kept Before after step p x writes
-        at (inl e) = subst (λ s. Kept Before after s p x writes) is_step (own p x (holds p x c e) e)
-        at (inr ne) = keeps.keeps step p x writes (below p x c (omega arith))
+pub none_below : (Before : ℕ → ℕ → Type 0) (lines : List Line) (span : Span) (step : ℕ) (writes : Bool) (line : ℕ) → ((p : Place) (x : ℕ) → covers span p x ≡ true → x / 128 < line → ⊥) → TakesBelow Before lines lines span step writes line
+none_below Before lines span step writes line none = record {
+  keeps = record { keeps = λ i p x w k. k };
+  own = λ p x c low. absurd (none p x c low);
+  real = λ steps of real. real;
+  clear = λ i p x w k c low one. absurd (none p x c low);
+}
 
-    pub clear_more : KeepsAll Before first before
-        → ((i : ℕ) (p : Place) (x : ℕ) (w : Bool) → Kept Before before i p x w → Holds entry p x → x / 128 ≡ line → (w ≡ true) ⊎ (writes ≡ true) → IsSafe Before i entry.step)
-        → ((i : ℕ) (p : Place) (x : ℕ) (w : Bool) → Kept Before first i p x w → covers span p x ≡ true → x / 128 < line → (w ≡ true) ⊎ (writes ≡ true) → IsSafe Before i step)
-        → (i : ℕ) (p : Place) (x : ℕ) (w : Bool) → Kept Before first i p x w → covers span p x ≡ true → x / 128 < line + 1 → (w ≡ true) ⊎ (writes ≡ true) → IsSafe Before i step
-    clear_more keeps clear below i p x w k c low one = at (cases_eq (x / 128) line)
-      where
-        at : (x / 128 ≡ line) ⊎ (x / 128 ≡ line → ⊥) → IsSafe Before i step
-        at (inl e) = subst (IsSafe Before i) is_step (clear i p x w (keeps.keeps i p x w k) (holds p x c e) e one)
-        at (inr ne) = below i p x w k c (omega arith) one
+pub all_below : (Before : ℕ → ℕ → Type 0) (before after : List Line) (span : Span) (step : ℕ) (writes : Bool) (line : ℕ) → ((p : Place) (x : ℕ) → covers span p x ≡ true → x / 128 < line) → TakesBelow Before before after span step writes line → TakesSpan Before before after span step writes
+all_below Before before after span step writes line all takes = record {
+  keeps = takes.keeps;
+  own = λ p x c. takes.own p x c (all p x c);
+  real = takes.real;
+  clear = λ i p x w k c one. takes.clear i p x w k c (all p x c) one;
+}
 
-  module _ (only : (p : Place) (x : ℕ) → Holds entry p x → covers span p x ≡ true) (steps : List Access) (of : IsSpanOf steps step span writes) where
-    entry_access : IsAccess steps writes entry
-    entry_access = record { real = λ w flags. record { access = of.access; at = ap (slice_get steps) is_step ∙ of.at; touches = λ p x h. of.touches p x w (only p x h) flags } }
+-- the entry has the bytes of the span in the line
+module _ (Before : ℕ → ℕ → Type 0) (first before after : List Line) (span : Span) (step : ℕ) (writes : Bool) (line : ℕ) (entry : Entry) (is_step : entry.step ≡ step)
+    (holds : (p : Place) (x : ℕ) → covers span p x ≡ true → x / 128 ≡ line → Holds entry p x) (only : (p : Place) (x : ℕ) → Holds entry p x → covers span p x ≡ true) (below : TakesBelow Before first before span step writes line) where
+  entry_access : (steps : List Access) → IsSpanOf steps step span writes → IsAccess steps entry writes
+  entry_access steps of p x w h flags = subst (λ s. IsReal steps s p x w) (sym is_step) (of p x w (only p x h) flags)
 
-    pub real_more : (IsAccess steps writes entry → AreReal steps before (entry.step + 1) → AreReal steps after (entry.step + 1)) → AreReal steps before (step + 1) → AreReal steps after (step + 1)
-    real_more next real =
-        subst (λ s. AreReal steps after (s + 1)) is_step (next entry_access (subst (λ s. AreReal steps before (s + 1)) (sym is_step) real))
+  real_before : (steps : List Access) → IsSpanOf steps step span writes → AreReal steps first (step + 1) → AreReal steps before (entry.step + 1)
+  real_before steps of real = subst (λ s. AreReal steps before (s + 1)) (sym is_step) (below.real steps of real)
 
-    pub found_here : (IsAccess steps writes entry → AreReal steps before (entry.step + 1) → HasRace Before steps entry.step) → AreReal steps before (step + 1) → HasRace Before steps step
-    found_here next real =
-        subst (HasRace Before steps) is_step (next entry_access (subst (λ s. AreReal steps before (s + 1)) (sym is_step) real))
+  pub found_more : EntryTells Before before after entry writes line true → (steps : List Access) → IsSpanOf steps step span writes → AreReal steps first (step + 1) → HasRace Before steps step
+  found_more found steps of real = subst (HasRace Before steps) is_step (found steps (entry_access steps of) (real_before steps of real))
+
+  pub takes_more : TakesEntry Before before after entry writes line → TakesBelow Before first after span step writes (line + 1)
+  takes_more taken = record {
+    keeps = record { keeps = λ i p x w k. taken.keeps.keeps i p x w (below.keeps.keeps i p x w k) };
+    own = λ p x c low. own p x c low (cases_eq (x / 128) line);
+    real = λ steps of real. subst (λ s. AreReal steps after (s + 1)) is_step (taken.real steps (entry_access steps of) (real_before steps of real));
+    clear = λ i p x w k c low one. clear i p x w k c low one (cases_eq (x / 128) line);
+  }
+    where
+      own : (p : Place) (x : ℕ) → covers span p x ≡ true → x / 128 < line + 1 → (x / 128 ≡ line) ⊎ (x / 128 ≡ line → ⊥) → Kept Before after step p x writes
+      own p x c low (inl e) = subst (λ s. Kept Before after s p x writes) is_step (taken.own p x (holds p x c e) e)
+      own p x c low (inr ne) = taken.keeps.keeps step p x writes (below.own p x c (omega arith))
+
+      clear : (i : ℕ) (p : Place) (x : ℕ) (w : Bool) → Kept Before first i p x w → covers span p x ≡ true → x / 128 < line + 1 → (w ≡ true) ⊎ (writes ≡ true) → (x / 128 ≡ line) ⊎ (x / 128 ≡ line → ⊥) → IsSafe Before i step
+      clear i p x w k c low one (inl e) = subst (IsSafe Before i) is_step (taken.clear i p x w (below.keeps.keeps i p x w k) (holds p x c e) e one)
+      clear i p x w k c low one (inr ne) = below.clear i p x w k c (omega arith) one

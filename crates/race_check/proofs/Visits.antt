@@ -9,9 +9,10 @@ use Rattle.cell_machine.specs.Sound.{covers}
 use Rattle.race_check.specs.Races.{Conflict, WritesInto}
 use Rattle.race_check.specs.declared.entry.Entry.{Entry}
 use Rattle.race_check.specs.declared.line.Line.{Line}
-use Rattle.race_check.specs.Kept.{Holds, IsClear, IsSafe, StandsFor}
-use Rattle.race_check.specs.Lines.{HasLineClash, InLine, IsLineOf, IsLinePart, IsVisited, VisitTells}
-use Rattle.race_check.specs.Shows.{AreReal, HasRace, IsAccess, IsReal, Kept, KeepsAll, Touch, Fetched, Reads, Writes, slot_of}
+use Rattle.race_check.specs.Entries.{Holds}
+use Rattle.race_check.specs.Crowds.{IsSafe}
+use Rattle.race_check.specs.Lines.{HasLineClash, InLine, IsVisited, VisitTells}
+use Rattle.race_check.specs.Shows.{AreReal, EntryTells, HasRace, IsAccess, IsReal, Kept, TakesEntry, Touch, Fetched, Reads, Writes, slot_of}
 
 -- what is before a step that is before another is before that one
 abbrev pub IsTransitive : (ℕ → ℕ → Type 0) → Type 0
@@ -49,8 +50,8 @@ conflict_of : (a b : Access) (p : Place) (x : ℕ) (v w : Bool) → Touch a p x 
 conflict_of a b p x v w t u (inl e) = inl (writes_into a b p x w (touch_writes a p x v t e) u)
 conflict_of a b p x v w t u (inr e) = inr (writes_into b a p x v (touch_writes b p x w u e) t)
 
--- the list s has become `new`, which has the entry e and what is left of the old one
-module _ (Before : ℕ → ℕ → Type 0) (trans : IsTransitive Before) (lines : List Line) (s : ℕ) (old new : Line) (e : Entry) (writes : Bool) (inside : s < length lines) (at : slice_get lines s ≡ Some old) where
+-- the list s of a line has become `new`
+module _ (Before : ℕ → ℕ → Type 0) (trans : IsTransitive Before) (lines : List Line) (s : ℕ) (old new : Line) (e : Entry) (writes : Bool) (line : ℕ) (inside : s < length lines) (at : slice_get lines s ≡ Some old) (is : s ≡ slot_of (length lines) e.place line) where
   abbrev after : List Line
   after = set lines s new
 
@@ -60,77 +61,68 @@ module _ (Before : ℕ → ℕ → Type 0) (trans : IsTransitive Before) (lines 
   here : (p : Place) (x : ℕ) → slot_of (length lines) p (x / 128) ≡ s → slice_get after (slot_of (length after) p (x / 128)) ≡ Some new
   here p x q = ap (λ n. slice_get after (slot_of n p (x / 128))) same_length ∙ (ap (slice_get after) q ∙ get_set_same lines s new inside)
 
-  is_old : (k : ℕ) (line : Line) → k ≡ s → slice_get lines k ≡ Some line → line ≡ old
-  is_old k line q l = same_Some _ _ (sym l ∙ (ap (slice_get lines) q ∙ at))
+  is_old : (k : ℕ) (l : Line) → k ≡ s → slice_get lines k ≡ Some l → l ≡ old
+  is_old k l q got = same_Some _ _ (sym got ∙ (ap (slice_get lines) q ∙ at))
 
-  is_new : (k : ℕ) (line : Line) → k ≡ s → slice_get after k ≡ Some line → line ≡ new
-  is_new k line q l = same_Some _ _ (sym l ∙ (ap (slice_get after) q ∙ get_set_same lines s new inside))
+  is_new : (k : ℕ) (l : Line) → k ≡ s → slice_get after k ≡ Some l → l ≡ new
+  is_new k l q got = same_Some _ _ (sym got ∙ (ap (slice_get after) q ∙ get_set_same lines s new inside))
+
+  -- a byte of the entry in the line is in that list
+  in_list : (p : Place) (x : ℕ) → Holds e p x → x / 128 ≡ line → slot_of (length lines) p (x / 128) ≡ s
+  in_list p x h l = ap (slot_of (length lines) p) l ∙ (ap (λ q. slot_of (length lines) q line) (sym h.place) ∙ sym is)
 
   module _ (visited : IsVisited Before e writes old new) where
-    pub visit_own : (p : Place) (x line : ℕ) → s ≡ slot_of (length lines) e.place line → Holds e p x → x / 128 ≡ line → Kept Before after e.step p x writes
-    visit_own p x line is h l =
-        record {
-          line = new;
-          at = here p x (ap (slot_of (length lines) p) l ∙ (ap (λ q. slot_of (length lines) q line) (sym h.place) ∙ sym is));
-          entry = e;
-          inside = visited.own;
-          there = h;
-          safe = inl refl;
-        }
+    own : (p : Place) (x : ℕ) → Holds e p x → x / 128 ≡ line → Kept Before after e.step p x writes
+    own p x h l = record { line = new; at = here p x (in_list p x h l); step = e.step; inside = visited.own p x h; safe = inl refl }
 
-    pub visit_keeps : KeepsAll Before lines after
-    visit_keeps = record { keeps = λ i p x w k. go i p x w k (cases_eq (slot_of (length lines) p (x / 128)) s) }
+    keeps : (i : ℕ) (p : Place) (x : ℕ) (w : Bool) → Kept Before lines i p x w → Kept Before after i p x w
+    keeps i p x w k = go (cases_eq (slot_of (length lines) p (x / 128)) s)
       where
-        go : (i : ℕ) (p : Place) (x : ℕ) (w : Bool) (k : Kept Before lines i p x w) → (slot_of (length lines) p (x / 128) ≡ s) ⊎ (slot_of (length lines) p (x / 128) ≡ s → ⊥) → Kept Before after i p x w
-        go i p x w k (inr ne) =
+        go : (slot_of (length lines) p (x / 128) ≡ s) ⊎ (slot_of (length lines) p (x / 128) ≡ s → ⊥) → Kept Before after i p x w
+        go (inr ne) =
             record {
               line = k.line;
               at = ap (λ n. slice_get after (slot_of n p (x / 128))) same_length ∙ (get_set_other lines s (slot_of (length lines) p (x / 128)) new ne ∙ k.at);
-              entry = k.entry;
+              step = k.step;
               inside = k.inside;
-              there = k.there;
               safe = k.safe;
             }
-        go i p x w k (inl q) = cases (visited.left w k.entry p x (subst (λ l. InLine l w k.entry) (is_old _ k.line q k.at) k.inside) k.there)
+        go (inl q) = cases (visited.left w k.step p x (subst (λ l. InLine l w k.step p x) (is_old _ k.line q k.at) k.inside))
           where
-            cases : IsLinePart new w k.entry p x ⊎ (InLine new w e × StandsFor Before e k.entry p x) → Kept Before after i p x w
-            cases (inl part) = record { line = new; at = here p x q; entry = part.part; inside = part.inside; there = part.there; safe = subst (IsSafe Before i) (sym part.step) k.safe }
-            cases (inr (has, stands)) = record { line = new; at = here p x q; entry = e; inside = has; there = stands.there; safe = safe_trans Before trans i k.entry.step e.step k.safe stands.safe }
+            cases : InLine new w k.step p x ⊎ (InLine new w e.step p x × IsSafe Before k.step e.step) → Kept Before after i p x w
+            cases (inl has) = record { line = new; at = here p x q; step = k.step; inside = has; safe = k.safe }
+            cases (inr (has, safe)) = record { line = new; at = here p x q; step = e.step; inside = has; safe = safe_trans Before trans i k.step e.step k.safe safe }
 
-    pub visit_real : (steps : List Access) → IsAccess steps writes e → AreReal steps lines (e.step + 1) → AreReal steps after (e.step + 1)
-    visit_real steps access real = record { below = λ k line w f is has. below k line w f is has (cases_eq k s); real = λ k line w f is has. touches k line w f is has (cases_eq k s) }
+    real : (steps : List Access) → IsAccess steps e writes → AreReal steps lines (e.step + 1) → AreReal steps after (e.step + 1)
+    real steps access was = record { below = λ k l w t p x got has. below k l w t p x got has (cases_eq k s); real = λ k l w t p x got has. touches k l w t p x got has (cases_eq k s) }
       where
-        below : (k : ℕ) (line : Line) (w : Bool) (f : Entry) → slice_get after k ≡ Some line → InLine line w f → (k ≡ s) ⊎ (k ≡ s → ⊥) → f.step < e.step + 1
-        below k line w f is has (inr ne) = real.below k line w f (sym (get_set_other lines s k new ne) ∙ is) has
-        below k line w f is has (inl q) = at_new (visited.rest w f (subst (λ l. InLine l w f) (is_new k line q is) has))
+        below : (k : ℕ) (l : Line) (w : Bool) (t : ℕ) (p : Place) (x : ℕ) → slice_get after k ≡ Some l → InLine l w t p x → (k ≡ s) ⊎ (k ≡ s → ⊥) → t < e.step + 1
+        below k l w t p x got has (inr ne) = was.below k l w t p x (sym (get_set_other lines s k new ne) ∙ got) has
+        below k l w t p x got has (inl q) = at_new (visited.rest w t p x (subst (λ l. InLine l w t p x) (is_new k l q got) has))
           where
-            at_new : ((f ≡ e) × (w ≡ true → writes ≡ true)) ⊎ IsLineOf old w f → f.step < e.step + 1
-            at_new (inl (same, flags)) = let q : f.step ≡ e.step = ap (λ g. g.step) same in omega arith
-            at_new (inr of) = let low : of.whole.step < e.step + 1 = real.below s old w of.whole at of.inside in let q : f.step ≡ of.whole.step = of.step in omega arith
+            at_new : InLine old w t p x ⊎ ((w ≡ true → writes ≡ true) × Holds e p x × (t ≡ e.step)) → t < e.step + 1
+            at_new (inl before) = was.below s old w t p x at before
+            at_new (inr (flags, h, same)) = omega (arith, same)
 
-        touches : (k : ℕ) (line : Line) (w : Bool) (f : Entry) → slice_get after k ≡ Some line → InLine line w f → (k ≡ s) ⊎ (k ≡ s → ⊥) → IsReal steps w f
-        touches k line w f is has (inr ne) = real.real k line w f (sym (get_set_other lines s k new ne) ∙ is) has
-        touches k line w f is has (inl q) = at_new (visited.rest w f (subst (λ l. InLine l w f) (is_new k line q is) has))
+        touches : (k : ℕ) (l : Line) (w : Bool) (t : ℕ) (p : Place) (x : ℕ) → slice_get after k ≡ Some l → InLine l w t p x → (k ≡ s) ⊎ (k ≡ s → ⊥) → IsReal steps t p x w
+        touches k l w t p x got has (inr ne) = was.real k l w t p x (sym (get_set_other lines s k new ne) ∙ got) has
+        touches k l w t p x got has (inl q) = at_new (visited.rest w t p x (subst (λ l. InLine l w t p x) (is_new k l q got) has))
           where
-            at_new : ((f ≡ e) × (w ≡ true → writes ≡ true)) ⊎ IsLineOf old w f → IsReal steps w f
-            at_new (inl (same, flags)) = subst (IsReal steps w) (sym same) (access.real w flags)
-            at_new (inr of) =
-                let r : IsReal steps w of.whole = real.real s old w of.whole at of.inside in
-                record { access = r.access; at = ap (slice_get steps) of.step ∙ r.at; touches = λ p x h. r.touches p x (of.holds p x h) }
+            at_new : InLine old w t p x ⊎ ((w ≡ true → writes ≡ true) × Holds e p x × (t ≡ e.step)) → IsReal steps t p x w
+            at_new (inl before) = was.real s old w t p x at before
+            at_new (inr (flags, h, same)) = subst (λ t. IsReal steps t p x w) (sym same) (access p x w h flags)
 
-  pub visit_clear : VisitTells Before e writes old false → (i : ℕ) (p : Place) (x : ℕ) (w : Bool) (line : ℕ) → s ≡ slot_of (length lines) e.place line → Kept Before lines i p x w → Holds e p x → x / 128 ≡ line → (w ≡ true) ⊎ (writes ≡ true) → IsSafe Before i e.step
-  visit_clear clear i p x w line is k h l one = safe_trans Before trans i k.entry.step e.step k.safe (this.safe p x k.there h)
-    where
-      q : slot_of (length lines) p (x / 128) ≡ s
-      q = ap (slot_of (length lines) p) l ∙ (ap (λ q. slot_of (length lines) q line) (sym h.place) ∙ sym is)
+    clear : (i : ℕ) (p : Place) (x : ℕ) (w : Bool) → Kept Before lines i p x w → Holds e p x → x / 128 ≡ line → (w ≡ true) ⊎ (writes ≡ true) → IsSafe Before i e.step
+    clear i p x w k h l one =
+        safe_trans Before trans i k.step e.step k.safe (visited.clear w k.step p x (subst (λ l. InLine l w k.step p x) (is_old _ k.line (in_list p x h l) k.at) k.inside) h one)
 
-      this : IsClear Before e k.entry
-      this = clear w k.entry (subst (λ l. InLine l w k.entry) (is_old _ k.line q k.at) k.inside) one
+    taken : TakesEntry Before lines after e writes line
+    taken = record { keeps = record { keeps = keeps }; own = own; real = real; clear = clear }
 
-  pub visit_found : HasLineClash Before e writes old → (steps : List Access) → IsAccess steps writes e → AreReal steps lines (e.step + 1) → HasRace Before steps e.step
-  visit_found c steps access real =
+  found : HasLineClash Before e writes old → (steps : List Access) → IsAccess steps e writes → AreReal steps lines (e.step + 1) → HasRace Before steps e.step
+  found c steps access was =
       record {
-        first = c.entry.step;
+        first = c.step;
         race = record {
           below = below;
           unordered = λ o. unsafe (inr o);
@@ -139,26 +131,30 @@ module _ (Before : ℕ → ℕ → Type 0) (trans : IsTransitive Before) (lines 
             second = its.access;
             first_at = mine.at;
             second_at = its.at;
-            conflict = conflict_of mine.access its.access c.clash.place c.clash.at c.kind writes (mine.touches c.clash.place c.clash.at c.clash.in_old) (its.touches c.clash.place c.clash.at c.clash.in_new) c.one_writes;
+            conflict = conflict_of mine.access its.access c.place c.at c.kind writes mine.touch its.touch c.one_writes;
           };
         };
       }
     where
-      mine : IsReal steps c.kind c.entry
-      mine = real.real s old c.kind c.entry at c.inside
+      mine : IsReal steps c.step c.place c.at c.kind
+      mine = was.real s old c.kind c.step c.place c.at at c.has
 
-      its : IsReal steps writes e
-      its = access.real writes (λ t. t)
+      its : IsReal steps e.step c.place c.at writes
+      its = access c.place c.at writes c.in_new (λ t. t)
 
-      low : c.entry.step < e.step + 1
-      low = real.below s old c.kind c.entry at c.inside
+      low : c.step < e.step + 1
+      low = was.below s old c.kind c.step c.place c.at at c.has
 
-      unsafe : IsSafe Before c.entry.step e.step → ⊥
-      unsafe = c.clash.unsafe (omega (arith, low))
+      unsafe : IsSafe Before c.step e.step → ⊥
+      unsafe = c.unsafe (omega (arith, low))
 
-      below : c.entry.step < e.step
-      below = at_step (cases_eq c.entry.step e.step)
+      below : c.step < e.step
+      below = at_step (cases_eq c.step e.step)
         where
-          at_step : (c.entry.step ≡ e.step) ⊎ (c.entry.step ≡ e.step → ⊥) → c.entry.step < e.step
+          at_step : (c.step ≡ e.step) ⊎ (c.step ≡ e.step → ⊥) → c.step < e.step
           at_step (inl q) = absurd (unsafe (inl q))
           at_step (inr ne) = omega (arith, low)
+
+  pub entry_tells : (races : Bool) → VisitTells Before e writes old new races → EntryTells Before lines after e writes line races
+  entry_tells true clash = found clash
+  entry_tells false visited = taken visited

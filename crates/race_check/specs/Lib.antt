@@ -1,6 +1,7 @@
 pub mod Races
 pub mod Reorderings
 pub mod Walks
-pub mod Kept
+pub mod Entries
+pub mod Crowds
 pub mod Lines
 pub mod Shows

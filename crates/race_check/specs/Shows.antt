@@ -1,17 +1,18 @@
 -- What a shadow shows of the steps so far.
-use Rattle.std.specs.Prelude.{◌≡◌, ℕ, ◌+◌, ◌*◌, ◌/◌, ◌%◌, ◌<◌, Bool, true, false, List, length, Some, slice_get}
+use Rattle.std.specs.Prelude.{◌≡◌, ℕ, ◌+◌, ◌*◌, ◌/◌, ◌%◌, ◌<◌, ◌⊎◌, Bool, true, false, List, length, Some, slice_get}
 use Rattle.cell_machine.specs.declared.effect.Place.{Place}
 use Rattle.cell_machine.specs.declared.effect.Place.TheVariants.{Memory, Local}
-use Rattle.race_check.specs.declared.access.Access.{Access}
 use Rattle.cell_machine.specs.declared.effect.Span.{Span}
 use Rattle.cell_machine.specs.Sound.{covers}
-use Rattle.race_check.specs.Races.{RaceBy}
+use Rattle.race_check.specs.declared.access.Access.{Access}
 use Rattle.race_check.specs.declared.entry.Entry.{Entry}
 use Rattle.race_check.specs.declared.line.Line.{Line}
-use Rattle.race_check.specs.Kept.{Holds, IsSafe}
+use Rattle.race_check.specs.Races.{RaceBy}
+use Rattle.race_check.specs.Entries.{Holds}
+use Rattle.race_check.specs.Crowds.{IsSafe}
 use Rattle.race_check.specs.Lines.{InLine}
 
--- which of n lists has the entries of a line of a place
+-- which of n lists has what is kept of a line of a place
 abbrev pub slot_of : ℕ → Place → ℕ → ℕ
 slot_of n Memory line = (32768 + line) % n
 slot_of n (Local q) line = (2048 * q + line) % n
@@ -22,51 +23,76 @@ pub data Touch (a : Access) (p : Place) (x : ℕ) : Bool → Type 0 where
   Reads : covers a.reads p x ≡ true → Touch a p x false
   Writes : {w : Bool} → covers a.writes p x ≡ true → Touch a p x w
 
--- a kept entry at the byte stands for an access by the step at i
+-- the step touches the byte so
+pub record IsReal (steps : List Access) (s : ℕ) (p : Place) (x : ℕ) (w : Bool) : Type 0 where
+  pub access : Access
+  pub at : slice_get steps s ≡ Some access
+  pub touch : Touch access p x w
+
+-- a kept step at the byte stands for an access by the step at i
 pub record Kept (Before : ℕ → ℕ → Type 0) (lines : List Line) (i : ℕ) (p : Place) (x : ℕ) (w : Bool) : Type 0 where
   pub line : Line
   pub at : slice_get lines (slot_of (length lines) p (x / 128)) ≡ Some line
-  pub entry : Entry
-  pub inside : InLine line w entry
-  pub there : Holds entry p x
-  pub safe : IsSafe Before i entry.step
+  pub step : ℕ
+  pub inside : InLine line w step p x
+  pub safe : IsSafe Before i step
 
 -- what is kept in the first lists is kept in the second
 pub record KeepsAll (Before : ℕ → ℕ → Type 0) (before after : List Line) : Type 0 where
   pub keeps : (i : ℕ) (p : Place) (x : ℕ) (w : Bool) → Kept Before before i p x w → Kept Before after i p x w
 
--- the step of the entry touches each byte of it so
-pub record IsReal (steps : List Access) (w : Bool) (e : Entry) : Type 0 where
-  pub access : Access
-  pub at : slice_get steps e.step ≡ Some access
-  pub touches : (p : Place) (x : ℕ) → Holds e p x → Touch access p x w
-
--- each entry is of a step below j, which touches each byte of it so
+-- each kept step is below j, and touches the byte so
 pub record AreReal (steps : List Access) (lines : List Line) (j : ℕ) : Type 0 where
-  pub below : (k : ℕ) (line : Line) (w : Bool) (e : Entry) → slice_get lines k ≡ Some line → InLine line w e → e.step < j
-  pub real : (k : ℕ) (line : Line) (w : Bool) (e : Entry) → slice_get lines k ≡ Some line → InLine line w e → IsReal steps w e
+  pub below : (k : ℕ) (line : Line) (w : Bool) (s : ℕ) (p : Place) (x : ℕ) → slice_get lines k ≡ Some line → InLine line w s p x → s < j
+  pub real : (k : ℕ) (line : Line) (w : Bool) (s : ℕ) (p : Place) (x : ℕ) → slice_get lines k ≡ Some line → InLine line w s p x → IsReal steps s p x w
 
--- an entry that writes, or only reads, is an access of its step
-pub record IsAccess (steps : List Access) (writes : Bool) (e : Entry) : Type 0 where
-  pub real : (w : Bool) → (w ≡ true → writes ≡ true) → IsReal steps w e
-
--- the span is one that the step writes, or reads
-pub record IsSpanOf (steps : List Access) (step : ℕ) (span : Span) (writes : Bool) : Type 0 where
-  pub access : Access
-  pub at : slice_get steps step ≡ Some access
-  pub touches : (p : Place) (x : ℕ) (w : Bool) → covers span p x ≡ true → (w ≡ true → writes ≡ true) → Touch access p x w
+-- each access by each of the first j steps has a kept step that stands for it, and no step is kept for nothing
+pub record Shows (Before : ℕ → ℕ → Type 0) (steps : List Access) (lines : List Line) (j : ℕ) : Type 0 where
+  pub kept : (i : ℕ) (a : Access) (p : Place) (x : ℕ) (w : Bool) → i < j → slice_get steps i ≡ Some a → Touch a p x w → Kept Before lines i p x w
+  pub real : AreReal steps lines j
 
 -- some earlier step races with the step at j
 pub record HasRace (Before : ℕ → ℕ → Type 0) (steps : List Access) (j : ℕ) : Type 0 where
   pub first : ℕ
   pub race : RaceBy Before steps first j
 
--- each access by each of the first j steps has a kept entry that stands for it, and no entry is kept for nothing
-pub record Shows (Before : ℕ → ℕ → Type 0) (steps : List Access) (lines : List Line) (j : ℕ) : Type 0 where
-  pub kept : (i : ℕ) (a : Access) (p : Place) (x : ℕ) (w : Bool) → i < j → slice_get steps i ≡ Some a → Touch a p x w → Kept Before lines i p x w
-  pub real : AreReal steps lines j
+-- ---- visits
 
--- whether some earlier step races with the step at j
-abbrev pub RaceTells : (ℕ → ℕ → Type 0) → List Access → ℕ → Bool → Type 0
-RaceTells Before steps j true = HasRace Before steps j
-RaceTells Before steps j false = (i : ℕ) → RaceBy Before steps i j → ⊥
+-- an entry that writes, or only reads, is an access of its step
+abbrev pub IsAccess : List Access → Entry → Bool → Type 0
+IsAccess steps e writes = (p : Place) (x : ℕ) (w : Bool) → Holds e p x → (w ≡ true → writes ≡ true) → IsReal steps e.step p x w
+
+-- the entry, whose bytes are in the line, was taken in, and nothing raced with it
+pub record TakesEntry (Before : ℕ → ℕ → Type 0) (before after : List Line) (entry : Entry) (writes : Bool) (line : ℕ) : Type 0 where
+  pub keeps : KeepsAll Before before after
+  pub own : (p : Place) (x : ℕ) → Holds entry p x → x / 128 ≡ line → Kept Before after entry.step p x writes
+  pub real : (steps : List Access) → IsAccess steps entry writes → AreReal steps before (entry.step + 1) → AreReal steps after (entry.step + 1)
+  pub clear : (i : ℕ) (p : Place) (x : ℕ) (w : Bool) → Kept Before before i p x w → Holds entry p x → x / 128 ≡ line → (w ≡ true) ⊎ (writes ≡ true) → IsSafe Before i entry.step
+
+-- whether something raced with it, of which the lists may be left in any state
+abbrev pub EntryTells : (ℕ → ℕ → Type 0) → List Line → List Line → Entry → Bool → ℕ → Bool → Type 0
+EntryTells Before before after entry writes line true = (steps : List Access) → IsAccess steps entry writes → AreReal steps before (entry.step + 1) → HasRace Before steps entry.step
+EntryTells Before before after entry writes line false = TakesEntry Before before after entry writes line
+
+-- the same of a span
+abbrev pub IsSpanOf : List Access → ℕ → Span → Bool → Type 0
+IsSpanOf steps step span writes = (p : Place) (x : ℕ) (w : Bool) → covers span p x ≡ true → (w ≡ true → writes ≡ true) → IsReal steps step p x w
+
+pub record TakesSpan (Before : ℕ → ℕ → Type 0) (before after : List Line) (span : Span) (step : ℕ) (writes : Bool) : Type 0 where
+  pub keeps : KeepsAll Before before after
+  pub own : (p : Place) (x : ℕ) → covers span p x ≡ true → Kept Before after step p x writes
+  pub real : (steps : List Access) → IsSpanOf steps step span writes → AreReal steps before (step + 1) → AreReal steps after (step + 1)
+  pub clear : (i : ℕ) (p : Place) (x : ℕ) (w : Bool) → Kept Before before i p x w → covers span p x ≡ true → (w ≡ true) ⊎ (writes ≡ true) → IsSafe Before i step
+
+abbrev pub SpanTells : (ℕ → ℕ → Type 0) → List Line → List Line → Span → ℕ → Bool → Bool → Type 0
+SpanTells Before before after span step writes true = (steps : List Access) → IsSpanOf steps step span writes → AreReal steps before (step + 1) → HasRace Before steps step
+SpanTells Before before after span step writes false = TakesSpan Before before after span step writes
+
+-- and of a whole step of a run, which has this access
+pub record TakesStep (Before : ℕ → ℕ → Type 0) (before after : List Line) (access : Access) (step : ℕ) : Type 0 where
+  pub shows : (steps : List Access) → slice_get steps step ≡ Some access → Shows Before steps before step → Shows Before steps after (step + 1)
+  pub none : (steps : List Access) → slice_get steps step ≡ Some access → Shows Before steps before step → (i : ℕ) → RaceBy Before steps i step → ⊥
+
+abbrev pub StepTells : (ℕ → ℕ → Type 0) → List Line → List Line → Access → ℕ → Bool → Type 0
+StepTells Before before after access step true = (steps : List Access) → slice_get steps step ≡ Some access → Shows Before steps before step → HasRace Before steps step
+StepTells Before before after access step false = TakesStep Before before after access step

@@ -6,12 +6,12 @@
 
 mod access;
 mod check;
+mod crowd;
+mod crowds;
 mod entry;
 mod error;
 mod line;
-mod list;
 mod shadow;
-mod sift;
 mod walk;
 
 pub use check::{Verdict, check_races};

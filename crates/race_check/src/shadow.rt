@@ -1,14 +1,13 @@
 //! What is kept of the accesses of a run, by lines of 128 bytes.
 
-ghost use Rattle.std.specs.Prelude.{◌≡◌, ℕ, ◌+◌, ◌/◌, ◌^◌, ◌<◌, ◌⊎◌, Bool, true, false, List, [], Some, length, slice_get, IfOk, OnOk};
+ghost use Rattle.std.specs.Prelude.{◌≡◌, ℕ, ◌/◌, ◌^◌, ◌<◌, true, [], Some, length, slice_get, IfOk};
 ghost use Rattle.cell_machine.specs.declared.effect.Place.{Place};
-ghost use Rattle.race_check.specs.declared.access.Access.{Access};
 ghost use Rattle.cell_machine.specs.Sound.{covers};
-ghost use Rattle.race_check.specs.declared.line.Line.{Line};
+ghost use Rattle.race_check.specs.declared.line.Line.{Line as ALine};
 ghost use Rattle.race_order.specs.OrderedRuns.{IsOrdered};
 ghost use Rattle.race_check.specs.Walks.{IsAt};
-ghost use Rattle.race_check.specs.Kept.{Holds, IsSafe};
-ghost use Rattle.race_check.specs.Shows.{AreReal, HasRace, IsAccess, IsSpanOf, Kept, KeepsAll, RaceTells, Shows, slot_of};
+ghost use Rattle.race_check.specs.Entries.{Holds};
+ghost use Rattle.race_check.specs.Shows.{EntryTells, SpanTells, StepTells, slot_of};
 
 use crate::access::Access;
 use crate::entry::Entry;
@@ -51,11 +50,10 @@ fn clip(span: &Span, line: u64, step: u32) -> Entry
     }
 }
 
-/// Takes the entry, whose bytes are in the line, into its list, and says whether it clashes with an
-/// earlier one.
+/// Takes the entry, whose bytes are in the line, into its list, or says that something races with it.
 fn visit_line(
     lines: &mut [Line],
-    spare: &mut Vec<Entry>,
+    alloc: Global,
     entry: &Entry,
     writes: bool,
     line: u64,
@@ -64,23 +62,17 @@ fn visit_line(
     requires some { 0 < length lines.old }
     requires line { line < 2 ^ 40 }
     requires last { IsAt walk.now entry.now.step }
-    ensures keeps { OnOk result (KeepsAll (IsOrdered walk.now.machine) lines.old lines.new) }
-    ensures own { OnOk result ((p : Place) (x : ℕ) → Holds entry.now p x → x / 128 ≡ line → Kept (IsOrdered walk.now.machine) lines.new entry.now.step p x writes) }
-    ensures real { OnOk result ((steps : List Access) → IsAccess steps writes entry.now → AreReal steps lines.old (entry.now.step + 1) → AreReal steps lines.new (entry.now.step + 1)) }
-    ensures clear { IfOk result (λ open'. open' ≡ false → ((i : ℕ) (p : Place) (x : ℕ) (w : Bool) → Kept (IsOrdered walk.now.machine) lines.old i p x w → Holds entry.now p x → x / 128 ≡ line →
-        (w ≡ true) ⊎ (writes ≡ true) → IsSafe (IsOrdered walk.now.machine) i entry.now.step)) }
-    ensures found { IfOk result (λ open'. open' ≡ true → ((steps : List Access) → IsAccess steps writes entry.now → AreReal steps lines.old (entry.now.step + 1) → HasRace (IsOrdered walk.now.machine) steps entry.now.step)) }
+    ensures { IfOk result (EntryTells (IsOrdered walk.now.machine) lines.old lines.new entry.now writes line) }
 {
     let at = slot(lines.len(), entry.place, line);
-    let clashes = lines[at].visit(spare, entry, writes, walk)?;
-    Ok(clashes)
+    let races = lines[at].visit(alloc, entry, writes, walk)?;
+    Ok(races)
 }
 
-/// Takes the bytes of the span, which the step reads or writes, into the lists, and says whether
-/// they clash with an earlier access.
+/// Takes the bytes of the span, which the step at `step` reads or writes, into the lists, or says that something races with them.
 fn visit_span(
     lines: &mut [Line],
-    spare: &mut Vec<Entry>,
+    alloc: Global,
     span: &Span,
     writes: bool,
     step: u32,
@@ -88,78 +80,70 @@ fn visit_span(
 ) -> Result<bool, RaceError>
     requires some { 0 < length lines.old }
     requires last { IsAt walk.now step }
-    ensures keeps { OnOk result (KeepsAll (IsOrdered walk.now.machine) lines.old lines.new) }
-    ensures own { OnOk result ((p : Place) (x : ℕ) → covers span.now p x ≡ true → Kept (IsOrdered walk.now.machine) lines.new step p x writes) }
-    ensures real { OnOk result ((steps : List Access) → IsSpanOf steps step span.now writes → AreReal steps lines.old (step + 1) → AreReal steps lines.new (step + 1)) }
-    ensures clear { IfOk result (λ open'. open' ≡ false → ((i : ℕ) (p : Place) (x : ℕ) (w : Bool) → Kept (IsOrdered walk.now.machine) lines.old i p x w → covers span.now p x ≡ true →
-        (w ≡ true) ⊎ (writes ≡ true) → IsSafe (IsOrdered walk.now.machine) i step)) }
-    ensures found { IfOk result (λ open'. open' ≡ true → ((steps : List Access) → IsSpanOf steps step span.now writes → AreReal steps lines.old (step + 1) → HasRace (IsOrdered walk.now.machine) steps step)) }
+    ensures { IfOk result (SpanTells (IsOrdered walk.now.machine) lines.old lines.new span.now step writes) }
 {
-    let mut open = false;
-    if span.len > 0 {
-        let first = u64::from(span.at) / 128;
-        let end = (u64::from(span.at) + u64::from(span.len) + 127) / 128;
-        for line in first..end {
-            let entry = clip(span, line, step);
-            let clashes = visit_line(lines, spare, &entry, writes, line, walk)?;
-            open = open | clashes;
+    // a span of no byte is at 0, and so in no line
+    let first = u64::from(span.at) / 128;
+    let end = (u64::from(span.at) + u64::from(span.len) + 127) / 128;
+    for line in first..end {
+        let entry = clip(span, line, step);
+        if visit_line(lines, alloc, &entry, writes, line, walk)? {
+            return Ok(true);
         }
     }
-    Ok(open)
+    Ok(false)
 }
 
-/// Takes what the step at `step` fetches, reads and writes into the lists, and says whether an
-/// earlier step races with it.
+/// Takes what the step at `step` fetches, reads and writes into the lists, or says that an earlier step races with it.
 fn visit_access(
     lines: &mut [Line],
-    spare: &mut Vec<Entry>,
+    alloc: Global,
     access: &Access,
     step: u32,
     walk: &Walk,
 ) -> Result<bool, RaceError>
     requires some { 0 < length lines.old }
     requires last { IsAt walk.now step }
-    ensures shows { OnOk result ((steps : List Access) → slice_get steps step ≡ Some access.now → Shows (IsOrdered walk.now.machine) steps lines.old step → Shows (IsOrdered walk.now.machine) steps lines.new (step + 1)) }
-    ensures tells { IfOk result (λ races. (steps : List Access) → slice_get steps step ≡ Some access.now → Shows (IsOrdered walk.now.machine) steps lines.old step → RaceTells (IsOrdered walk.now.machine) steps step races) }
+    ensures { IfOk result (StepTells (IsOrdered walk.now.machine) lines.old lines.new access.now step) }
 {
-    let fetch = visit_span(lines, spare, &access.fetch, false, step, walk)?;
-    let reads = visit_span(lines, spare, &access.reads, false, step, walk)?;
-    let writes = visit_span(lines, spare, &access.writes, true, step, walk)?;
-    Ok(fetch | reads | writes)
+    if visit_span(lines, alloc, &access.fetch, false, step, walk)? {
+        return Ok(true);
+    }
+    if visit_span(lines, alloc, &access.reads, false, step, walk)? {
+        return Ok(true);
+    }
+    let races = visit_span(lines, alloc, &access.writes, true, step, walk)?;
+    Ok(races)
 }
 
 /// What is kept of the accesses of a run so far.
 #[derive(Drop)]
 pub struct Shadow {
+    alloc: Global,
     lines: Vec<Line>,
-    spare: Vec<Entry>,
     ghost some: { 0 < length lines.items },
 }
 
 impl Shadow {
     /// The shadow of no step, with main memory of `memory` lines.
     pub fn new(alloc: Global, memory: u32) -> Result<Shadow, RaceError>
-        ensures { IfOk result (λ shadow. (k : ℕ) (line : Line) → slice_get shadow.lines.items k ≡ Some line → (line.writes.items ≡ []) × (line.reads.items ≡ [])) }
+        ensures { IfOk result (λ shadow. (k : ℕ) (line : ALine) → slice_get shadow.lines.items k ≡ Some line → (line.writes.items ≡ []) × (line.reads.items ≡ [])) }
     {
         let mut lines = Vec::new(alloc);
         for _ in 0..32768 + u64::from(memory) {
             lines.push(Line::new(alloc))?;
         }
-        Ok(Shadow {
-            lines,
-            spare: Vec::new(alloc),
-        })
+        Ok(Shadow { alloc, lines })
     }
 
-    /// Takes what the step at `step` fetches, reads and writes into the shadow, and says whether
-    /// an earlier step races with it.
+    /// Takes what the step at `step` fetches, reads and writes into the shadow, or says that an earlier step races with it.
+    /// Then it is only dropped.
     pub fn visit(&mut self, access: &Access, step: u32, walk: &Walk) -> Result<bool, RaceError>
         requires { IsAt walk.now step }
-        ensures shows { OnOk result ((steps : List Access) → slice_get steps step ≡ Some access.now → Shows (IsOrdered walk.now.machine) steps self.old.lines.items step → Shows (IsOrdered walk.now.machine) steps self.new.lines.items (step + 1)) }
-        ensures tells { IfOk result (λ races. (steps : List Access) → slice_get steps step ≡ Some access.now → Shows (IsOrdered walk.now.machine) steps self.old.lines.items step → RaceTells (IsOrdered walk.now.machine) steps step races) }
+        ensures { IfOk result (StepTells (IsOrdered walk.now.machine) self.old.lines.items self.new.lines.items access.now step) }
     {
         let lines = self.lines.as_mut_slice();
-        let races = visit_access(lines, &mut self.spare, access, step, walk)?;
+        let races = visit_access(lines, self.alloc, access, step, walk)?;
         Ok(races)
     }
 }

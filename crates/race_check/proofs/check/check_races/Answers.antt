@@ -6,7 +6,7 @@ use Rattle.cell_machine.specs.Opening.{Opening}
 use Rattle.cell_machine.specs.Run.{Ran}
 use Rattle.race_order.specs.OrderedRuns.{IsOrdered}
 use Rattle.race_check.specs.Races.{accesses_in, RaceBy}
-use Rattle.race_check.specs.Shows.{HasRace, RaceTells}
+use Rattle.race_check.specs.Shows.{HasRace, Shows, StepTells}
 use Rattle.race_check.proofs.Accepted.{every-reordering-agrees, none-of-all}
 use Rattle.race_check.proofs.Checks.{least_made, none_made, shows_made, shows_none, shows_whole}
 use Rattle.race_check.proofs.Prefixes.{accesses_in-first, first_of, made-access, made-first, may-make, run-told, Made}
@@ -31,10 +31,9 @@ at c = made-access c.args.m.now c.loop-j.j _ _ _ _ (run-told c.args.m.now c.step
 kept : (c : In_ok-visit) → c.push.new.self.items ≡ accesses_in c.advance.new.self.machine
 kept c = c.in_ok-push.ensures.items ∙ ap (λ accesses. accesses ++ c.in_ok-access.access ∷ []) c.loop-j.invariant.accesses ∙ sym c.in_ok-access.ensures.access
 
-tells : (c : In_ok-visit) → RaceTells (IsOrdered c.advance.new.self.machine) (accesses_in c.advance.new.self.machine) c.loop-j.j c.in_ok-visit.field-0
-tells c =
-    c.in_ok-visit.ensures.tells (accesses_in c.advance.new.self.machine) (at c)
-    (shows_made c.args.m.now (run-told c.args.m.now c.steps-steps.ensures.run) c.loop-j.j c.advance.new.self.machine (first c) c.loop-j.shadow.lines.items c.loop-j.invariant.shows)
+shown : (c : In_ok-visit) → Shows (IsOrdered c.advance.new.self.machine) (accesses_in c.advance.new.self.machine) c.loop-j.shadow.lines.items c.loop-j.j
+shown c =
+    shows_made c.args.m.now (run-told c.args.m.now c.steps-steps.ensures.run) c.loop-j.j c.advance.new.self.machine (first c) c.loop-j.shadow.lines.items c.loop-j.invariant.shows
 
 pub new-requires : goal.new-requires
 new-requires c = subst (λ (setup : Opening). 0 < length setup.entries) (sym c.setup-setup.ensures.setup) c.setup-setup.ensures.some
@@ -65,8 +64,9 @@ first_race-requires-clause-inside c =
 pub first_race-requires-clause-some : goal.first_race-requires-clause-some
 first_race-requires-clause-some c =
     let v = (goal.at.first_race-requires-clause-some c).In_ok-visit in
+    let tells = subst (StepTells (IsOrdered c.advance.new.self.machine) c.loop-j.shadow.lines.items c.visit.new.self.lines.items c.in_ok-access.access c.loop-j.j) c.if-branch.true c.in_ok-visit.ensures in
     subst (λ accesses. HasRace (IsOrdered c.advance.new.self.machine) accesses c.loop-j.j) (sym (c.as_slice.ensures.value ∙ kept v))
-    (subst (RaceTells (IsOrdered c.advance.new.self.machine) (accesses_in c.advance.new.self.machine) c.loop-j.j) c.if-branch.true (tells v))
+    (tells (accesses_in c.advance.new.self.machine) (at v) (shown v))
 
 pub returns-then-branch-clause-verdict : goal.returns-then-branch-clause-verdict
 returns-then-branch-clause-verdict c =
@@ -80,14 +80,13 @@ pub loop-j-preserved : goal.loop-j-preserved
 loop-j-preserved c =
     let v = (goal.at.loop-j-preserved c).In_ok-visit in
     let told = run-told c.args.m.now c.steps-steps.ensures.run in
+    let tells = subst (StepTells (IsOrdered c.advance.new.self.machine) c.loop-j.shadow.lines.items c.visit.new.self.lines.items c.in_ok-access.access c.loop-j.j) c.if-branch.false c.in_ok-visit.ensures in
     record {
       made = first v;
       stands = c.in_ok-access.ensures.stands;
       accesses = kept v;
-      shows = shows_whole c.args.m.now told c.loop-j.j c.advance.new.self.machine (first v) c.visit.new.self.lines.items
-          (c.in_ok-visit.ensures.shows (accesses_in c.advance.new.self.machine) (at v) (shows_made c.args.m.now told c.loop-j.j c.advance.new.self.machine (first v) c.loop-j.shadow.lines.items c.loop-j.invariant.shows));
-      none = none_made c.args.m.now told c.loop-j.j c.advance.new.self.machine (first v) c.loop-j.invariant.none
-          (subst (RaceTells (IsOrdered c.advance.new.self.machine) (accesses_in c.advance.new.self.machine) c.loop-j.j) c.if-branch.false (tells v));
+      shows = shows_whole c.args.m.now told c.loop-j.j c.advance.new.self.machine (first v) c.visit.new.self.lines.items (tells.shows (accesses_in c.advance.new.self.machine) (at v) (shown v));
+      none = none_made c.args.m.now told c.loop-j.j c.advance.new.self.machine (first v) c.loop-j.invariant.none (tells.none (accesses_in c.advance.new.self.machine) (at v) (shown v));
     }
 
 pub returns-clause-verdict : goal.returns-clause-verdict

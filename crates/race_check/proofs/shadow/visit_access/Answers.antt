@@ -1,19 +1,29 @@
+use Rattle.std.proofs.Common.{subst, false}
 use Rattle.race_order.specs.OrderedRuns.{IsOrdered}
-use Rattle.race_check.proofs.Steps.{shows_next, step_tells}
+use Rattle.race_check.specs.Shows.{SpanTells}
+use Rattle.race_check.proofs.Steps.{fetch_races, reads_races, step_tells}
 use Rattle.race_check.proofs.shadow.visit_access.Goals as goal
 
-pub returns-clause-shows : goal.returns-clause-shows
-returns-clause-shows c steps at shows =
-    shows_next (IsOrdered c.args.walk.now.machine) c.args.lines.now c.visit_span.new.lines c.visit_span-2.new.lines c.visit_span-3.new.lines c.args.access.now c.args.step c.in_ok-fetch.fetch c.in_ok-reads.reads c.in_ok-writes.writes
-    record { keeps = c.in_ok-fetch.ensures.keeps; own = c.in_ok-fetch.ensures.own; real = c.in_ok-fetch.ensures.real; clear = c.in_ok-fetch.ensures.clear; found = c.in_ok-fetch.ensures.found }
-    record { keeps = c.in_ok-reads.ensures.keeps; own = c.in_ok-reads.ensures.own; real = c.in_ok-reads.ensures.real; clear = c.in_ok-reads.ensures.clear; found = c.in_ok-reads.ensures.found }
-    record { keeps = c.in_ok-writes.ensures.keeps; own = c.in_ok-writes.ensures.own; real = c.in_ok-writes.ensures.real; clear = c.in_ok-writes.ensures.clear; found = c.in_ok-writes.ensures.found }
-    steps at shows
+pub returns-then-branch : goal.returns-then-branch
+returns-then-branch c =
+    let before = IsOrdered c.args.walk.now.machine in
+    let a = c.args.access.now in
+    fetch_races before c.args.lines.now c.visit_span.new.lines c.args.lines.now a c.args.step
+    (subst (SpanTells before c.args.lines.now c.visit_span.new.lines a.fetch c.args.step false) c.if-branch.true c.in_ok-visit_span.ensures)
 
-pub returns-clause-tells : goal.returns-clause-tells
-returns-clause-tells c steps at shows =
-    step_tells (IsOrdered c.args.walk.now.machine) c.args.lines.now c.visit_span.new.lines c.visit_span-2.new.lines c.visit_span-3.new.lines c.args.access.now c.args.step c.in_ok-fetch.fetch c.in_ok-reads.reads c.in_ok-writes.writes
-    record { keeps = c.in_ok-fetch.ensures.keeps; own = c.in_ok-fetch.ensures.own; real = c.in_ok-fetch.ensures.real; clear = c.in_ok-fetch.ensures.clear; found = c.in_ok-fetch.ensures.found }
-    record { keeps = c.in_ok-reads.ensures.keeps; own = c.in_ok-reads.ensures.own; real = c.in_ok-reads.ensures.real; clear = c.in_ok-reads.ensures.clear; found = c.in_ok-reads.ensures.found }
-    record { keeps = c.in_ok-writes.ensures.keeps; own = c.in_ok-writes.ensures.own; real = c.in_ok-writes.ensures.real; clear = c.in_ok-writes.ensures.clear; found = c.in_ok-writes.ensures.found }
-    steps at shows
+pub returns-then-branch-2 : goal.returns-then-branch-2
+returns-then-branch-2 c =
+    let before = IsOrdered c.args.walk.now.machine in
+    let a = c.args.access.now in
+    reads_races before c.args.lines.now c.visit_span.new.lines c.visit_span-2.new.lines c.args.lines.now a c.args.step
+    (subst (SpanTells before c.args.lines.now c.visit_span.new.lines a.fetch c.args.step false) c.if-branch.false c.in_ok-visit_span.ensures)
+    (subst (SpanTells before c.visit_span.new.lines c.visit_span-2.new.lines a.reads c.args.step false) c.if-branch-2.true c.in_ok-visit_span-2.ensures)
+
+pub returns : goal.returns
+returns c =
+    let before = IsOrdered c.args.walk.now.machine in
+    let a = c.args.access.now in
+    step_tells before c.args.lines.now c.visit_span.new.lines c.visit_span-2.new.lines c.visit_span-3.new.lines a c.args.step
+    (subst (SpanTells before c.args.lines.now c.visit_span.new.lines a.fetch c.args.step false) c.if-branch.false c.in_ok-visit_span.ensures)
+    (subst (SpanTells before c.visit_span.new.lines c.visit_span-2.new.lines a.reads c.args.step false) c.if-branch-2.false c.in_ok-visit_span-2.ensures)
+    c.in_ok-races.races c.in_ok-races.ensures

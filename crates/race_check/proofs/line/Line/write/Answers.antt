@@ -1,9 +1,23 @@
+use Rattle.std.proofs.Common.{[], sym, subst, false}
 use Rattle.race_order.specs.OrderedRuns.{IsOrdered}
-use Rattle.race_check.proofs.LineVisits.{write_tells, written}
+use Rattle.race_check.specs.declared.line.Line.{Line}
+use Rattle.race_check.specs.Crowds.{HasClash, IsPut, Tells}
+use Rattle.race_check.proofs.CrowdLaws.{joined_behind, put_behind}
+use Rattle.race_check.proofs.LineVisits.{clash_with_reader, written}
 use Rattle.race_check.proofs.line.Line.write.Goals as goal
 
-pub returns-clause-visited : goal.returns-clause-visited
-returns-clause-visited c = written (IsOrdered c.args.walk.now.machine) c.args.new.now c.args.self.now _ _ c.in_ok-first.ensures.renewed c.in_ok-push.ensures.items c.in_ok-second.ensures.renewed
+pub returns-then-any_clashes-2 : goal.returns-then-any_clashes-2
+returns-then-any_clashes-2 c =
+    let before = IsOrdered c.args.walk.now.machine in
+    clash_with_reader before c.args.new.now c.args.self.now c.args.self.now (subst (HasClash before c.args.new.now) c.as_slice-2.ensures.value c.if-any_clashes-2.ensures)
 
-pub returns-clause-tells : goal.returns-clause-tells
-returns-clause-tells c = write_tells (IsOrdered c.args.walk.now.machine) c.args.new.now c.args.self.now c.in_ok-first.first c.in_ok-second.second c.in_ok-first.ensures.tells c.in_ok-second.ensures.tells
+pub returns : goal.returns
+returns c =
+    let before = IsOrdered c.args.walk.now.machine in
+    let after : Line = record { writes = c.push.new.self; reads = c.trim.new.crowds } in
+    written before c.args.new.now c.args.self.now after c.trim-2.new.crowds.items
+    (subst (λ crowds. Tells before c.args.new.now crowds false) c.as_slice.ensures.value c.if-any_clashes.ensures)
+    (subst (λ crowds. Tells before c.args.new.now crowds false) c.as_slice-2.ensures.value c.if-any_clashes-2.ensures)
+    c.in_ok-trim.ensures c.in_ok-trim-2.ensures
+    (joined_behind before c.args.new.now c.trim-2.new.crowds.items c.push.new.self.items
+    (subst (IsPut c.args.new.now [] c.trim-2.new.crowds.items) (sym c.in_ok-push.ensures.items) (put_behind c.trim-2.new.crowds.items c.of.result c.args.new.now [] c.of.ensures.entry c.of.ensures.others)))

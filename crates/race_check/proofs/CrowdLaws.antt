@@ -1,0 +1,350 @@
+-- Lists of crowds of which one changes, comes or goes.
+use Rattle.std.proofs.Common.{◌≡◌, ℕ, zero, suc, ◌+◌, ◌≤◌, ◌<◌, true, false, List, [], ◌∷◌, ◌++◌, length, get_or, set, take, drop, ◌⊎◌, inl, inr, refl, sym, ap, ◌∙◌, subst, arith, length-set, get_or-set_other}
+use Rattle.std.specs.Prelude.{◌↔◌, All, Contains, Option, Some, None}
+use Rattle.std.specs.List.{swap_remove}
+use Rattle.std.proofs.lemmas.Bool.{cases_eq, cases_lt}
+use Rattle.std.proofs.lemmas.Grind.{get_or-set_at}
+use Rattle.std.proofs.lemmas.List.{get_or_default, take_all, take_more}
+use Rattle.std.proofs.lemmas.List.Elements.{All-contains, Contains-append_cases, Contains-append_left, Contains-append_right, Contains-get_or, Contains-push, Contains-push_cases}
+use Rattle.std.proofs.lemmas.List.Sorted.{Contains-permutation, IsPermutation-swap_remove, IsPermutation-sym}
+use Rattle.cell_machine.specs.declared.effect.Place.{Place}
+use Rattle.cell_machine.proofs.AllTwo.{whole}
+use Rattle.race_check.specs.declared.entry.Entry.{Entry}
+use Rattle.race_check.specs.declared.crowd.Crowd.{Crowd}
+use Rattle.race_check.specs.Entries.{HasSameBytes, Holds, IsCut}
+use Rattle.race_check.specs.Crowds.{CrowdTells, Has, HasClash, HasStep, IsCutPut, IsJoined, IsPut, IsReplaced, IsSafe, IsTaken, IsTrimmed, Tells}
+
+-- ---- a list with another element at i
+
+module _ {X : Type 0} (xs : List X) (i : ℕ) (old new : X) (low : i < length xs) (at : get_or xs i old ≡ old) where
+  set_same : Contains (set xs i new) new
+  set_same = (i, omega (arith, length-set xs i new), get_or-set_at xs i i new new refl low)
+
+  set_kept : (y : X) → Contains xs y → (y ≡ old) ⊎ Contains (set xs i new) y
+  set_kept y has = by (cases_eq has.0 i)
+    where
+      by : (has.0 ≡ i) ⊎ (has.0 ≡ i → ⊥) → (y ≡ old) ⊎ Contains (set xs i new) y
+      by (inl e) = inl (sym has.2 ∙ ap (λ k. get_or xs k y) e ∙ get_or_default xs i y old low ∙ at)
+      by (inr ne) = inr (has.0, omega (arith, has.1, length-set xs i new), get_or-set_other xs i has.0 new y ne ∙ has.2)
+
+  set_rest : (y : X) → Contains (set xs i new) y → (y ≡ new) ⊎ Contains xs y
+  set_rest y has = by (cases_eq has.0 i)
+    where
+      by : (has.0 ≡ i) ⊎ (has.0 ≡ i → ⊥) → (y ≡ new) ⊎ Contains xs y
+      by (inl e) = inl (sym has.2 ∙ get_or-set_at xs i has.0 new y e low)
+      by (inr ne) = inr (has.0, omega (arith, has.1, length-set xs i new), sym (get_or-set_other xs i has.0 new y ne) ∙ has.2)
+
+-- a step in the place of one that is safe
+pub replaced : (Before : ℕ → ℕ → Type 0) (last : ℕ) (steps : List ℕ) (k : ℕ) (old : ℕ) → k < length steps → get_or steps k old ≡ old → IsSafe Before old last → IsReplaced Before last steps (set steps k last)
+replaced Before last steps k old low at safe = record { left = λ s has. left s (set_kept steps k old last low at s has); own = set_same steps k old last low at; rest = λ s has. rest s (set_rest steps k old last low at s has) }
+  where
+    left : (s : ℕ) → (s ≡ old) ⊎ Contains (set steps k last) s → Contains (set steps k last) s ⊎ IsSafe Before s last
+    left s (inl e) = inr (subst (λ t. IsSafe Before t last) (sym e) safe)
+    left s (inr has) = inl has
+
+    rest : (s : ℕ) → (s ≡ last) ⊎ Contains steps s → Contains steps s ⊎ (s ≡ last)
+    rest s (inl e) = inr e
+    rest s (inr has) = inl has
+
+-- of the first i steps each is safe, and so is the next
+pub safe_all : (Before : ℕ → ℕ → Type 0) (last : ℕ) (steps : List ℕ) (i : ℕ) → length steps ≤ i → All (λ s. IsSafe Before s last) (take i steps) → (s : ℕ) → Contains steps s → IsSafe Before s last
+safe_all Before last steps i far all s has =
+    All-contains (λ s. IsSafe Before s last) steps s (subst (All (λ s. IsSafe Before s last)) (take_all i steps far) all) has
+
+-- more steps were added to a crowd
+pub added_steps : (old new : Crowd) (step : ℕ) (others : List ℕ) → new.entry ≡ old.entry → new.others.items ≡ old.others.items ++ step ∷ [] ++ others → (s : ℕ) → HasStep new s ↔ (HasStep old s ⊎ ((s ≡ step) ⊎ Contains others s))
+added_steps old new step others entry items s = (to, from)
+  where
+    parts : Contains (old.others.items ++ step ∷ []) s ⊎ Contains others s → HasStep old s ⊎ ((s ≡ step) ⊎ Contains others s)
+    parts (inr c) = inr (inr c)
+    parts (inl c) = by (Contains-push_cases old.others.items step s c)
+      where
+        by : Contains old.others.items s ⊎ (step ≡ s) → HasStep old s ⊎ ((s ≡ step) ⊎ Contains others s)
+        by (inl was) = inl (inr was)
+        by (inr e) = inr (inl (sym e))
+
+    to : HasStep new s → HasStep old s ⊎ ((s ≡ step) ⊎ Contains others s)
+    to (inl e) = inl (inl (e ∙ ap (λ (f : Entry). f.step) entry))
+    to (inr c) = parts (Contains-append_cases (old.others.items ++ step ∷ []) others s (subst (λ xs. Contains xs s) items c))
+
+    back : Contains (old.others.items ++ step ∷ [] ++ others) s → HasStep new s
+    back c = inr (subst (λ xs. Contains xs s) (sym items) c)
+
+    from : HasStep old s ⊎ ((s ≡ step) ⊎ Contains others s) → HasStep new s
+    from (inl (inl e)) = inl (e ∙ ap (λ (f : Entry). f.step) (sym entry))
+    from (inl (inr c)) = back (Contains-append_left (old.others.items ++ step ∷ []) others s (Contains-append_left old.others.items (step ∷ []) s c))
+    from (inr (inl e)) = back (Contains-append_left (old.others.items ++ step ∷ []) others s (subst (Contains (old.others.items ++ step ∷ [])) (sym e) (Contains-push old.others.items step)))
+    from (inr (inr c)) = back (Contains-append_right (old.others.items ++ step ∷ []) others s c)
+
+-- the last step took the place of the entry's, of another, or came behind
+pub taken_first : (Before : ℕ → ℕ → Type 0) (last : ℕ) (old new : Crowd) → new.entry.step ≡ last → new.others ≡ old.others → IsSafe Before old.entry.step last → IsTaken Before last old new
+taken_first Before last old new is same safe = record { left = λ s has. left s has; own = inl (sym is); rest = λ s has. rest s has }
+  where
+    left : (s : ℕ) → HasStep old s → HasStep new s ⊎ IsSafe Before s last
+    left s (inl e) = inr (subst (λ t. IsSafe Before t last) (sym e) safe)
+    left s (inr c) = inl (inr (rw same c))
+
+    rest : (s : ℕ) → HasStep new s → HasStep old s ⊎ (s ≡ last)
+    rest s (inl e) = inr (e ∙ is)
+    rest s (inr c) = inl (inr (subst (λ v. Contains v.items s) same c))
+
+pub taken_other : (Before : ℕ → ℕ → Type 0) (last : ℕ) (old new : Crowd) → new.entry ≡ old.entry → IsReplaced Before last old.others.items new.others.items → IsTaken Before last old new
+taken_other Before last old new same others = record { left = λ s has. left s has; own = inr others.own; rest = λ s has. rest s has }
+  where
+    left : (s : ℕ) → HasStep old s → HasStep new s ⊎ IsSafe Before s last
+    left s (inl e) = inl (inl (e ∙ ap (λ (f : Entry). f.step) (sym same)))
+    left s (inr c) = by (others.left s c)
+      where
+        by : Contains new.others.items s ⊎ IsSafe Before s last → HasStep new s ⊎ IsSafe Before s last
+        by (inl more) = inl (inr more)
+        by (inr safe) = inr safe
+
+    rest : (s : ℕ) → HasStep new s → HasStep old s ⊎ (s ≡ last)
+    rest s (inl e) = inl (inl (e ∙ ap (λ (f : Entry). f.step) same))
+    rest s (inr c) = by (others.rest s c)
+      where
+        by : Contains old.others.items s ⊎ (s ≡ last) → HasStep old s ⊎ (s ≡ last)
+        by (inl was) = inl (inr was)
+        by (inr is) = inr is
+
+pub taken_behind : (Before : ℕ → ℕ → Type 0) (last : ℕ) (old new : Crowd) → new.entry ≡ old.entry → new.others.items ≡ old.others.items ++ last ∷ [] → IsTaken Before last old new
+taken_behind Before last old new same items =
+    taken_other Before last old new same
+    record {
+      left = λ s c. inl (subst (λ xs. Contains xs s) (sym items) (Contains-append_left old.others.items (last ∷ []) s c));
+      own = subst (λ xs. Contains xs last) (sym items) (Contains-push old.others.items last);
+      rest = λ s c. rest s (Contains-push_cases old.others.items last s (subst (λ xs. Contains xs s) items c));
+    }
+  where
+    rest : (s : ℕ) → Contains old.others.items s ⊎ (last ≡ s) → Contains old.others.items s ⊎ (s ≡ last)
+    rest s (inl was) = inl was
+    rest s (inr e) = inr (sym e)
+
+pub same_holds : (e f : Entry) (p : Place) (x : ℕ) → HasSameBytes e f → Holds e p x → Holds f p x
+same_holds e f p x same h =
+    let from = same.from in
+    let to = same.to in
+    let above = h.from in
+    let below = h.to in
+    record { place = sym same.place ∙ h.place; from = omega arith; to = omega arith }
+
+pub same_back : (e f : Entry) → HasSameBytes e f → HasSameBytes f e
+same_back e f same = record { place = sym same.place; from = sym same.from; to = sym same.to }
+
+-- ---- a list of crowds with another crowd of the same bytes at i
+
+-- a slice of a vector that is handed on comes back as this
+pub handed_back : (n i : ℕ) (xs ys : List Crowd) (new : Crowd) → n ≡ length xs → ys ≡ xs → take n (set ys i new ++ drop (length (set ys i new)) xs) ≡ set xs i new
+handed_back n i xs ys new long same = whole n (set ys i new) xs (long ∙ ap length (sym same) ∙ sym (length-set ys i new)) ∙ ap (λ zs. set zs i new) same
+
+module _ (crowds : List Crowd) (i : ℕ) (old new : Crowd) (low : i < length crowds) (at : get_or crowds i old ≡ old) (same : HasSameBytes new.entry old.entry) where
+  pub has_new : (s : ℕ) (p : Place) (x : ℕ) → HasStep new s → Holds old.entry p x → Has (set crowds i new) s p x
+  has_new s p x step h = record { crowd = new; inside = set_same crowds i old new low at; step = step; there = same_holds old.entry new.entry p x (same_back new.entry old.entry same) h }
+
+  pub has_kept : (s : ℕ) (p : Place) (x : ℕ) → Has crowds s p x → (HasStep old s × Holds old.entry p x) ⊎ Has (set crowds i new) s p x
+  has_kept s p x has = by (set_kept crowds i old new low at has.crowd has.inside)
+    where
+      by : (has.crowd ≡ old) ⊎ Contains (set crowds i new) has.crowd → (HasStep old s × Holds old.entry p x) ⊎ Has (set crowds i new) s p x
+      by (inl e) = inl (subst (λ c. HasStep c s) e has.step, subst (λ (c : Crowd). Holds c.entry p x) e has.there)
+      by (inr inside) = inr record { crowd = has.crowd; inside = inside; step = has.step; there = has.there }
+
+  pub has_rest : (s : ℕ) (p : Place) (x : ℕ) → Has (set crowds i new) s p x → (HasStep new s × Holds old.entry p x) ⊎ Has crowds s p x
+  has_rest s p x has = by (set_rest crowds i old new low at has.crowd has.inside)
+    where
+      by : (has.crowd ≡ new) ⊎ Contains crowds has.crowd → (HasStep new s × Holds old.entry p x) ⊎ Has crowds s p x
+      by (inl e) = inl (subst (λ c. HasStep c s) e has.step, same_holds new.entry old.entry p x same (subst (λ (c : Crowd). Holds c.entry p x) e has.there))
+      by (inr inside) = inr record { crowd = has.crowd; inside = inside; step = has.step; there = has.there }
+
+  -- the last step was taken into it
+  pub joined_at : (Before : ℕ → ℕ → Type 0) (entry : Entry) → HasSameBytes old.entry entry → IsTaken Before entry.step old new → IsJoined Before entry crowds (set crowds i new)
+  joined_at Before entry bytes taken = record {
+    left = λ s p x has. left s p x (has_kept s p x has);
+    own = λ p x h. has_new entry.step p x taken.own (same_holds entry old.entry p x (same_back old.entry entry bytes) h);
+    rest = λ s p x has. rest s p x (has_rest s p x has);
+  }
+    where
+      left : (s : ℕ) (p : Place) (x : ℕ) → (HasStep old s × Holds old.entry p x) ⊎ Has (set crowds i new) s p x → Has (set crowds i new) s p x ⊎ (Holds entry p x × IsSafe Before s entry.step)
+      left s p x (inr has) = inl has
+      left s p x (inl (step, h)) = by (taken.left s step)
+        where
+          by : HasStep new s ⊎ IsSafe Before s entry.step → Has (set crowds i new) s p x ⊎ (Holds entry p x × IsSafe Before s entry.step)
+          by (inl more) = inl (has_new s p x more h)
+          by (inr safe) = inr (same_holds old.entry entry p x bytes h, safe)
+
+      rest : (s : ℕ) (p : Place) (x : ℕ) → (HasStep new s × Holds old.entry p x) ⊎ Has crowds s p x → Has crowds s p x ⊎ (Holds entry p x × (s ≡ entry.step))
+      rest s p x (inr has) = inl has
+      rest s p x (inl (step, h)) = by (taken.rest s step)
+        where
+          by : HasStep old s ⊎ (s ≡ entry.step) → Has crowds s p x ⊎ (Holds entry p x × (s ≡ entry.step))
+          by (inl before) = inl record { crowd = old; inside = subst (Contains crowds) at (Contains-get_or crowds i old low); step = before; there = h }
+          by (inr is) = inr (same_holds old.entry entry p x bytes h, is)
+
+  -- these steps were added to it
+  pub put_at : (entry : Entry) (others : List ℕ) → HasSameBytes old.entry entry → ((s : ℕ) → HasStep new s ↔ (HasStep old s ⊎ ((s ≡ entry.step) ⊎ Contains others s))) → IsPut entry others crowds (set crowds i new)
+  put_at entry others bytes steps = record {
+    left = λ s p x has. left s p x (has_kept s p x has);
+    own = λ s p x step h. has_new s p x ((steps s).1 (inr step)) (same_holds entry old.entry p x (same_back old.entry entry bytes) h);
+    rest = λ s p x has. rest s p x (has_rest s p x has);
+  }
+    where
+      left : (s : ℕ) (p : Place) (x : ℕ) → (HasStep old s × Holds old.entry p x) ⊎ Has (set crowds i new) s p x → Has (set crowds i new) s p x
+      left s p x (inr has) = has
+      left s p x (inl (step, h)) = has_new s p x ((steps s).1 (inl step)) h
+
+      rest : (s : ℕ) (p : Place) (x : ℕ) → (HasStep new s × Holds old.entry p x) ⊎ Has crowds s p x → Has crowds s p x ⊎ (Holds entry p x × ((s ≡ entry.step) ⊎ Contains others s))
+      rest s p x (inr has) = inl has
+      rest s p x (inl (step, h)) = by ((steps s).0 step)
+        where
+          by : HasStep old s ⊎ ((s ≡ entry.step) ⊎ Contains others s) → Has crowds s p x ⊎ (Holds entry p x × ((s ≡ entry.step) ⊎ Contains others s))
+          by (inl before) = inl record { crowd = old; inside = subst (Contains crowds) at (Contains-get_or crowds i old low); step = before; there = h }
+          by (inr more) = inr (same_holds old.entry entry p x bytes h, more)
+
+-- ---- a crowd behind the others
+
+pub put_behind : (crowds : List Crowd) (new : Crowd) (entry : Entry) (others : List ℕ) → new.entry ≡ entry → new.others.items ≡ others → IsPut entry others crowds (crowds ++ new ∷ [])
+put_behind crowds new entry others is same = record {
+  left = λ s p x has. record { crowd = has.crowd; inside = Contains-append_left crowds (new ∷ []) has.crowd has.inside; step = has.step; there = has.there };
+  own = λ s p x step h. record { crowd = new; inside = Contains-push crowds new; step = own s step; there = subst (λ e. Holds e p x) (sym is) h };
+  rest = λ s p x has. rest s p x has (Contains-push_cases crowds new has.crowd has.inside);
+}
+  where
+    own : (s : ℕ) → (s ≡ entry.step) ⊎ Contains others s → HasStep new s
+    own s (inl e) = inl (e ∙ ap (λ (f : Entry). f.step) (sym is))
+    own s (inr c) = inr (subst (λ xs. Contains xs s) (sym same) c)
+
+    steps : (s : ℕ) → HasStep new s → (s ≡ entry.step) ⊎ Contains others s
+    steps s (inl e) = inl (e ∙ ap (λ (f : Entry). f.step) is)
+    steps s (inr c) = inr (subst (λ xs. Contains xs s) same c)
+
+    rest : (s : ℕ) (p : Place) (x : ℕ) (has : Has (crowds ++ new ∷ []) s p x) → Contains crowds has.crowd ⊎ (new ≡ has.crowd) → Has crowds s p x ⊎ (Holds entry p x × ((s ≡ entry.step) ⊎ Contains others s))
+    rest s p x has (inl inside) = inl record { crowd = has.crowd; inside = inside; step = has.step; there = has.there }
+    rest s p x has (inr e) = inr (subst (λ f. Holds f p x) is (subst (λ (c : Crowd). Holds c.entry p x) (sym e) has.there), steps s (subst (λ c. HasStep c s) (sym e) has.step))
+
+no_step : (s : ℕ) → Contains [] s → ⊥
+no_step s has = let low : has.0 < 0 = has.1 in omega arith
+
+-- an entry alone that is put is joined
+pub joined_behind : (Before : ℕ → ℕ → Type 0) (entry : Entry) (before after : List Crowd) → IsPut entry [] before after → IsJoined Before entry before after
+joined_behind Before entry before after put = record {
+  left = λ s p x has. inl (put.left s p x has);
+  own = λ p x h. put.own entry.step p x (inl refl) h;
+  rest = λ s p x has. rest s p x (put.rest s p x has);
+}
+  where
+    rest : (s : ℕ) (p : Place) (x : ℕ) → Has before s p x ⊎ (Holds entry p x × ((s ≡ entry.step) ⊎ Contains [] s)) → Has before s p x ⊎ (Holds entry p x × (s ≡ entry.step))
+    rest s p x (inl has) = inl has
+    rest s p x (inr (h, inl e)) = inr (h, e)
+    rest s p x (inr (h, inr none)) = absurd (no_step s none)
+
+-- ---- a crowd taken out, and what a new entry leaves of it put back
+
+pub trimmed_none : (new : Entry) (crowds : List Crowd) → IsTrimmed new crowds crowds
+trimmed_none new crowds = record { left = λ s p x has. inl has; rest = λ s p x has. has }
+
+pub trimmed_twice : (new : Entry) (first second third : List Crowd) → IsTrimmed new first second → IsTrimmed new second third → IsTrimmed new first third
+trimmed_twice new first second third a b = record { left = λ s p x has. left s p x (a.left s p x has); rest = λ s p x has. a.rest s p x (b.rest s p x has) }
+  where
+    left : (s : ℕ) (p : Place) (x : ℕ) → Has second s p x ⊎ Holds new p x → Has third s p x ⊎ Holds new p x
+    left s p x (inl has) = b.left s p x has
+    left s p x (inr h) = inr h
+
+-- what was put for a cut
+cut_left : (cut : Option Entry) (others : List ℕ) (before after : List Crowd) → IsCutPut cut others before after → (s : ℕ) (p : Place) (x : ℕ) → Has before s p x → Has after s p x
+cut_left None others before after same s p x has = subst (λ crowds. Has crowds s p x) (sym same) has
+cut_left (Some f) others before after put s p x has = put.left s p x has
+
+cut_own : (P : ℕ → Type 0) (e : Entry) (cut : Option Entry) (others : List ℕ) (before after : List Crowd) → IsCut P e cut → IsCutPut cut others before after
+    → (s : ℕ) (p : Place) (x : ℕ) → (s ≡ e.step) ⊎ Contains others s → Holds e p x → P x → Has after s p x
+cut_own P e None others before after is same s p x step h holds = absurd (is p x h holds)
+cut_own P e (Some f) others before after is put s p x step h holds = put.own s p x (own step) ((is.holds p x).1 (h, holds))
+  where
+    own : (s ≡ e.step) ⊎ Contains others s → (s ≡ f.step) ⊎ Contains others s
+    own (inl q) = inl (q ∙ sym is.step)
+    own (inr c) = inr c
+
+cut_rest : (P : ℕ → Type 0) (e : Entry) (cut : Option Entry) (others : List ℕ) (before after : List Crowd) → IsCut P e cut → IsCutPut cut others before after
+    → (s : ℕ) (p : Place) (x : ℕ) → Has after s p x → Has before s p x ⊎ (Holds e p x × ((s ≡ e.step) ⊎ Contains others s))
+cut_rest P e None others before after is same s p x has = inl (subst (λ crowds. Has crowds s p x) same has)
+cut_rest P e (Some f) others before after is put s p x has = by (put.rest s p x has)
+  where
+    by : Has before s p x ⊎ (Holds f p x × ((s ≡ f.step) ⊎ Contains others s)) → Has before s p x ⊎ (Holds e p x × ((s ≡ e.step) ⊎ Contains others s))
+    by (inl old) = inl old
+    by (inr (h, inl q)) = inr (((is.holds p x).0 h).0, inl (q ∙ is.step))
+    by (inr (h, inr c)) = inr (((is.holds p x).0 h).0, inr c)
+
+module _ (new : Entry) (crowds : List Crowd) (i : ℕ) (crowd : Crowd) (low : i < length crowds) (at : crowd ≡ get_or crowds i crowd) (place : crowd.entry.place ≡ new.place) where
+  abbrev left_over : List Crowd
+  left_over = swap_remove crowds i crowd
+
+  out : (c : Crowd) → Contains crowds c → (c ≡ crowd) ⊎ Contains left_over c
+  out c has = first (Contains-permutation crowds (crowd ∷ left_over) c (IsPermutation-swap_remove crowds i crowd low at) has)
+    where
+      first : Contains (crowd ∷ left_over) c → (c ≡ crowd) ⊎ Contains left_over c
+      first (zero, less, e) = inl (sym e)
+      first (suc k, less, e) = inr (k, omega (arith, less), e)
+
+  into : (c : Crowd) → Contains left_over c → Contains crowds c
+  into c has = Contains-permutation (crowd ∷ left_over) crowds c (IsPermutation-sym crowds (crowd ∷ left_over) (IsPermutation-swap_remove crowds i crowd low at)) (suc has.0, omega (arith, has.1), has.2)
+
+  pub trimmed_at : (fore behind : Option Entry) (others : List ℕ) (second third : List Crowd) → others ≡ crowd.others.items
+      → IsCut (λ x. x < new.from) crowd.entry fore → IsCutPut fore others left_over second → IsCut (λ x. new.to ≤ x) crowd.entry behind → IsCutPut behind others second third → IsTrimmed new crowds third
+  trimmed_at fore behind others second third same front_is front_put back_is back_put = record { left = λ s p x has. left s p x has (out has.crowd has.inside); rest = λ s p x has. rest s p x has }
+    where
+      steps : (s : ℕ) → HasStep crowd s → (s ≡ crowd.entry.step) ⊎ Contains others s
+      steps s (inl e) = inl e
+      steps s (inr c) = inr (subst (λ xs. Contains xs s) (sym same) c)
+
+      back_steps : (s : ℕ) → (s ≡ crowd.entry.step) ⊎ Contains others s → HasStep crowd s
+      back_steps s (inl e) = inl e
+      back_steps s (inr c) = inr (subst (λ xs. Contains xs s) same c)
+
+      inside : Contains crowds crowd
+      inside = subst (Contains crowds) (sym at) (Contains-get_or crowds i crowd low)
+
+      of_crowd : (s : ℕ) (p : Place) (x : ℕ) → HasStep crowd s → Holds crowd.entry p x → Has third s p x ⊎ Holds new p x
+      of_crowd s p x step h = by (cases_lt x new.from) (cases_lt x new.to)
+        where
+          by : (x < new.from) ⊎ (new.from ≤ x) → (x < new.to) ⊎ (new.to ≤ x) → Has third s p x ⊎ Holds new p x
+          by (inl below) t = inl (cut_left behind others second third back_put s p x (cut_own (λ x. x < new.from) crowd.entry fore others left_over second front_is front_put s p x (steps s step) h below))
+          by (inr above) (inr past) = inl (cut_own (λ x. new.to ≤ x) crowd.entry behind others second third back_is back_put s p x (steps s step) h past)
+          by (inr above) (inl short) = inr record { place = sym place ∙ h.place; from = above; to = short }
+
+      left : (s : ℕ) (p : Place) (x : ℕ) (has : Has crowds s p x) → (has.crowd ≡ crowd) ⊎ Contains left_over has.crowd → Has third s p x ⊎ Holds new p x
+      left s p x has (inl e) = of_crowd s p x (subst (λ c. HasStep c s) e has.step) (subst (λ (c : Crowd). Holds c.entry p x) e has.there)
+      left s p x has (inr kept) =
+          let old : Has left_over s p x = record { crowd = has.crowd; inside = kept; step = has.step; there = has.there } in
+          inl (cut_left behind others second third back_put s p x (cut_left fore others left_over second front_put s p x old))
+
+      old_has : (s : ℕ) (p : Place) (x : ℕ) → Has left_over s p x → Has crowds s p x
+      old_has s p x has = record { crowd = has.crowd; inside = into has.crowd has.inside; step = has.step; there = has.there }
+
+      of_both : (s : ℕ) (p : Place) (x : ℕ) → Has left_over s p x ⊎ (Holds crowd.entry p x × ((s ≡ crowd.entry.step) ⊎ Contains others s)) → Has crowds s p x
+      of_both s p x (inl has) = old_has s p x has
+      of_both s p x (inr (h, step)) = record { crowd = crowd; inside = inside; step = back_steps s step; there = h }
+
+      rest : (s : ℕ) (p : Place) (x : ℕ) → Has third s p x → Has crowds s p x
+      rest s p x has = by (cut_rest (λ x. new.to ≤ x) crowd.entry behind others second third back_is back_put s p x has)
+        where
+          by : Has second s p x ⊎ (Holds crowd.entry p x × ((s ≡ crowd.entry.step) ⊎ Contains others s)) → Has crowds s p x
+          by (inl more) = of_both s p x (cut_rest (λ x. x < new.from) crowd.entry fore others left_over second front_is front_put s p x more)
+          by (inr own) = of_both s p x (inr own)
+
+-- ---- clashes
+
+module _ (Before : ℕ → ℕ → Type 0) (new : Entry) (crowds : List Crowd) (i : ℕ) (d : Crowd) (low : i < length crowds) (at : d ≡ get_or crowds i d) where
+  -- no clash among the first i, nor at the next
+  pub clear_more : Tells Before new (take i crowds) false → CrowdTells Before new d false → Tells Before new (take (i + 1) crowds) false
+  clear_more before here s p x has h = by (Contains-push_cases (take i crowds) d has.crowd (subst (λ cs. Contains cs has.crowd) (take_more crowds i d low ∙ ap (λ c. take i crowds ++ c ∷ []) (sym at)) has.inside))
+    where
+      by : Contains (take i crowds) has.crowd ⊎ (d ≡ has.crowd) → IsSafe Before s new.step
+      by (inl inside) = before s p x record { crowd = has.crowd; inside = inside; step = has.step; there = has.there } h
+      by (inr e) = here s p x (subst (λ c. HasStep c s) (sym e) has.step) (subst (λ (c : Crowd). Holds c.entry p x) (sym e) has.there) h
+
+  pub clash_here : CrowdTells Before new d true → HasClash Before new crowds
+  clash_here c = record { step = c.step; place = c.place; at = c.at; has = record { crowd = d; inside = subst (Contains crowds) (sym at) (Contains-get_or crowds i d low); step = c.has; there = c.there }; in_new = c.in_new; unsafe = c.unsafe }
+
+pub clear_all : (Before : ℕ → ℕ → Type 0) (new : Entry) (crowds : List Crowd) (i : ℕ) → length crowds ≤ i → Tells Before new (take i crowds) false → Tells Before new crowds false
+clear_all Before new crowds i far clear = subst (λ cs. Tells Before new cs false) (take_all i crowds far) clear
+
+pub clear_none : (Before : ℕ → ℕ → Type 0) (new : Entry) → Tells Before new [] false
+clear_none Before new s p x has h = let low : has.inside.0 < 0 = has.inside.1 in absurd (omega arith)

@@ -1,0 +1,103 @@
+-- What lists of crowds have, and what becomes of it when a new entry comes.
+use Rattle.std.specs.Prelude.{◌≡◌, ℕ, ◌≤◌, Bool, true, false, ◌⊎◌, List, Option, Some, None, Contains}
+use Rattle.cell_machine.specs.declared.effect.Place.{Place}
+use Rattle.race_check.specs.declared.entry.Entry.{Entry}
+use Rattle.race_check.specs.declared.crowd.Crowd.{Crowd}
+use Rattle.race_check.specs.Entries.{Holds}
+
+-- the two are one step, or the first is before the second
+abbrev pub IsSafe : (ℕ → ℕ → Type 0) → ℕ → ℕ → Type 0
+IsSafe Before i j = (i ≡ j) ⊎ Before i j
+
+-- it is the step of the crowd's entry, or one of the others
+abbrev pub HasStep : Crowd → ℕ → Type 0
+HasStep c s = (s ≡ c.entry.step) ⊎ Contains c.others.items s
+
+-- a crowd of the list has the step and the byte
+pub record Has (crowds : List Crowd) (s : ℕ) (p : Place) (x : ℕ) : Type 0 where
+  pub crowd : Crowd
+  pub inside : Contains crowds crowd
+  pub step : HasStep crowd s
+  pub there : Holds crowd.entry p x
+
+-- ---- steps, and the last step that was made
+
+-- one of the steps is neither the last one nor before it
+pub record HasUnsafe (Before : ℕ → ℕ → Type 0) (last : ℕ) (IsOne : ℕ → Type 0) : Type 0 where
+  pub step : ℕ
+  pub is : IsOne step
+  pub unsafe : step ≤ last → IsSafe Before step last → ⊥
+
+-- whether there is such a step
+abbrev pub StepsTell : (ℕ → ℕ → Type 0) → ℕ → (ℕ → Type 0) → Bool → Type 0
+StepsTell Before last IsOne true = HasUnsafe Before last IsOne
+StepsTell Before last IsOne false = (s : ℕ) → IsOne s → IsSafe Before s last
+
+-- the last step is among the second ones, of the first only those are lost that are safe, and nothing else is added
+pub record IsReplaced (Before : ℕ → ℕ → Type 0) (last : ℕ) (old new : List ℕ) : Type 0 where
+  pub left : (s : ℕ) → Contains old s → Contains new s ⊎ IsSafe Before s last
+  pub own : Contains new last
+  pub rest : (s : ℕ) → Contains new s → Contains old s ⊎ (s ≡ last)
+
+abbrev pub Replaces : (ℕ → ℕ → Type 0) → ℕ → List ℕ → List ℕ → Bool → Type 0
+Replaces Before last old new true = IsReplaced Before last old new
+Replaces Before last old new false = new ≡ old
+
+-- the same of crowds
+pub record IsTaken (Before : ℕ → ℕ → Type 0) (last : ℕ) (old new : Crowd) : Type 0 where
+  pub left : (s : ℕ) → HasStep old s → HasStep new s ⊎ IsSafe Before s last
+  pub own : HasStep new last
+  pub rest : (s : ℕ) → HasStep new s → HasStep old s ⊎ (s ≡ last)
+
+-- ---- a list of crowds, and a new entry of the last step
+
+-- a step of the crowd has a byte of the new entry, and is neither its step nor before it
+pub record HasCrowdClash (Before : ℕ → ℕ → Type 0) (new : Entry) (c : Crowd) : Type 0 where
+  pub step : ℕ
+  pub place : Place
+  pub at : ℕ
+  pub has : HasStep c step
+  pub there : Holds c.entry place at
+  pub in_new : Holds new place at
+  pub unsafe : step ≤ new.step → IsSafe Before step new.step → ⊥
+
+-- whether there is one
+abbrev pub CrowdTells : (ℕ → ℕ → Type 0) → Entry → Crowd → Bool → Type 0
+CrowdTells Before new c true = HasCrowdClash Before new c
+CrowdTells Before new c false = (s : ℕ) (p : Place) (x : ℕ) → HasStep c s → Holds c.entry p x → Holds new p x → IsSafe Before s new.step
+
+-- a step of the list has a byte of the new entry, and is neither its step nor before it
+pub record HasClash (Before : ℕ → ℕ → Type 0) (new : Entry) (crowds : List Crowd) : Type 0 where
+  pub step : ℕ
+  pub place : Place
+  pub at : ℕ
+  pub has : Has crowds step place at
+  pub in_new : Holds new place at
+  pub unsafe : step ≤ new.step → IsSafe Before step new.step → ⊥
+
+-- whether there is one
+abbrev pub Tells : (ℕ → ℕ → Type 0) → Entry → List Crowd → Bool → Type 0
+Tells Before new crowds true = HasClash Before new crowds
+Tells Before new crowds false = (s : ℕ) (p : Place) (x : ℕ) → Has crowds s p x → Holds new p x → IsSafe Before s new.step
+
+-- only bytes of the new entry are lost, and nothing is added
+pub record IsTrimmed (new : Entry) (before after : List Crowd) : Type 0 where
+  pub left : (s : ℕ) (p : Place) (x : ℕ) → Has before s p x → Has after s p x ⊎ Holds new p x
+  pub rest : (s : ℕ) (p : Place) (x : ℕ) → Has after s p x → Has before s p x
+
+-- the new entry is there, only its bytes of steps before it are lost, and nothing else is added
+pub record IsJoined (Before : ℕ → ℕ → Type 0) (new : Entry) (before after : List Crowd) : Type 0 where
+  pub left : (s : ℕ) (p : Place) (x : ℕ) → Has before s p x → Has after s p x ⊎ (Holds new p x × IsSafe Before s new.step)
+  pub own : (p : Place) (x : ℕ) → Holds new p x → Has after new.step p x
+  pub rest : (s : ℕ) (p : Place) (x : ℕ) → Has after s p x → Has before s p x ⊎ (Holds new p x × (s ≡ new.step))
+
+-- the entry's bytes are there with its step and the others, and nothing else is lost or added
+pub record IsPut (entry : Entry) (others : List ℕ) (before after : List Crowd) : Type 0 where
+  pub left : (s : ℕ) (p : Place) (x : ℕ) → Has before s p x → Has after s p x
+  pub own : (s : ℕ) (p : Place) (x : ℕ) → (s ≡ entry.step) ⊎ Contains others s → Holds entry p x → Has after s p x
+  pub rest : (s : ℕ) (p : Place) (x : ℕ) → Has after s p x → Has before s p x ⊎ (Holds entry p x × ((s ≡ entry.step) ⊎ Contains others s))
+
+-- so are those of a cut, where there are any
+abbrev pub IsCutPut : Option Entry → List ℕ → List Crowd → List Crowd → Type 0
+IsCutPut None others before after = after ≡ before
+IsCutPut (Some entry) others before after = IsPut entry others before after

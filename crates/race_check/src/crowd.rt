@@ -1,0 +1,123 @@
+//! The steps that touched the same bytes.
+
+ghost use Rattle.std.specs.Prelude.{◌≡◌, ℕ, ◌≤◌, ◌↔◌, ◌⊎◌, [], IsTrue, OnOk, Contains};
+ghost use Rattle.race_order.specs.OrderedRuns.{IsOrdered};
+ghost use Rattle.race_check.specs.Walks.{IsAt};
+ghost use Rattle.race_check.specs.Entries.{HasSameBytes};
+ghost use Rattle.race_check.specs.Crowds.{HasStep, IsSafe, IsTaken, Replaces, StepsTell};
+
+use crate::entry::Entry;
+use crate::error::RaceError;
+use crate::walk::Walk;
+use std::alloc::Global;
+
+/// Of so many other steps a new one looks for one that it can stand for.
+const FEW: usize = 16;
+
+/// An entry, and the other steps that touched the same bytes.
+#[derive(Drop)]
+pub struct Crowd {
+    pub entry: Entry,
+    pub others: Vec<u32>,
+}
+
+/// Whether the step is the last one that was made, or ordered before it.
+fn is_safe(step: u32, last: u32, walk: &Walk) -> bool
+    requires { IsAt walk.now last }
+    ensures safe { IsTrue result → IsSafe (IsOrdered walk.now.machine) step last }
+    ensures only { step ≤ last → IsSafe (IsOrdered walk.now.machine) step last → IsTrue result }
+{
+    step == last || step < last && walk.before(step)
+}
+
+/// Whether one of the steps is neither the last one that was made nor ordered before it.
+fn any_unsafe(steps: &[u32], last: u32, walk: &Walk) -> bool
+    requires { IsAt walk.now last }
+    ensures { StepsTell (IsOrdered walk.now.machine) last (Contains steps.now) result }
+{
+    for step in steps {
+        if !is_safe(*step, last, walk) {
+            return true;
+        }
+    }
+    false
+}
+
+/// Puts the last step that was made in the place of one that is ordered before it, and says whether there is one.
+fn replace(steps: &mut [u32], last: u32, walk: &Walk) -> bool
+    requires { IsAt walk.now last }
+    ensures { Replaces (IsOrdered walk.now.machine) last steps.old steps.new result }
+{
+    for k in 0..steps.len() {
+        if is_safe(steps[k], last, walk) {
+            steps[k] = last;
+            return true;
+        }
+    }
+    false
+}
+
+impl Crowd {
+    /// The crowd of one entry.
+    pub fn of(alloc: Global, entry: Entry) -> Crowd
+        ensures entry { result.entry ≡ entry }
+        ensures others { result.others.items ≡ [] }
+    {
+        Crowd {
+            entry,
+            others: Vec::new(alloc),
+        }
+    }
+
+    /// Whether one of the steps is neither the last one that was made nor ordered before it.
+    pub fn clashes(&self, last: u32, walk: &Walk) -> bool
+        requires { IsAt walk.now last }
+        ensures { StepsTell (IsOrdered walk.now.machine) last (HasStep self.now) result }
+    {
+        if !is_safe(self.entry.step, last, walk) {
+            return true;
+        }
+        any_unsafe(self.others.as_slice(), last, walk)
+    }
+
+    /// Takes the last step that was made into the crowd, in the place of one that is ordered before it where one is found.
+    pub fn take(&mut self, last: u32, walk: &Walk) -> Result<(), RaceError>
+        requires { IsAt walk.now last }
+        ensures taken { OnOk result (IsTaken (IsOrdered walk.now.machine) last self.old self.new) }
+        ensures same { OnOk result (HasSameBytes self.new.entry self.old.entry) }
+    {
+        if is_safe(self.entry.step, last, walk) {
+            self.entry.step = last;
+            return Ok(());
+        }
+        if self.replace_other(last, walk) {
+            return Ok(());
+        }
+        self.others.push(last)?;
+        Ok(())
+    }
+
+    /// Puts the last step that was made in the place of another that is ordered before it, and says whether it found one among few.
+    fn replace_other(&mut self, last: u32, walk: &Walk) -> bool
+        requires { IsAt walk.now last }
+        ensures others { Replaces (IsOrdered walk.now.machine) last self.old.others.items self.new.others.items result }
+        ensures entry { self.new.entry ≡ self.old.entry }
+    {
+        if self.others.len() < FEW {
+            let others = self.others.as_mut_slice();
+            replace(others, last, walk)
+        } else {
+            false
+        }
+    }
+
+    /// Adds these steps to the crowd.
+    pub fn add(&mut self, step: u32, others: &[u32]) -> Result<(), RaceError>
+        ensures steps { OnOk result ((s : ℕ) → HasStep self.new s ↔ (HasStep self.old s ⊎ ((s ≡ step) ⊎ Contains others.now s))) }
+        ensures same { OnOk result (HasSameBytes self.new.entry self.old.entry) }
+    {
+        self.others.push(step)?;
+        self.others.extend_from_slice(others)?;
+        Ok(())
+    }
+}

@@ -1,0 +1,135 @@
+//! Lists of crowds when a new entry comes.
+
+ghost use Rattle.std.specs.Prelude.{◌≡◌, ℕ, ◌<◌, ◌≤◌, Option, Some, None, length, IfSome, OnOk, slice_index_or};
+ghost use Rattle.race_order.specs.OrderedRuns.{IsOrdered};
+ghost use Rattle.race_check.specs.declared.crowd.Crowd.{Crowd as ACrowd};
+ghost use Rattle.race_check.specs.Walks.{IsAt};
+ghost use Rattle.race_check.specs.Entries.{HasSameBytes};
+ghost use Rattle.race_check.specs.Crowds.{CrowdTells, IsCutPut, IsJoined, IsPut, IsTrimmed, Tells};
+
+use crate::crowd::Crowd;
+use crate::entry::{Entry, back, front, has_same_bytes, meet};
+use crate::error::RaceError;
+use crate::walk::Walk;
+use std::alloc::Global;
+
+/// Whether a step of the crowd has a byte of the new entry, and is neither of its step nor ordered before it.
+fn clashes(crowd: &Crowd, new: &Entry, walk: &Walk) -> bool
+    requires { IsAt walk.now new.now.step }
+    ensures { CrowdTells (IsOrdered walk.now.machine) new.now crowd.now result }
+{
+    meet(&crowd.entry, new) && crowd.clashes(new.step, walk)
+}
+
+/// Whether the new entry clashes with a crowd of the list.
+pub fn any_clashes(crowds: &[Crowd], new: &Entry, walk: &Walk) -> bool
+    requires { IsAt walk.now new.now.step }
+    ensures { Tells (IsOrdered walk.now.machine) new.now crowds.now result }
+{
+    for crowd in crowds {
+        if clashes(crowd, new, walk) {
+            return true;
+        }
+    }
+    false
+}
+
+/// The place of a crowd that has the entry's bytes.
+fn find(crowds: &[Crowd], entry: &Entry) -> Option<usize>
+    ensures inside { IfSome result (λ i. i < length crowds.now) }
+    ensures same { IfSome result (λ i. (d : ACrowd) → HasSameBytes (slice_index_or crowds.now i d).entry entry.now) }
+{
+    for (i, crowd) in crowds.iter().enumerate() {
+        if has_same_bytes(&crowd.entry, entry) {
+            return Some(i);
+        }
+    }
+    None
+}
+
+/// Adds the bytes of the entry with its step and the others, to a crowd that has those bytes if there is one.
+fn put(
+    alloc: Global,
+    crowds: &mut Vec<Crowd>,
+    entry: &Entry,
+    others: &[u32],
+) -> Result<(), RaceError>
+    ensures put { OnOk result (IsPut entry.now others.now crowds.old.items crowds.new.items) }
+    ensures long { OnOk result (length crowds.old.items ≤ length crowds.new.items) }
+{
+    if let Some(i) = find(crowds.as_slice(), entry) {
+        let crowds = crowds.as_mut_slice();
+        crowds[i].add(entry.step, others)?;
+        return Ok(());
+    }
+    let others = others.to_vec(alloc)?;
+    crowds.push(Crowd {
+        entry: *entry,
+        others,
+    })?;
+    Ok(())
+}
+
+/// Adds what a cut left of an entry, with the others.
+fn put_cut(
+    alloc: Global,
+    crowds: &mut Vec<Crowd>,
+    cut: Option<Entry>,
+    others: &[u32],
+) -> Result<(), RaceError>
+    ensures put { OnOk result (IsCutPut cut others.now crowds.old.items crowds.new.items) }
+    ensures long { OnOk result (length crowds.old.items ≤ length crowds.new.items) }
+{
+    if let Some(entry) = cut {
+        put(alloc, crowds, &entry, others)?;
+    }
+    Ok(())
+}
+
+/// Leaves of the crowd at i what the new entry doesn't have.
+fn trim_at(alloc: Global, crowds: &mut Vec<Crowd>, i: usize, new: &Entry) -> Result<(), RaceError>
+    requires { i < length crowds.old.items }
+    ensures trimmed { OnOk result (IsTrimmed new.now crowds.old.items crowds.new.items) }
+    ensures long { OnOk result (i ≤ length crowds.new.items) }
+{
+    if !meet(&crowds[i].entry, new) {
+        return Ok(());
+    }
+    let crowd = crowds.swap_remove(i);
+    let others = crowd.others.as_slice();
+    put_cut(alloc, crowds, front(&crowd.entry, new.from), others)?;
+    put_cut(alloc, crowds, back(&crowd.entry, new.to), others)?;
+    Ok(())
+}
+
+/// Leaves of each crowd what the new entry doesn't have.
+pub fn trim(alloc: Global, crowds: &mut Vec<Crowd>, new: &Entry) -> Result<(), RaceError>
+    ensures { OnOk result (IsTrimmed new.now crowds.old.items crowds.new.items) }
+{
+    // downward: what is moved or added stands behind what is still to be looked at
+    let mut i = crowds.len();
+    while 0 < i {
+        i -= 1;
+        trim_at(alloc, crowds, i, new)?;
+    }
+    Ok(())
+}
+
+/// Adds the new entry, in the place of one of a step before it where one is found that has its bytes.
+pub fn join(
+    alloc: Global,
+    crowds: &mut Vec<Crowd>,
+    new: &Entry,
+    walk: &Walk,
+) -> Result<(), RaceError>
+    requires { IsAt walk.now new.now.step }
+    ensures { OnOk result (IsJoined (IsOrdered walk.now.machine) new.now crowds.old.items crowds.new.items) }
+{
+    if let Some(i) = find(crowds.as_slice(), new) {
+        let crowds = crowds.as_mut_slice();
+        crowds[i].take(new.step, walk)?;
+        return Ok(());
+    }
+    crowds.push(Crowd::of(alloc, *new))?;
+    Ok(())
+}
