@@ -64,7 +64,7 @@ fn apply(
     enter_all(sets, boxes, brought)?;
     touch_all(sets, lives, brought)?;
     pass_issue(sets, spare, step, note)?;
-    let done = go_on_all(sets, spare, lives, step, note)?;
+    let done = go_on_all(sets, spare, lives, brought)?;
     pass_done(sets, spare, lives, done)?;
     pass_fixed(sets, spare, step, brought.effect.fixed)?;
     Ok(done)

@@ -6,13 +6,12 @@ ghost use Rattle.race_order.specs.Lives.{moved, HaveRoom, AreOutstanding};
 ghost use Rattle.race_order.specs.Passes.{AreMoved, into_stalled, stall_any};
 ghost use Rattle.race_order.specs.Tables.{sets_have, AreOf};
 
+use crate::brought::Brought;
 use crate::error::OrderError;
 use crate::lives::{Live, after_step, may_touch, touches};
 use crate::moves::{Move, make};
 use crate::roles::QueueRole;
 use crate::sets::Sets;
-use cell_base::Step;
-use cell_machine::Note;
 use order_sets::Known;
 
 /// The list's set goes into that of its tag, where the list is stalled by the step.
@@ -49,22 +48,21 @@ fn go_on(
     sets: &mut Sets,
     spare: &mut Known,
     live: &mut Live,
-    step: Step,
-    note: Note,
+    brought: &Brought,
 ) -> Result<bool, OrderError>
     requires room { live.old.progress.read + 1 < 2 ^ 16 }
     requires live { live.old.progress.done ≡ false }
     requires sets { AreOf (length spare.old.ends.items) sets.old }
-    ensures next { OnOk result (live.new ≡ moved live.old step note) }
-    ensures has { OnOk result (AreMoved (λ g. stall_any g step note live.old) (sets_have sets.old) (sets_have sets.new)) }
+    ensures next { OnOk result (live.new ≡ moved live.old brought.now.step brought.now.effect.now.note) }
+    ensures has { OnOk result (AreMoved (λ g. stall_any g brought.now.step brought.now.effect.now.note live.old) (sets_have sets.old) (sets_have sets.new)) }
     ensures chains { OnOk result (AreOf (length spare.old.ends.items) sets.new) }
     ensures spare { length spare.new.ends.items ≡ length spare.old.ends.items }
     ensures done { IfOk result (λ done. done ≡ live.new.progress.done) }
 {
-    if !touches(live, step, note) {
+    if !touches(live, &brought.step, &brought.effect.note) {
         return Ok(false);
     }
-    let next = after_step(live, step, note);
+    let next = after_step(live, brought.step, brought.effect.note);
     pass_stall(sets, spare, live, &next)?;
     *live = next;
     Ok(next.progress.done)
@@ -74,21 +72,20 @@ fn go_on_each(
     sets: &mut Sets,
     spare: &mut Known,
     lives: &mut [Live],
-    step: Step,
-    note: Note,
+    brought: &Brought,
 ) -> Result<bool, OrderError>
     requires room { HaveRoom lives.old }
     requires live { AreOutstanding lives.old }
     requires sets { AreOf (length spare.old.ends.items) sets.old }
-    ensures next { OnOk result (lives.new ≡ map (λ l. moved l step note) lives.old) }
-    ensures has { OnOk result (AreMoved (λ g. list_any (stall_any g step note) lives.old) (sets_have sets.old) (sets_have sets.new)) }
+    ensures next { OnOk result (lives.new ≡ map (λ l. moved l brought.now.step brought.now.effect.now.note) lives.old) }
+    ensures has { OnOk result (AreMoved (λ g. list_any (stall_any g brought.now.step brought.now.effect.now.note) lives.old) (sets_have sets.old) (sets_have sets.new)) }
     ensures chains { OnOk result (AreOf (length spare.old.ends.items) sets.new) }
     ensures spare { length spare.new.ends.items ≡ length spare.old.ends.items }
     ensures done { IfOk result (λ done. done ≡ list_any (λ l. l.progress.done) lives.new) }
 {
     let mut done = false;
     for i in 0..lives.len() {
-        done |= go_on(sets, spare, &mut lives[i], step, note)?;
+        done |= go_on(sets, spare, &mut lives[i], brought)?;
     }
     Ok(done)
 }
@@ -98,20 +95,19 @@ pub(crate) fn go_on_all(
     sets: &mut Sets,
     spare: &mut Known,
     lives: &mut [Live],
-    step: Step,
-    note: Note,
+    brought: &Brought,
 ) -> Result<bool, OrderError>
     requires room { HaveRoom lives.old }
     requires live { AreOutstanding lives.old }
     requires sets { AreOf (length spare.old.ends.items) sets.old }
-    ensures next { OnOk result (lives.new ≡ map (λ l. moved l step note) lives.old) }
-    ensures has { OnOk result (AreMoved (λ g. list_any (stall_any g step note) lives.old) (sets_have sets.old) (sets_have sets.new)) }
+    ensures next { OnOk result (lives.new ≡ map (λ l. moved l brought.now.step brought.now.effect.now.note) lives.old) }
+    ensures has { OnOk result (AreMoved (λ g. list_any (stall_any g brought.now.step brought.now.effect.now.note) lives.old) (sets_have sets.old) (sets_have sets.new)) }
     ensures chains { OnOk result (AreOf (length spare.old.ends.items) sets.new) }
     ensures spare { length spare.new.ends.items ≡ length spare.old.ends.items }
     ensures done { IfOk result (λ done. done ≡ list_any (λ l. l.progress.done) lives.new) }
 {
-    if !may_touch(step, note) {
+    if !may_touch(brought.step, brought.effect.note) {
         return Ok(false);
     }
-    go_on_each(sets, spare, lives, step, note)
+    go_on_each(sets, spare, lives, brought)
 }

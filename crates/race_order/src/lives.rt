@@ -32,28 +32,28 @@ pub(crate) struct Live {
     pub(crate) progress: Progress,
 }
 
-fn acked(progress: &Progress, note: Note) -> bool
-    ensures { result ≡ acked_by progress.now note }
+fn acked(progress: &Progress, note: &Note) -> bool
+    ensures { result ≡ acked_by progress.now note.now }
 {
-    match note {
+    match *note {
         Note::Ack { tag } => progress.stalled && tag == u32::from(progress.command.tag),
         _ => false,
     }
 }
 
-fn resumes(live: &Live, step: Step, note: Note) -> bool
-    ensures { result ≡ acks live.now.spe live.now.progress step note }
+fn resumes(live: &Live, step: &Step, note: &Note) -> bool
+    ensures { result ≡ acks live.now.spe live.now.progress step.now note.now }
 {
-    match step {
+    match *step {
         Step::Exec { spe } => spe == live.spe && acked(&live.progress, note),
         _ => false,
     }
 }
 
-fn steps(live: &Live, step: Step) -> bool
-    ensures { result ≡ is_of live.now.spe live.now.cmd step }
+fn steps(live: &Live, step: &Step) -> bool
+    ensures { result ≡ is_of live.now.spe live.now.cmd step.now }
 {
-    match step {
+    match *step {
         Step::Piece { spe, cmd, .. } => spe == live.spe && cmd == live.cmd,
         Step::Elem { spe, cmd } => spe == live.spe && cmd == live.cmd,
         Step::Retire { spe, cmd } => spe == live.spe && cmd == live.cmd,
@@ -61,24 +61,24 @@ fn steps(live: &Live, step: Step) -> bool
     }
 }
 
-fn reads(live: &Live, step: Step) -> bool
-    ensures { result ≡ reads_of live.now.spe live.now.cmd step }
+fn reads(live: &Live, step: &Step) -> bool
+    ensures { result ≡ reads_of live.now.spe live.now.cmd step.now }
 {
-    match step {
+    match *step {
         Step::Elem { spe, cmd } => spe == live.spe && cmd == live.cmd,
         _ => false,
     }
 }
 
 /// Whether the step is one of the command, or resumes it.
-pub(crate) fn touches(live: &Live, step: Step, note: Note) -> bool
-    ensures { result ≡ is_touched live.now step note }
+pub(crate) fn touches(live: &Live, step: &Step, note: &Note) -> bool
+    ensures { result ≡ is_touched live.now step.now note.now }
 {
     steps(live, step) || resumes(live, step, note)
 }
 
-fn goes_into(live: &Live, step: Step, note: Note) -> bool
-    ensures { result ≡ goes_in live.now step note }
+fn goes_into(live: &Live, step: &Step, note: &Note) -> bool
+    ensures { result ≡ goes_in live.now step.now note.now }
 {
     reads(live, step) || resumes(live, step, note)
 }
@@ -168,7 +168,7 @@ fn enter(sets: &mut Sets, live: &Live, brought: &Brought) -> Result<(), OrderErr
     ensures has { OnOk result ((r : ARole) (at : AnAt) → sets_have sets.new r at ≡ (sets_have sets.old r at || (same_role (Waits live.now.spe live.now.cmd) r && (goes_in live.now brought.now.step brought.now.effect.now.note && has_brought brought.now at)))) }
     ensures chains { OnOk result (AreOf (3 * brought.now.spes + 1) sets.new) }
 {
-    if goes_into(live, brought.step, brought.effect.note) {
+    if goes_into(live, &brought.step, &brought.effect.note) {
         sets.bring(
             QueueRole::Waits {
                 spe: live.spe,
@@ -190,12 +190,12 @@ fn touch(sets: &mut Sets, live: &Live, brought: &Brought) -> Result<(), OrderErr
     ensures has { OnOk result ((r : ARole) (at : AnAt) → sets_have sets.new r at ≡ (sets_have sets.old r at || touch_brings brought.now.spes brought.now.step brought.now.effect.now.note (has_brought brought.now) r at live.now)) }
     ensures chains { OnOk result (AreOf (3 * brought.now.spes + 1) sets.new) }
 {
-    let (step, note) = (brought.step, brought.effect.note);
-    if !touches(live, step, note) {
+    if !touches(live, &brought.step, &brought.effect.note) {
         return Ok(());
     }
     enter(sets, live, brought)?;
-    add_own(sets, brought.spes, &after_step(live, step, note))?;
+    let next = after_step(live, brought.step, brought.effect.note);
+    add_own(sets, brought.spes, &next)?;
     Ok(())
 }
 

@@ -7,4 +7,4 @@ use Rattle.race_order.proofs.going.go_on.Goals as goal
 
 pub returns-then-not-touches-clause-has : goal.returns-then-not-touches-clause-has
 returns-then-not-touches-clause-has c =
-    still (λ g. stall_any g c.args.step c.args.note c.args.live.now) (sets_have c.args.sets.now) (λ g. not_stalled g c.args.live.now c.args.step c.args.note (sym c.touches.ensures ∙ c.if-not-touches.true))
+    still (λ g. stall_any g c.args.brought.now.step c.args.brought.now.effect.now.note c.args.live.now) (sets_have c.args.sets.now) (λ g. not_stalled g c.args.live.now c.args.brought.now.step c.args.brought.now.effect.now.note (sym c.touches.ensures ∙ c.if-not-touches.true))

@@ -11,13 +11,13 @@ pub loop-i-preserved : goal.loop-i-preserved
 loop-i-preserved c =
     let xs = c.args.lives.now in
     let ys = c.loop-i.lives in
-    let f = λ (l : Live). moved l c.args.step c.args.note in
+    let f = λ (l : Live). moved l c.args.brought.now.step c.args.brought.now.effect.now.note in
     let inside : c.loop-i.i < length c.args.lives.now = search rules in
     record {
       next = one_changed f xs ys c.loop-i.i _ c.go_on.new.live inside c.loop-i.invariant.next c.in_ok-done.ensures.next;
       has =
-          one_more (λ g l. stall_any g c.args.step c.args.note l) xs c.loop-i.i _ (sets_have c.args.sets.now) (sets_have c.loop-i.sets) (sets_have c.go_on.new.sets) (up_stall c.args.step c.args.note) inside c.loop-i.invariant.has
-          (subst (λ (l : Live). AreMoved (λ g. stall_any g c.args.step c.args.note l) (sets_have c.loop-i.sets) (sets_have c.go_on.new.sets)) (as_it_was f xs ys c.loop-i.i _ c.loop-i.invariant.next) c.in_ok-done.ensures.has);
+          one_more (λ g l. stall_any g c.args.brought.now.step c.args.brought.now.effect.now.note l) xs c.loop-i.i _ (sets_have c.args.sets.now) (sets_have c.loop-i.sets) (sets_have c.go_on.new.sets) (up_stall c.args.brought.now.step c.args.brought.now.effect.now.note) inside c.loop-i.invariant.has
+          (subst (λ (l : Live). AreMoved (λ g. stall_any g c.args.brought.now.step c.args.brought.now.effect.now.note l) (sets_have c.loop-i.sets) (sets_have c.go_on.new.sets)) (as_it_was f xs ys c.loop-i.i _ c.loop-i.invariant.next) c.in_ok-done.ensures.has);
       chains = search rules;
       spare = search rules;
       done = one_passed f (λ (l : Live). l.progress.done) xs ys c.loop-i.i _ c.go_on.new.live c.loop-i.done c.in_ok-done.field-0 inside c.loop-i.invariant.next c.in_ok-done.ensures.next c.loop-i.invariant.done c.in_ok-done.ensures.done;
