@@ -118,11 +118,11 @@ pub memory-new : (S : Opening) (memory : SharedMemory) (lines spes : ℕ) (piece
 memory-new S memory lines spes pieces a b e shows = rw (a, b, e) shows
 
 -- a machine at its start
-pub machine-new : (S : Opening) (processors : List Processor) (memory : SharedMemory) (host : Progress) (steps : List Step) (capacity : ℕ) → IsOpening S
+pub machine-new : (S : Opening) (processors : List Processor) (memory : SharedMemory) (host : Progress) (steps : List Step) (capacity : ℕ) → IsOpening S → 0 < length S.entries
     → AllTwo ShowsSpe processors (opening_spes S) → ShowsMemory memory (opening_memory S) (replicate (length S.entries) None) → HasSize S.lines (length S.entries) memory
     → opening_host S.actions ≡ host → steps ≡ [] → S.budget ≤ capacity → IsMachine S steps capacity processors memory host
 unfolding opening
-machine-new S processors memory host steps capacity is shows fills size begins none room =
+machine-new S processors memory host steps capacity is some shows fills size begins none room =
     let many : length processors ≡ length S.entries = sym (two_length ShowsSpe processors (opening_spes S) shows) ∙ length-enumerate (opening_spe S) 0 S.entries in
     let reserved : replicate (length S.entries) None ≡ reservations (opening_spes S) = sym (opening_reserved S (enumerate_from 0 S.entries) ∙ ap (λ n. replicate n None) (length-numbered 0 S.entries)) in
     record {
@@ -130,6 +130,7 @@ machine-new S processors memory host steps capacity is shows fills size begins n
       room = room;
       within = rw none (omega arith);
       small = is.limits.3;
+      some = some;
       many = let h = is.spes in omega arith;
       count = many;
       state = opening S;

@@ -70,6 +70,7 @@ machine-step setup steps capacity processors new memory memory2 host host2 s roo
       room = omega arith;
       within = simp length-append (omega arith);
       small = old.small;
+      some = old.some;
       many = omega arith;
       count = same ∙ old.count;
       state = ended_by old.state s made.0;

@@ -167,6 +167,7 @@ pub record IsMachine (setup : Opening) (steps : List Step) (capacity : ℕ) (pro
   pub room : setup.budget ≤ capacity
   pub within : length steps ≤ setup.budget
   pub small : setup.budget ≤ 1000000
+  pub some : 0 < length setup.entries
   pub many : length processors ≤ 8
   pub count : length processors ≡ length setup.entries
   pub state : State

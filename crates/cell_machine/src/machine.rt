@@ -272,6 +272,7 @@ impl Machine {
     /// The setup that it began with, which has its processors.
     pub fn setup(&self) -> &Setup
         ensures setup { result.now ≡ self.now.setup }
+        ensures some { 0 < length self.now.setup.entries }
         ensures count { IsSomeAnd (state_of self.now) (λ M. length M.spes ≡ length self.now.setup.entries) }
     {
         &self.setup

@@ -16,7 +16,7 @@ invariant_of-result c =
     let budget : c.setup.inside.budget ≡ c.args.setup.budget = ap (λ (S : Opening). S.budget) c.setup.view_is in
     let lines : c.args.setup.lines ≡ c.setup.inside.lines = ap (λ (S : Opening). S.lines) (sym c.setup.view_is) in
     let spes : length c.args.setup.entries ≡ c.len-spes.result = ap (λ (S : Opening). length S.entries) (sym c.setup.view_is) ∙ (let e = c.len-spes.ensures in omega arith) in
-    machine-new c.args.setup _ _ _ _ _ (subst IsOpening c.setup.view_is c.setup.invariant)
+    machine-new c.args.setup _ _ _ _ _ (subst IsOpening c.setup.view_is c.setup.invariant) c.requires
     (c.in_ok-processors.ensures c.args.setup
     (ap (λ (S : Opening). S.entries) (sym c.setup.view_is) ∙ sym c.deref.ensures.value)
     (ap (λ (S : Opening). S.placed) (sym c.setup.view_is) ∙ ap shown (sym c.deref-2.ensures.value)))

@@ -1,8 +1,7 @@
-use Rattle.std.proofs.Common.{◌∙◌, ap}
+use Rattle.std.proofs.Common.{◌∙◌, ap, length}
 use Rattle.cell_machine.specs.Run.{Ran}
 use Rattle.cell_machine.proofs.AllTwo.{two_length}
 use Rattle.cell_machine.proofs.Replays.{machine-state}
-use Rattle.std.proofs.Common.{length}
 use Rattle.cell_machine.specs.Shows.{ShowsSpe}
 use Rattle.cell_machine.proofs.machine.Machine.setup.Goals as goal
 

@@ -1,0 +1,14 @@
+pub mod Exchanges
+pub mod Apart
+pub mod Agree
+pub mod Prefixes
+pub mod Meets
+pub mod Places
+pub mod Parts
+pub mod Replaces
+pub mod LineVisits
+pub mod Visits
+pub mod Spans
+pub mod Steps
+pub mod Checks
+pub mod Accepted

@@ -1,0 +1,43 @@
+//! What can go wrong.
+
+use cell_machine::{MachineError, SetupError};
+use race_order::OrderError;
+use std::alloc::{AllocError, AllocFailed};
+use thiserror::Error;
+
+/// A call found no memory.
+#[derive(Clone, Copy, Debug, PartialEq, Eq, Error)]
+pub enum RaceError {
+    #[error("out of memory")]
+    Memory,
+}
+
+impl From<OrderError> for RaceError {
+    fn from(_: OrderError) -> RaceError {
+        RaceError::Memory
+    }
+}
+
+impl From<MachineError> for RaceError {
+    fn from(_: MachineError) -> RaceError {
+        RaceError::Memory
+    }
+}
+
+impl From<SetupError> for RaceError {
+    fn from(_: SetupError) -> RaceError {
+        RaceError::Memory
+    }
+}
+
+impl From<AllocError> for RaceError {
+    fn from(_: AllocError) -> RaceError {
+        RaceError::Memory
+    }
+}
+
+impl<T: Drop> From<AllocFailed<T>> for RaceError {
+    fn from(_: AllocFailed<T>) -> RaceError {
+        RaceError::Memory
+    }
+}

@@ -1,0 +1,18 @@
+//! Which steps of a run race, and that a run without a race is the same in every order that keeps its ordered pairs.
+//!
+//! The run is made again, with the order of its steps and a shadow: for each line of memory and stores, the accesses that no later one
+//! stands for.
+#![tactic(auto)]
+
+mod access;
+mod check;
+mod entry;
+mod error;
+mod line;
+mod list;
+mod shadow;
+mod sift;
+mod walk;
+
+pub use check::{Verdict, check_races};
+pub use error::RaceError;

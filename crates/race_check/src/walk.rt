@@ -1,0 +1,70 @@
+//! A run that is made again, with the order of its steps.
+
+ghost use Rattle.std.specs.Prelude.{◌≡◌, ◌+◌, ◌-◌, ◌<◌, ◌↔◌, [], ◌∷◌, ◌++◌, length, IfOk, IsTrue, IsSome};
+ghost use Rattle.cell_machine.specs.Run.{Ran, next_of};
+ghost use Rattle.race_order.specs.OrderedRuns.{IsOrdered};
+ghost use Rattle.race_check.specs.Races.{accesses_in};
+ghost use Rattle.race_check.specs.Walks.{IsAt, Stands};
+
+use crate::access::Access;
+use crate::error::RaceError;
+use cell_base::Step;
+use cell_machine::{Machine, Setup};
+use race_order::Orderer;
+use std::alloc::Global;
+
+/// A machine that makes a run again, and the order of the steps that it made.
+#[derive(Drop)]
+pub struct Walk {
+    machine: Machine,
+    orderer: Orderer,
+}
+
+impl Walk {
+    /// The walk of no step, from a setup that has a processor.
+    pub fn new(alloc: Global, setup: &Setup) -> Result<Walk, RaceError>
+        requires { 0 < length setup.now.entries }
+        ensures stands { IfOk result Stands }
+        ensures start { IfOk result (λ walk. walk.machine ≡ record { setup = setup.now; steps = [] }) }
+    {
+        let orderer = Orderer::new(alloc, setup)?;
+        let copy = setup.copy(alloc)?;
+        let machine = Machine::new(alloc, copy)?;
+        Ok(Walk { machine, orderer })
+    }
+
+    /// Makes the next step, and answers what it fetches, reads and writes.
+    pub fn advance(&mut self, step: Step) -> Result<Access, RaceError>
+        ghost m: { Ran }
+        requires same { m ≡ self.old.machine }
+        requires stands { Stands self.old }
+        requires allowed { IsSome (next_of m step) }
+        ensures stands { IfOk result (λ _. Stands self.new) }
+        ensures made { IfOk result (λ _. self.new.machine ≡ record m { steps = m.steps ++ step ∷ [] }) }
+        ensures access { IfOk result (λ access. accesses_in self.new.machine ≡ accesses_in m ++ access ∷ []) }
+    {
+        let Some(effect) = self.machine.effect(step) else {
+            unreachable!()
+        };
+        self.orderer.advance(step, effect)?;
+        let Ok(_) = self.machine.step(step) else {
+            unreachable!()
+        };
+        Ok(Access {
+            fetch: effect.fetch,
+            reads: effect.reads,
+            writes: effect.writes,
+        })
+    }
+
+    /// Whether step `i` is ordered before the last one.
+    pub fn before(&self, i: u32) -> bool
+        ghost m: { Ran }
+        requires same { m ≡ self.now.machine }
+        requires stands { Stands self.now }
+        requires below { i + 1 < length m.steps }
+        ensures { IsTrue result ↔ IsOrdered m i (length m.steps - 1) }
+    {
+        self.orderer.before(i)
+    }
+}
