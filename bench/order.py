@@ -32,12 +32,15 @@ def blocks(folder, budget):
     return name
 
 
-def recorded(folder, machine):
-    """The record of a run, in a file."""
-    output = f"{machine}.out"
-    with open(output, "wb") as file:
-        subprocess.run([os.path.join(run.ROOT, "cell"), "run", machine], stdout=file, cwd=run.ROOT, check=True)
-    return output
+def recorded(machine, budget):
+    """The record of a run in which the actors take turns, in a file."""
+    actors = 2 * SPES + 1
+    choices, record = f"{machine}.choices", f"{machine}.record"
+    with open(choices, "w") as file:
+        file.write(" ".join(str(actors * turn + turn % actors) for turn in range(budget)))
+    with open(record, "wb") as file:
+        subprocess.run([PROGRAM, "choose", machine, choices], stdout=file, cwd=run.ROOT, check=True)
+    return record
 
 
 def times(machine, record):
@@ -69,8 +72,8 @@ def main():
             ("bench/lists.s", lambda budget: run.machine_file(folder, "bench/lists.s", budget, SPES, LINES)),
             ("bench/counter.s", lambda budget: run.machine_file(folder, "bench/counter.s", budget, SPES, LINES)),
         ):
-            machines = [make(budget) for budget in run.BUDGETS]
-            growth(title, [(machine, recorded(folder, machine)) for machine in machines])
+            machines = [(make(budget), budget) for budget in run.BUDGETS]
+            growth(title, [(machine, recorded(machine, budget)) for machine, budget in machines])
 
 
 if __name__ == "__main__":

@@ -1,4 +1,5 @@
-"""What orders two steps of a run, rule by rule, told a second time in plain Python: docs/ORDER.md in words, race_order's `Rules` in definitions.
+"""What orders two steps of a run, rule by rule, and which race, told a second time in plain Python: docs/ORDER.md and docs/RACES.md in words, the
+definitions of race_order (`Rules`) and race_check (`Races`).
 
 A trace is a list of steps with their effects, as the program run_trace prints it. Nothing here is fast: every rule looks at every pair.
 """
@@ -250,3 +251,24 @@ def closure(count, found, without=None):
                 bits |= 1 << i | before[i]
         before.append(bits)
     return before
+
+
+def overlap(a, b):
+    """Whether two spans have a byte in common."""
+    return a["place"] == b["place"] and max(a["at"], b["at"]) < min(a["at"] + a["len"], b["at"] + b["len"])
+
+
+def conflict(first, second):
+    """Whether one of two steps writes a byte that the other fetches, reads or writes."""
+    def writes_into(a, b):
+        return any(overlap(a.effect["writes"][1], b.effect[which][1]) for which in ("fetch", "reads", "writes"))
+    return writes_into(first, second) or writes_into(second, first)
+
+
+def least_race(trace, before):
+    """The race of a trace with the least second place, and with it the least first; None where there is none."""
+    for j, later in enumerate(trace.steps):
+        for i, earlier in enumerate(trace.steps[:j]):
+            if not before[j] >> i & 1 and conflict(earlier, later):
+                return i, j
+    return None
