@@ -20,7 +20,7 @@ use Rattle.run_record.specs.declared.error.ReplayError.{ReplayError}
 use Rattle.run_record.specs.declared.error.ReplayError.TheVariants as replay_error
 use Rattle.run_record.proofs.Records.{record_again, record_faulted}
 use Rattle.cell_cli.specs.Causes.{record_fault_of, replay_fault_of}
-use Rattle.cell_cli.specs.Checks.{or_refused, replayed, end_of, differ, states_differ, verdict, with_replay, with_record, checked, FaultGives}
+use Rattle.cell_cli.specs.Checks.{or_refused, replayed, end_of, differ, states_differ, with_states, with_replay, with_record, checked, FaultGives}
 use Rattle.cell_cli.proofs.Ends.{end-is}
 
 -- ---- texts that differ
@@ -100,7 +100,7 @@ not_a_run setup text r steps replay_error.Memory b made h = tt
 not_a_run setup text r steps (replay_error.NotARun at) b made h =
     let refused = subst (λ ss. IsRefusedAt setup ss at) made (h at refl) in
     ap (with_record setup) (read_is text r b)
-    ∙ ap (with_replay setup (length r.steps) (length (spelling r.steps)) (drop r.end text)) (refused_is setup r.steps at refused)
+    ∙ ap (with_replay setup r.steps (length (spelling r.steps)) (drop r.end text)) (refused_is setup r.steps at refused)
 
 -- ---- the states
 
@@ -117,18 +117,20 @@ pub compared : (m : Ran) (at : ℕ) (states wanted : List ℕ) (d : Option ℕ) 
 compared m at states wanted d is h = with_end m (state_of m) at states wanted d is h
 
 whole_of : (setup : Opening) (text : List ℕ) (r : Reading) (o : Option State) (d : Option ℕ) → BeginsWith text r → IsRun setup r.steps → replay (opening setup) r.steps ≡ o
-    → IsSomeAnd o (λ M. d ≡ states_differ r.end (drop r.end text) (states_of M setup.shows (end_of M setup.budget))) → checked setup text ≡ verdict (length r.steps) d
+    → IsSomeAnd o (λ M. d ≡ states_differ r.end (drop r.end text) (states_of M setup.shows (end_of M setup.budget))) → checked setup text ≡ with_states (record { setup = setup; steps = r.steps }) d
 whole_of setup text r None d b run is h = absurd h
 whole_of setup text r (Some M) d b run is h =
+    let ran : Ran = record { setup = setup; steps = r.steps } in
     ap (with_record setup) (read_is text r b)
-    ∙ ap (with_replay setup (length r.steps) (length (spelling r.steps)) (drop r.end text)) (replays r.steps 0 setup.budget (opening setup) M run.1 is)
-    ∙ ap (λ (k : ℕ). verdict (length r.steps) (states_differ k (drop r.end text) (states_of M setup.shows (end_of M setup.budget)))) (sym b.1)
-    ∙ ap (verdict (length r.steps)) (sym h)
+    ∙ ap (with_replay setup r.steps (length (spelling r.steps)) (drop r.end text)) (replays r.steps 0 setup.budget (opening setup) M run.1 is)
+    ∙ ap (λ (k : ℕ). with_states ran (states_differ k (drop r.end text) (states_of M setup.shows (end_of M setup.budget)))) (sym b.1)
+    ∙ ap (with_states ran) (sym h)
 
 -- the record was read and replayed, and its states were compared
 pub whole : (setup : Opening) (text : List ℕ) (r : Reading) (steps : List Step) (m : Ran) (d : Option ℕ) → BeginsWith text r → steps ≡ r.steps → IsRun setup steps → m ≡ record { setup = setup; steps = steps }
-    → IsSomeAnd (state_of m) (λ M. d ≡ states_differ r.end (drop r.end text) (states_of M m.setup.shows (end_of M m.setup.budget))) → checked setup text ≡ verdict (length r.steps) d
+    → IsSomeAnd (state_of m) (λ M. d ≡ states_differ r.end (drop r.end text) (states_of M m.setup.shows (end_of M m.setup.budget))) → checked setup text ≡ with_states m d
 whole setup text r steps m d b made run stands h =
     let here : m ≡ record { setup = setup; steps = r.steps } = stands ∙ ap (λ (ss : List Step). record { setup = setup; steps = ss }) made in
     whole_of setup text r (replay (opening setup) r.steps) d b (subst (IsRun setup) made run) refl
     (subst (λ (n : Ran). IsSomeAnd (state_of n) (λ M. d ≡ states_differ r.end (drop r.end text) (states_of M n.setup.shows (end_of M n.setup.budget)))) here h)
+    ∙ ap (λ (n : Ran). with_states n d) (sym here)

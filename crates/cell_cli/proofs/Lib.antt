@@ -6,3 +6,4 @@ pub mod Runs
 pub mod Complete
 pub mod ReadBack
 pub mod Lengths
+pub mod Verdicts

@@ -15,6 +15,7 @@ use Rattle.cell_load.specs.Order.{machine_at}
 use Rattle.cell_load.specs.Sources.{Named, sources_of}
 use Rattle.cell_load.specs.Loaded.{loaded, NoRow}
 use Rattle.cell_machine.specs.Opening.{Opening, opening}
+use Rattle.cell_machine.specs.Run.{Ran}
 use Rattle.cell_report.specs.States.{states_of}
 use Rattle.run_record.proofs.Records.{record_again}
 use Rattle.cell_cli.specs.declared.fault.Fault.{Fault}
@@ -22,10 +23,10 @@ use Rattle.cell_cli.specs.declared.fault.FileId.{FileId}
 use Rattle.cell_cli.specs.declared.fault.FileId.TheVariants.{Machine, Source, Rec}
 use Rattle.cell_cli.specs.declared.fault.Status.{Status}
 use Rattle.cell_cli.specs.declared.fault.Status.TheVariants.{Done, Race, Refused}
-use Rattle.cell_cli.specs.Task.{Task, Work, refuse, ready, read, run_of, text_of}
+use Rattle.cell_cli.specs.Task.{Task, Work, refuse, ready, read, run_of, verdict_of}
 use Rattle.cell_cli.specs.Course.{Given, nothing, too_long, whole, within, given, by_given, if_whole, settled, Reads}
 use Rattle.cell_cli.specs.Forms.{text_limit, record_limit, with_image, sources_task, with_setup, with_plan, machine_task, run_task, check_task, by_verdict}
-use Rattle.cell_cli.specs.Checks.{differ, states_differ, end_of, verdict, replayed_text, with_record, with_replay, checked}
+use Rattle.cell_cli.specs.Checks.{differ, states_differ, end_of, with_states, with_record, with_replay, checked}
 use Rattle.cell_cli.specs.Runs.{PrintsRun}
 use Rattle.cell_cli.specs.Words.{Spoken, run, check, asm, no_form, task_of}
 use Rattle.cell_cli.specs.Answer.{Sinks, Ended, Ends, Answers}
@@ -44,16 +45,17 @@ states-same : (at : ℕ) (xs : List ℕ) → states_differ at xs xs ≡ None
 states-same at [] = refl
 states-same at (x ∷ xs) = differ-same at (x ∷ xs)
 
--- the text of a run is replayed
-run-checked : (setup : Opening) (text : List ℕ) (r : PrintsRun setup text) → checked setup text ≡ Ok (replayed_text (length r.steps))
+-- the text of a run is found to be that run
+run-checked : (setup : Opening) (text : List ℕ) (r : PrintsRun setup text) → checked setup text ≡ Ok (record { setup = setup; steps = r.steps })
 run-checked setup text r =
+    let ran : Ran = record { setup = setup; steps = r.steps } in
     let states = states_of r.last setup.shows (Some r.end) in
     let own : states_of r.last setup.shows (end_of r.last setup.budget) ≡ states = ap (states_of r.last setup.shows) (sym (end-is r.last setup.budget (Some r.end) r.ended)) in
     ap (λ t. checked setup t) r.printed
     ∙ ap (with_record setup) (record_again r.steps states r.recorded)
-    ∙ ap (with_replay setup (length r.steps) (length (spelling r.steps)) states) (replays r.steps 0 setup.budget (opening setup) r.last r.within r.replayed)
-    ∙ ap (λ t. verdict (length r.steps) (states_differ (length (spelling r.steps)) states t)) own
-    ∙ ap (verdict (length r.steps)) (states-same (length (spelling r.steps)) states)
+    ∙ ap (with_replay setup r.steps (length (spelling r.steps)) states) (replays r.steps 0 setup.budget (opening setup) r.last r.within r.replayed)
+    ∙ ap (λ t. with_states ran (states_differ (length (spelling r.steps)) states t)) own
+    ∙ ap (with_states ran) (states-same (length (spelling r.steps)) states)
 
 -- ---- files that are as they were
 
@@ -126,7 +128,7 @@ same-run : (S T : Opening) → run_of S ≡ run_of T → S ≡ T
 same-run S T e = cc
 
 kept-read : (files later : List File) (machine record_file text : List ℕ) (setup : Opening) → settled files (run_task machine) ≡ Ok (run_of setup) → (r : PrintsRun setup text)
-    → IsKeptIn files later (run_task machine) record_file text → settled later (check_task machine record_file) ≡ Ok (text_of (replayed_text (length r.steps)))
+    → IsKeptIn files later (run_task machine) record_file text → settled later (check_task machine record_file) ≡ Ok (verdict_of (record { setup = setup; steps = r.steps }))
 kept-read files later machine record_file text setup is r k =
     let next : Opening → Task = λ S. read Rec record_file record_limit (λ t. by_verdict (checked S t)) in
     let on = machine-on later (run_of setup) next machine (same-settled files later (run_task machine) k.same ∙ is) in
@@ -136,9 +138,9 @@ kept-read files later machine record_file text setup is r k =
 
 reads-back : (files : List File) (machine text : List ℕ) (setup : Opening) → settled files (run_task machine) ≡ Ok (run_of setup) → PrintsRun setup text → IsReadBack files machine text
 reads-back files machine text setup is r = record {
-  steps = r.steps;
-  states = states_of r.last setup.shows (Some r.end);
-  parts = r.printed;
+  setup = setup;
+  own = is;
+  run = r;
   checked = λ later record_file k. kept-read files later machine record_file text setup is r k;
 }
 

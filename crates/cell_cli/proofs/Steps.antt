@@ -9,6 +9,7 @@ use Rattle.spu_asm.specs.declared.error.AsmError.{AsmError}
 use Rattle.spu_asm.specs.declared.error.AsmError.TheVariants.{At, Memory as AsmMemory}
 use Rattle.cell_load.specs.Sources.{Named, sources_of}
 use Rattle.cell_machine.specs.Opening.{Opening}
+use Rattle.cell_machine.specs.Run.{Ran}
 use Rattle.cell_load.specs.Entries.{Entry}
 use Rattle.cell_load.specs.Order.{machine_at}
 use Rattle.cell_load.specs.Loaded.{loaded, NoRow, LoadGives}
@@ -22,7 +23,7 @@ use Rattle.cell_cli.specs.declared.fault.Fault.TheVariants.{Usage, ReadFault, Wr
 use Rattle.cell_cli.specs.declared.fault.FileId.{FileId}
 use Rattle.cell_cli.specs.declared.fault.FileId.TheVariants as file_id
 use Rattle.cell_cli.specs.Causes.{plan_fault_of, source_fault_of, load_fault_of}
-use Rattle.cell_cli.specs.Task.{Task, read, ready, text_of}
+use Rattle.cell_cli.specs.Task.{Task, read, ready, verdict_of}
 use Rattle.cell_cli.specs.Course.{whole, too_long, given, by_given, if_whole, settled, Reads}
 use Rattle.cell_cli.specs.Forms.{with_image, with_plan, with_setup, source_task, sources_task, by_verdict}
 use Rattle.cell_cli.specs.Answer.{Leads, RefusesIn, Comes, FailsBy, AtFile, AtMachine, AtMachineOrRecord}
@@ -112,10 +113,10 @@ refuses_then files task rest old now new fault l kept r =
 -- ---- a check
 
 -- what was read was checked
-pub leads_verdict : (files : List File) (wanted : Result (List ℕ) Fault) (text : List ℕ) → wanted ≡ Ok text → Leads files (by_verdict wanted) (ready (text_of text))
-leads_verdict files wanted text is = leads_here files _ _ (ap by_verdict is)
+pub leads_verdict : (files : List File) (wanted : Result Ran Fault) (m : Ran) → wanted ≡ Ok m → Leads files (by_verdict wanted) (ready (verdict_of m))
+leads_verdict files wanted m is = leads_here files _ _ (ap by_verdict is)
 
-pub refuses_verdict : (files : List File) (wanted : Result (List ℕ) Fault) (old new : Ledger) (fault : Fault) → FaultGives fault wanted → RefusesIn files (by_verdict wanted) old new fault
+pub refuses_verdict : (files : List File) (wanted : Result Ran Fault) (old new : Ledger) (fault : Fault) → FaultGives fault wanted → RefusesIn files (by_verdict wanted) old new fault
 refuses_verdict files wanted old new Memory is = tt
 refuses_verdict files wanted old new (ReadFault file) is = absurd is
 refuses_verdict files wanted old new Usage is = ap (λ w. settled files (by_verdict w)) is

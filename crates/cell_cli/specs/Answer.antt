@@ -58,11 +58,19 @@ pub record Sinks : Type 0 where
   pub taken : Option (List ℕ)
   pub faults : ℕ
 
+-- the whole text of this end went out
+abbrev pub Wrote : Work → Status → Option (List ℕ) → Option (List ℕ) → Type 0
+Wrote work status old new = (text : List ℕ) × Writes work status text × Took old new text
+
+-- a part of the text of some end went out
+abbrev pub WrotePart : Work → Option (List ℕ) → Option (List ℕ) → Type 0
+WrotePart work old new = (status : Status) × (text : List ℕ) × Writes work status text × TookPart old new text
+
 -- how work ends: its text went out, or a part of it, or nothing
 abbrev pub Ends : Work → Sinks → Sinks → Status → Type 0
-Ends work old new Done = (text : List ℕ) × Writes work text × Took old.taken new.taken text
-Ends work old new (Race first second) = ⊥
-Ends work old new (Refused WriteFault) = Rose old.faults new.faults × ((text : List ℕ) × Writes work text × TookPart old.taken new.taken text)
+Ends work old new Done = Wrote work Done old.taken new.taken
+Ends work old new (Race first second) = Wrote work (Race first second) old.taken new.taken
+Ends work old new (Refused WriteFault) = Rose old.faults new.faults × WrotePart work old.taken new.taken
 Ends work old new (Refused Memory) = new.taken ≡ old.taken
 Ends work old new (Refused fault) = ⊥
 

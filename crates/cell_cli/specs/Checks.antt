@@ -1,18 +1,17 @@
 -- What a record file is checked for.
-use Rattle.std.specs.Prelude.{ℕ, ◌≡◌, zero, suc, ◌+◌, ◌==◌, not, nat_lt, Bool, List, [], ◌∷◌, ◌++◌, length, codes, slice_get, is_none, Option, Some, None, Result, Ok, Err, if◌then◌else◌}
+use Rattle.std.specs.Prelude.{ℕ, ◌≡◌, zero, suc, ◌+◌, ◌==◌, not, nat_lt, Bool, List, [], ◌∷◌, length, slice_get, is_none, Option, Some, None, Result, Ok, Err, if◌then◌else◌}
 use Rattle.std.specs.Option.{option_map_or}
 use Rattle.std.specs.List.{flat_map, list_all, range_with_len}
-use Rattle.std.specs.Fmt.{decimal}
 use Rattle.cell_base.specs.declared.steps.Step.{Step}
 use Rattle.cell_base.specs.declared.steps.Step.TheVariants.{Exec, Atomic, Host}
-use Rattle.cell_base.specs.Records.{spelling, line_feed}
+use Rattle.cell_base.specs.Records.{spelling}
 use Rattle.cell_machine.specs.declared.status.End.{End}
 use Rattle.cell_machine.specs.declared.status.End.TheVariants.{AllStopped, Stuck, Budget}
 use Rattle.cell_machine.specs.Spe.{Spe}
 use Rattle.cell_machine.specs.State.{State}
 use Rattle.cell_machine.specs.Next.{next}
 use Rattle.cell_machine.specs.Opening.{Opening, opening}
-use Rattle.cell_machine.specs.Run.{is_quiet, steps_of_number}
+use Rattle.cell_machine.specs.Run.{Ran, is_quiet, steps_of_number}
 use Rattle.cell_report.specs.States.{states_of}
 use Rattle.run_record.specs.Reading.{record_at}
 use Rattle.cell_cli.specs.declared.fault.Fault.{Fault}
@@ -71,25 +70,23 @@ states_differ at (x ∷ xs) wanted = differ at (x ∷ xs) wanted
 
 -- ---- the whole
 
--- what is written where n steps were replayed
-abbrev pub replayed_text : ℕ → List ℕ
-replayed_text n = codes "replayed " ++ decimal n ++ line_feed
-
-abbrev pub verdict : ℕ → Option ℕ → Result (List ℕ) Fault
-verdict n None = Ok (replayed_text n)
-verdict n (Some at) = Err (StatesDiffer at)
+-- the run, unless its states differ from those in the file
+abbrev pub with_states : Ran → Option ℕ → Result Ran Fault
+with_states m None = Ok m
+with_states m (Some at) = Err (StatesDiffer at)
 
 -- the states behind the record, where they begin in the file, are those of the replay
-abbrev pub with_replay : Opening → ℕ → ℕ → List ℕ → Result State ℕ → Result (List ℕ) Fault
-with_replay setup n at states (Err step) = Err (NotARun step)
-with_replay setup n at states (Ok M) = verdict n (states_differ at states (states_of M setup.shows (end_of M setup.budget)))
+abbrev pub with_replay : Opening → List Step → ℕ → List ℕ → Result State ℕ → Result Ran Fault
+with_replay setup steps at states (Err step) = Err (NotARun step)
+with_replay setup steps at states (Ok M) =
+    with_states (record { setup = setup; steps = steps }) (states_differ at states (states_of M setup.shows (end_of M setup.budget)))
 
-abbrev pub with_record : Opening → Result (List Step × List ℕ) ℕ → Result (List ℕ) Fault
+abbrev pub with_record : Opening → Result (List Step × List ℕ) ℕ → Result Ran Fault
 with_record setup (Err line) = Err (BadRecord line)
-with_record setup (Ok (steps, states)) = with_replay setup (length steps) (length (spelling steps)) states (replayed 0 setup.budget (opening setup) steps)
+with_record setup (Ok (steps, states)) = with_replay setup steps (length (spelling steps)) states (replayed 0 setup.budget (opening setup) steps)
 
--- the verdict's text, or the first refusal
-abbrev pub checked : Opening → List ℕ → Result (List ℕ) Fault
+-- the run that the record is, or the first refusal
+abbrev pub checked : Opening → List ℕ → Result Ran Fault
 checked setup text = with_record setup (record_at text)
 
 -- ---- what functions return of it, unless memory ran out
@@ -99,6 +96,6 @@ FaultGives Memory wanted = Unit {0}
 FaultGives (ReadFault file) wanted = ⊥
 FaultGives fault wanted = wanted ≡ Err fault
 
-abbrev pub CheckGives : {X Y : Type 0} → (X → Y) → Result X Fault → Result Y Fault → Type 0
-CheckGives view (Ok x) wanted = wanted ≡ Ok (view x)
-CheckGives view (Err fault) wanted = FaultGives fault wanted
+abbrev pub CheckGives : {X : Type 0} → Result X Fault → Result X Fault → Type 0
+CheckGives (Ok x) wanted = wanted ≡ Ok x
+CheckGives (Err fault) wanted = FaultGives fault wanted

@@ -1,9 +1,17 @@
--- The exit codes.
+-- How the program ends.
 use Rattle.std.specs.Prelude.{ℕ}
+use Rattle.race_check.specs.declared.check.Verdict.{Verdict}
+use Rattle.race_check.specs.declared.check.Verdict.TheVariants.{Accepted, Race as Racing}
 use Rattle.cell_cli.specs.declared.fault.Fault.TheVariants.{Usage, ReadFault, WriteFault, NotARun, StatesDiffer, Memory}
 use Rattle.cell_cli.specs.declared.fault.Status.{Status}
 use Rattle.cell_cli.specs.declared.fault.Status.TheVariants.{Done, Race, Refused}
 
+-- where a verdict was written
+abbrev pub status_of : Verdict → Status
+status_of Accepted = Done
+status_of (Racing first second) = Race first second
+
+-- the exit code
 abbrev pub code_of : Status → ℕ
 code_of Done = 0
 code_of (Race first second) = 1

@@ -9,13 +9,14 @@ use Rattle.cell_load.specs.Order.{machine_at}
 use Rattle.cell_load.specs.Sources.{Named, sources_of}
 use Rattle.cell_load.specs.Loaded.{loaded, NoRow}
 use Rattle.cell_machine.specs.Opening.{Opening}
+use Rattle.cell_machine.specs.Run.{Ran}
 use Rattle.cell_report.specs.Images.{image_lines}
 use Rattle.cell_cli.specs.declared.fault.Fault.{Fault}
 use Rattle.cell_cli.specs.declared.fault.Fault.TheVariants.{Machine as BadMachine, Source as BadSource, NotInTable, Memory}
 use Rattle.cell_cli.specs.declared.fault.FileId.{FileId}
 use Rattle.cell_cli.specs.declared.fault.FileId.TheVariants.{Machine, Source, Rec}
 use Rattle.cell_cli.specs.Checks.{checked}
-use Rattle.cell_cli.specs.Task.{Task, refuse, ready, read, run_of, text_of}
+use Rattle.cell_cli.specs.Task.{Task, refuse, ready, read, run_of, text_of, verdict_of}
 
 -- how long a machine file or a source may be
 abbrev pub text_limit : ℕ
@@ -62,9 +63,9 @@ run_task machine = machine_task machine (λ setup. ready (run_of setup))
 abbrev pub record_limit : ℕ
 record_limit = 33554432
 
-abbrev pub by_verdict : Result (List ℕ) Fault → Task
+abbrev pub by_verdict : Result Ran Fault → Task
 by_verdict (Err fault) = refuse fault
-by_verdict (Ok text) = ready (text_of text)
+by_verdict (Ok m) = ready (verdict_of m)
 
 -- `check MACHINE RECORD`
 abbrev pub check_task : List ℕ → List ℕ → Task

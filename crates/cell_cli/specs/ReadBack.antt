@@ -1,15 +1,14 @@
 -- What `run` writes is read back by `check`.
-use Rattle.std.specs.Prelude.{ℕ, ◌≡◌, List, ◌++◌, length, Some, Ok}
-use Rattle.cell_base.specs.declared.steps.Step.{Step}
-use Rattle.cell_base.specs.Records.{spelling}
+use Rattle.std.specs.Prelude.{ℕ, ◌≡◌, List, Some, Ok}
 use Rattle.cell_io.specs.Files.{File, file_named}
+use Rattle.cell_machine.specs.Opening.{Opening}
 use Rattle.cell_cli.specs.declared.fault.FileId.{FileId}
 use Rattle.cell_cli.specs.declared.fault.Status.{Status}
 use Rattle.cell_cli.specs.declared.fault.Status.TheVariants.{Done}
-use Rattle.cell_cli.specs.Task.{Task, text_of}
+use Rattle.cell_cli.specs.Task.{Task, run_of, verdict_of}
 use Rattle.cell_cli.specs.Course.{settled, Reads}
 use Rattle.cell_cli.specs.Forms.{run_task, check_task}
-use Rattle.cell_cli.specs.Checks.{replayed_text}
+use Rattle.cell_cli.specs.Runs.{PrintsRun}
 use Rattle.cell_cli.specs.Words.{Spoken, run}
 use Rattle.cell_cli.specs.Answer.{Sinks}
 use Rattle.cell_cli.specs.Output.{Took}
@@ -19,14 +18,14 @@ pub record IsKeptIn (files later : List File) (task : Task) (name text : List �
   pub same : (file : FileId) (other : List ℕ) → Reads files task file other → file_named later other ≡ file_named files other
   pub kept : file_named later name ≡ Some text
 
--- The text is the record of N steps and what follows it; and wherever it is kept in a file, whatever the name, `check` of the machine
--- file and of that file is to write `replayed N`.
+-- The text prints a run of the setup that the files stand for; and wherever it is kept in a file, whatever the name, `check` of the machine
+-- file and of that file is to give the verdict on this very run.
 pub record IsReadBack (files : List File) (machine text : List ℕ) : Type 0 where
-  pub steps : List Step
-  pub states : List ℕ
-  pub parts : text ≡ spelling steps ++ states
+  pub setup : Opening
+  pub own : settled files (run_task machine) ≡ Ok (run_of setup)
+  pub run : PrintsRun setup text
   pub checked : (later : List File) (record_file : List ℕ) → IsKeptIn files later (run_task machine) record_file text
-      → settled later (check_task machine record_file) ≡ Ok (text_of (replayed_text (length steps)))
+      → settled later (check_task machine record_file) ≡ Ok (verdict_of (record { setup = setup; steps = run.steps }))
 
 -- what a run that is done added to the sink is read back
 abbrev pub ReadsBack : List File → Spoken → Sinks → Sinks → Status → Type 0

@@ -1,13 +1,15 @@
 -- What a form of words asks for: files to read, one after the other, and then a refusal or work to do.
 use Rattle.std.specs.Prelude.{ℕ, List}
 use Rattle.cell_machine.specs.Opening.{Opening}
+use Rattle.cell_machine.specs.Run.{Ran}
 use Rattle.cell_cli.specs.declared.fault.Fault.{Fault}
 use Rattle.cell_cli.specs.declared.fault.FileId.{FileId}
 
--- the texts of one run of this setup; or this text
+-- the texts of one run of this setup; this text; or the verdict on this run
 pub data Work : Type 0 where
   run_of : Opening → Work
   text_of : List ℕ → Work
+  verdict_of : Ran → Work
 
 pub data Task : Type 0 where
   refuse : Fault → Task

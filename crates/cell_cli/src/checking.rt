@@ -1,18 +1,17 @@
 //! Checking a record file against a setup.
 
-ghost use Rattle.std.specs.Prelude.{◌≡◌, ◌≤◌, ◌<◌, ◌+◌, ◌^◌, drop, length, IfErr, IfOk, OnOk, IsSomeAnd};
+ghost use Rattle.std.specs.Prelude.{◌≡◌, ◌≤◌, ◌<◌, ◌+◌, ◌^◌, drop, length, IfErr, IfOk, IsSomeAnd};
 ghost use Rattle.cell_machine.specs.Run.{state_of};
 ghost use Rattle.cell_report.specs.States.{states_of};
 ghost use Rattle.cell_cli.specs.Causes.{IsOfInput};
-ghost use Rattle.cell_cli.specs.Checks.{checked, differ, end_of, replayed_text, states_differ, verdict, CheckGives};
+ghost use Rattle.cell_cli.specs.Checks.{checked, differ, end_of, states_differ, CheckGives};
 
 use crate::causes::{record_fault, replay_fault};
 use crate::fault::Fault;
-use cell_base::line_text::put_decimal;
 use cell_machine::{Machine, Setup};
 use cell_report::{TextError, states_text};
 use run_record::{read_record, replay};
-use std::alloc::{AllocError, Global};
+use std::alloc::Global;
 
 #[tactic(auto, using(crate::proofs::Checks::differ_left, crate::proofs::Checks::differ_right))]
 /// The number of the first byte where the texts differ, the first byte having the number `start`. A text that ends early differs at its end.
@@ -66,37 +65,12 @@ fn compare_states(
     Ok(states_differ(end as u32, &text[end..], wanted.as_slice()))
 }
 
-/// What is written where `steps` steps were replayed.
-fn replayed_text(alloc: Global, steps: u32) -> Result<Vec<u8>, AllocError>
-    ensures { IfOk result (λ text. text.items ≡ replayed_text steps) }
-{
-    let mut text = Vec::new(alloc);
-    text.extend_from_slice(b"replayed ")?;
-    put_decimal(&mut text, steps)?;
-    text.push(b'\n')?;
-    Ok(text)
-}
-
-/// The verdict's text, or where the states differ.
-fn verdict(alloc: Global, steps: u32, different: Option<u32>) -> Result<Vec<u8>, Fault>
-    ensures input { IfErr result IsOfInput }
-    ensures gives { CheckGives (λ v. v.items) result (verdict steps different) }
-{
-    if let Some(at) = different {
-        return Err(Fault::StatesDiffer { at });
-    }
-    match replayed_text(alloc, steps) {
-        Ok(text) => Ok(text),
-        Err(_) => Err(Fault::Memory),
-    }
-}
-
-/// Replays the record that begins a record file, compares the states after it, and answers the verdict's text.
-pub fn check_record(alloc: Global, setup: Setup, text: &[u8]) -> Result<Vec<u8>, Fault>
+/// The machine of the run that a record file is: its record is replayed, and the states after it are compared.
+pub fn check_record(alloc: Global, setup: Setup, text: &[u8]) -> Result<Machine, Fault>
     requires some { 0 < length setup.entries }
     requires fits { length text.now < 2 ^ 32 }
     ensures input { IfErr result IsOfInput }
-    ensures gives { CheckGives (λ v. v.items) result (checked setup text.now) }
+    ensures gives { CheckGives result (checked setup text.now) }
 {
     let record = match read_record(alloc, text) {
         Ok(record) => record,
@@ -106,8 +80,9 @@ pub fn check_record(alloc: Global, setup: Setup, text: &[u8]) -> Result<Vec<u8>,
         Ok(machine) => machine,
         Err(error) => return Err(replay_fault(error)),
     };
-    let Ok(different) = compare_states(alloc, &machine, text, record.end()) else {
-        return Err(Fault::Memory);
-    };
-    verdict(alloc, record.steps().len() as u32, different)
+    match compare_states(alloc, &machine, text, record.end()) {
+        Ok(None) => Ok(machine),
+        Ok(Some(at)) => Err(Fault::StatesDiffer { at }),
+        Err(_) => Err(Fault::Memory),
+    }
 }

@@ -1,8 +1,9 @@
 //! The answers of the program.
 
 ghost use Rattle.std.specs.Prelude.{◌≡◌};
-ghost use Rattle.cell_cli.specs.Code.{code_of};
+ghost use Rattle.cell_cli.specs.Code.{code_of, status_of};
 
+use race_check::Verdict;
 use spu_asm::AsmKind;
 use std::fmt;
 
@@ -62,7 +63,7 @@ pub enum Fault {
 #[derive(Clone, Copy, Debug, PartialEq, Eq)]
 pub enum Status {
     Done,
-    /// Two steps of the record that race, by their places.
+    /// Two steps of the record that race, by their places. The verdict that says so was written.
     Race { first: u32, second: u32 },
     Refused(Fault),
 }
@@ -88,6 +89,18 @@ impl Status {
                 Fault::NotARun { .. } | Fault::StatesDiffer { .. } => 6,
                 Fault::Memory => 7,
             },
+        }
+    }
+}
+
+impl From<Verdict> for Status {
+    ghost from_gives = { λ verdict status. status ≡ status_of verdict };
+
+    /// How the program ends when this verdict was written.
+    fn from(verdict: Verdict) -> Status {
+        match verdict {
+            Verdict::Accepted => Status::Done,
+            Verdict::Race { first, second } => Status::Race { first, second },
         }
     }
 }

@@ -1,6 +1,6 @@
 //! What the program has in hand.
 
-use cell_machine::Setup;
+use cell_machine::{Machine, Setup};
 
 /// The work that is left where nothing was refused.
 #[derive(Drop)]
@@ -9,4 +9,6 @@ pub enum Job {
     Run { setup: Setup },
     /// To write this text.
     Text { text: Vec<u8> },
+    /// To look for races of this machine's run, and to write the verdict.
+    Verdict { machine: Machine },
 }

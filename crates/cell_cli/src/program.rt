@@ -5,7 +5,7 @@ ghost use Rattle.std.specs.Option.{ForSome};
 ghost use Rattle.cell_io.specs.Sink.{FailsWithCause, Takes};
 ghost use Rattle.cell_io.specs.Store.{NoneFell};
 ghost use Rattle.cell_cli.specs.Causes.{IsOfInput};
-ghost use Rattle.cell_cli.specs.Task.{ready, run_of};
+ghost use Rattle.cell_cli.specs.Task.{ready, run_of, verdict_of};
 ghost use Rattle.cell_cli.specs.Forms.{run_task, check_task, asm_task};
 ghost use Rattle.cell_cli.specs.Words.{spoken, task_of, FailsIn, IsPrepared, no_form};
 ghost use Rattle.cell_cli.specs.Jobs.{work_of, CanBeDone};
@@ -19,8 +19,9 @@ use crate::reading::{read_file, read_setup, read_source};
 use crate::run::run;
 use crate::words::{Form, form_of};
 use cell_io::{Sink, SinkFault, Store};
-use cell_machine::Setup;
-use cell_report::{image_text, record_text, states_text};
+use cell_machine::{Machine, Setup};
+use cell_report::{image_text, record_text, states_text, verdict_text};
+use race_check::check_races;
 use std::alloc::Global;
 
 /// How long a record file may be, in bytes.
@@ -71,8 +72,8 @@ fn prepare_check<T: Store>(
 {
     let setup = read_setup(alloc, files, machine)?;
     let bytes = read_file(alloc, files, FileId::Rec, record_file, RECORD_LIMIT)?;
-    let text = check_record(alloc, setup, bytes.as_slice())?;
-    Ok(Job::Text { text })
+    let machine = check_record(alloc, setup, bytes.as_slice())?;
+    Ok(Job::Verdict { machine })
 }
 
 /// Reads the files that the words ask for, and answers the work that is left.
@@ -126,6 +127,23 @@ fn finish_run<K: Sink>(alloc: Global, setup: Setup, out: &mut K) -> Status
     }
 }
 
+/// Looks for races of the machine's run, and writes the verdict. It is found and its text is made before anything is put.
+fn finish_check<K: Sink>(alloc: Global, machine: &Machine, out: &mut K) -> Status
+    ensures sink_count { K.faults out.old ≤ K.faults out.new }
+    ensures ends { Ends (verdict_of machine.now) (record { taken = K.taken out.old; faults = K.faults out.old }) (record { taken = K.taken out.new; faults = K.faults out.new }) result }
+{
+    let Ok(verdict) = check_races(alloc, machine) else {
+        return Status::Refused(Fault::Memory);
+    };
+    let Ok(text) = verdict_text(alloc, machine, verdict) else {
+        return Status::Refused(Fault::Memory);
+    };
+    match out.put(text.as_slice()) {
+        Ok(()) => Status::from(verdict),
+        Err(SinkFault) => Status::Refused(Fault::WriteFault),
+    }
+}
+
 /// Does the work.
 fn finish<K: Sink>(alloc: Global, job: Job, out: &mut K) -> Status
     requires { CanBeDone job }
@@ -138,6 +156,7 @@ fn finish<K: Sink>(alloc: Global, job: Job, out: &mut K) -> Status
             Ok(()) => Status::Done,
             Err(SinkFault) => Status::Refused(Fault::WriteFault),
         },
+        Job::Verdict { machine } => finish_check(alloc, &machine, out),
     }
 }
 
@@ -169,7 +188,7 @@ fn answer<T: Store, K: Sink>(alloc: Global, words: &[String], files: &mut T, out
 #[tactic(auto, using(crate::proofs::Complete::exact, crate::proofs::Complete::complete, crate::proofs::ReadBack::read_back))]
 /// Does what the words ask for: reads files, and writes to the sink. Refusals are tried in this order: the words, the machine
 /// file (read, length, form), each source in turn (read, length, assembling), the instruction words, the record file (read, length, form,
-/// steps, states), the output. Nothing is written before the output.
+/// steps, states), its races, the output. Nothing is written before the output. A race is written as its verdict, and then answered.
 pub fn cell<T: Store, K: Sink>(
     alloc: Global,
     words: &[String],
@@ -195,7 +214,7 @@ pub fn cell<T: Store, K: Sink>(
         IsComplete told (task_of (spoken (map string_bytes words.now))) (T.ledger files.old) (T.ledger files.new)
         (record { taken = K.taken out.old; faults = K.faults out.old }) (record { taken = K.taken out.new; faults = K.faults out.new }) result) }
 
-    // What a run that is done wrote is read back: `check` of it is to write `replayed N`.
+    // What a run that is done wrote is read back: `check` of it is to give the verdict on that run.
     ensures read_back { ForSome (T.files files.old) (λ told.
         ReadsBack told (spoken (map string_bytes words.now))
         (record { taken = K.taken out.old; faults = K.faults out.old }) (record { taken = K.taken out.new; faults = K.faults out.new }) result) }

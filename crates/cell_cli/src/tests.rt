@@ -123,7 +123,7 @@ fn a_put_that_fails_is_told(rt: HostRuntime) -> Result<(), Fail> {
         let cut = vec![in alloc; Cut { call: 0, bytes }]?;
         let (status, out) = told(alloc, check_words(alloc)?, Vec::new(alloc), cut)?;
         assert_eq!(rt; status, Status::Refused(Fault::WriteFault));
-        assert_eq!(rt; Some(out.bytes()), b"replayed 1\n".get(..taken));
+        assert_eq!(rt; Some(out.bytes()), b"accepted 1\n".get(..taken));
     }
     Ok(())
 }

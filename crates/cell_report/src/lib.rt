@@ -7,8 +7,10 @@ mod image;
 mod record;
 mod shows;
 mod states;
+mod verdict;
 
 pub use error::TextError;
 pub use image::image_text;
 pub use record::record_text;
 pub use states::states_text;
+pub use verdict::verdict_text;

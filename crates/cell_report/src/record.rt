@@ -9,7 +9,7 @@ use cell_base::line_text::put_decimal;
 use std::alloc::{AllocError, Global};
 
 /// Writes a space and a number at the end.
-fn put_field(out: &mut Vec<u8>, n: u32) -> Result<(), AllocError>
+pub fn put_field(out: &mut Vec<u8>, n: u32) -> Result<(), AllocError>
     ensures { OnOk result (out.new.items ≡ out.old.items ++ field n) }
 {
     out.push(b' ')?;
@@ -17,7 +17,7 @@ fn put_field(out: &mut Vec<u8>, n: u32) -> Result<(), AllocError>
 }
 
 /// Writes the line of a step at the end.
-fn put_step(out: &mut Vec<u8>, step: Step) -> Result<(), AllocError>
+pub fn put_step(out: &mut Vec<u8>, step: Step) -> Result<(), AllocError>
     ensures { OnOk result (out.new.items ≡ out.old.items ++ step_line step) }
 {
     match step {

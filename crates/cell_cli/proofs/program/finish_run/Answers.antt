@@ -1,4 +1,5 @@
 use Rattle.std.proofs.Common.{◌++◌}
+use Rattle.cell_cli.specs.declared.fault.Status.TheVariants.{Done}
 use Rattle.cell_cli.proofs.Puts.{took, took_part}
 use Rattle.cell_cli.proofs.Runs.{prints_own}
 use Rattle.cell_cli.proofs.program.finish_run.Goals as goal
@@ -16,6 +17,7 @@ pub returns-clause-ends : goal.returns-clause-ends
 returns-clause-ends g c = (
   c.in-Err.ensures.cause.1,
   (
+    Done,
     c.as_slice.result.now ++ c.as_slice-2.result.now,
     prints_own c.in-Ok.machine c.args.setup _ _ _ _ _ c.in-Ok.ensures.setup c.in-Ok.ensures.ended c.steps.ensures.steps c.steps.ensures.run
         (record { order = c.steps.ensures.order; lists = c.steps.ensures.lists; locks = c.steps.ensures.locks; recorded = c.steps.ensures.recorded })

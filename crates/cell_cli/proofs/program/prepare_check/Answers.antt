@@ -29,20 +29,20 @@ returns-in_err-bytes-clause-comes g c = λ told is.
     let r = c.in_err-bytes.ensures.comes told (c.read_setup.ensures.same ∙ is) (λ text. by_verdict (checked c.in_ok-setup.setup text)) in
     rw (p.1, p.2) (refuses_then told _ _ _ _ _ _ l c.in_ok-setup.ensures.kept r)
 
-pub returns-in_err-text-clause-cause : goal.returns-in_err-text-clause-cause
-returns-in_err-text-clause-cause g c =
-    let p = err_from_is_err_and c.from_residual-in_err-text.result c.from_residual-in_err-text.ensures.1 in
-    rw (p.1, p.2) (fails_none c.args.machine.now c.args.record_file.now _ _ _ _ c.in_err-text.ensures.gives)
+pub returns-in_err-machine-clause-cause : goal.returns-in_err-machine-clause-cause
+returns-in_err-machine-clause-cause g c =
+    let p = err_from_is_err_and c.from_residual-in_err-machine.result c.from_residual-in_err-machine.ensures.1 in
+    rw (p.1, p.2) (fails_none c.args.machine.now c.args.record_file.now _ _ _ _ c.in_err-machine.ensures.gives)
 
-pub returns-in_err-text-clause-comes : goal.returns-in_err-text-clause-comes
-returns-in_err-text-clause-comes g c = λ told is.
-    let p = err_from_is_err_and c.from_residual-in_err-text.result c.from_residual-in_err-text.ensures.1 in
+pub returns-in_err-machine-clause-comes : goal.returns-in_err-machine-clause-comes
+returns-in_err-machine-clause-comes g c = λ told is.
+    let p = err_from_is_err_and c.from_residual-in_err-machine.result c.from_residual-in_err-machine.ensures.1 in
     let l = c.in_ok-setup.ensures.comes told is (λ setup. read Rec c.args.record_file.now record_limit (λ text. by_verdict (checked setup text))) in
     let r = c.in_ok-bytes.ensures.comes told (c.read_setup.ensures.same ∙ is) (λ text. by_verdict (checked c.in_ok-setup.setup text)) in
-    rw (p.1, p.2) (refuses_after told _ _ _ _ _ (leads_on l r) (refuses_verdict told _ _ _ _ (rw c.as_slice.ensures.value at c.in_err-text.ensures.gives)))
+    rw (p.1, p.2) (refuses_after told _ _ _ _ _ (leads_on l r) (refuses_verdict told _ _ _ _ (rw c.as_slice.ensures.value at c.in_err-machine.ensures.gives)))
 
 pub returns-clause-comes : goal.returns-clause-comes
 returns-clause-comes g c = λ told is.
     let l = c.in_ok-setup.ensures.comes told is (λ setup. read Rec c.args.record_file.now record_limit (λ text. by_verdict (checked setup text))) in
     let r = c.in_ok-bytes.ensures.comes told (c.read_setup.ensures.same ∙ is) (λ text. by_verdict (checked c.in_ok-setup.setup text)) in
-    leads_on (leads_on l r) (leads_verdict told _ _ (rw c.as_slice.ensures.value at c.in_ok-text.ensures.gives))
+    leads_on (leads_on l r) (leads_verdict told _ _ (rw c.as_slice.ensures.value at c.in_ok-machine.ensures.gives))
