@@ -1,5 +1,5 @@
 //! The shared machine.
-ghost use Rattle.std.specs.Prelude.{◌≡◌, ◌⊎◌, ℕ, ◌+◌, ◌-◌, ◌*◌, ◌%◌, ◌^◌, ◌<◌, ◌≤◌, [], ◌∷◌, ◌++◌, length, None, Some, IfOk, IfErr, IfSome, IfNone, IsSome};
+ghost use Rattle.std.specs.Prelude.{◌≡◌, ◌+◌, ◌-◌, ◌%◌, ◌<◌, ◌≤◌, [], length, None, Some, IfOk, IfErr, IfSome, IfNone, IsSome};
 ghost use mathlib.Core.List.{IsPrefix};
 ghost use Rattle.cell_base.specs.declared.steps.Step as step;
 ghost use Rattle.cell_machine.specs.Run.{next_of, EndsAs};

@@ -1,5 +1,5 @@
 //! What the steps on the turn word do to a seat: each turn is an `ask`, and then a `publish` or a `release`.
-ghost use Rattle.std.specs.Prelude.{◌≡◌, ℕ, ◌+◌, ◌*◌, ◌%◌, ◌^◌, ◌<◌, ◌≤◌, [], ◌∷◌, ◌++◌, length, IfOk, IfErr, None, false};
+ghost use Rattle.std.specs.Prelude.{◌≡◌, ◌+◌, ◌%◌, ◌^◌, ◌<◌, [], ◌∷◌, ◌++◌, length, IfOk, IfErr, None, false};
 ghost use Rattle.cell_base.specs.declared.steps.Step as step;
 ghost use Rattle.cell_turn.specs.Choice.{ran};
 ghost use Rattle.cell_turn.specs.Turn.{with_step, opening_view};
