@@ -181,6 +181,7 @@ impl Shared {
     pub fn step_as<R: Wait>(&self, rt: &R, pass: &mut Pass, actor: Actor, choice: u64) -> Turned
         requires own { Belongs pass.old self.now }
         ensures same { Stays pass.old pass.new }
+        ensures tries { pass.old.tries < pass.new.tries }
         ensures tells { TurnTells pass.old pass.new actor choice result }
     {
         for _ in rt.forever() {
