@@ -1,30 +1,29 @@
 -- From what the table's steps tell to what a pass tells.
-use Rattle.std.proofs.Common.{◌≡◌, ℕ, ◌+◌, ◌*◌, ◌^◌, ◌<◌, ◌≤◌, true, List, [], ◌∷◌, ◌++◌, length, take, Some, None, refl, sym, ap, ◌∙◌, subst, arith, length-append}
+use Rattle.std.proofs.Common.{◌≡◌, ℕ, ◌+◌, ◌*◌, ◌^◌, ◌<◌, true, List, [], ◌∷◌, ◌++◌, length, take, Some, None, refl, sym, ap, ◌∙◌, subst, arith, length-append}
 use mathlib.Core.List.{IsPrefix}
 use Rattle.atomic_table.specs.Table.{Me}
 use Rattle.cell_base.specs.declared.steps.Actor.{Actor}
 use Rattle.cell_base.specs.declared.steps.Step.{Step}
-use Rattle.cell_machine.specs.declared.status.End.{End}
-use Rattle.cell_machine.specs.Opening.{Opening}
 use Rattle.cell_machine.specs.Run.{Ran, EndsAs}
-use Rattle.cell_turn.specs.Choice.{ran, made, chosen}
+use Rattle.cell_turn.specs.Choice.{ran, chosen}
 use Rattle.cell_turn.specs.declared.view.View.{View}
 use Rattle.cell_turn.specs.Known.{Known}
-use Rattle.cell_turn.specs.Turn.{Slot, asking, with_step}
-use Rattle.cell_turn.specs.Seats.{Begun}
-use Rattle.cell_turn.specs.Told.{Makes, IsOver}
+use Rattle.cell_turn.specs.Turn.{asking, with_step}
+use Rattle.cell_turn.specs.Seats.{Begun, Played}
+use Rattle.cell_turn.specs.Told.{Makes}
 use Rattle.cell_turn.proofs.Fronts.{prefix_trans, prefix_length}
 
--- the view after a turn in which a step was made
-abbrev pub stepped_view : View → Ran → Step → View
-stepped_view v machine st = with_step (record (asking v (2 * length machine.steps)) { holds = true; seen = machine.steps }) st
+-- the view that has the turn of this record
+abbrev pub turn_view : View → List Step → View
+turn_view v log = record (asking v (2 * length log)) { holds = true; seen = log }
 
-pub after_step : (m m1 m2 : Me Slot View) (machine next : Ran) (st : Step) → Begun m machine m1 → next ≡ made machine st
-    → ((s : Step) → next ≡ ran m1.0.setup (m1.0.seen ++ s ∷ []) → m2 ≡ (with_step m1.0 s, [])) → m2 ≡ (stepped_view m.0 machine st, [])
-after_step m m1 m2 machine next st b is told =
-    let v : View = record (asking m.0 (2 * length machine.steps)) { holds = true; seen = machine.steps } in
-    let e : m1.0 ≡ v = ap (λ (x : Me Slot View). x.0) b.seat in
-    subst (λ (x : View). (s : Step) → next ≡ ran x.setup (x.seen ++ s ∷ []) → m2 ≡ (with_step x s, [])) e told st (is ∙ ap (λ (k : Opening). ran k (machine.steps ++ st ∷ [])) b.setup)
+-- the seat after a turn in which a step was made
+pub after_step : (m m1 m2 m3 : Me Ran View) (st : Step) → (b : Begun m m1) → m2 ≡ (m1.0, (0, ran m1.0.setup (m1.0.seen ++ st ∷ [])) ∷ [])
+    → ((s : Step) → m2.1 ≡ (0, ran m2.0.setup (m2.0.seen ++ s ∷ [])) ∷ [] → m3 ≡ (with_step m2.0 s, [])) → m3 ≡ (with_step (turn_view m.0 b.log) st, [])
+after_step m m1 m2 m3 st b is told =
+    let view : m2.0 ≡ m1.0 = ap (λ (x : Me Ran View). x.0) is in
+    let slot = ap (λ (x : Me Ran View). x.1) is ∙ (λ i. (0, ran (sym view i).setup ((sym view i).seen ++ st ∷ [])) ∷ []) in
+    told st slot ∙ ap (λ (x : View). (with_step x st, [])) (view ∙ ap (λ (x : Me Ran View). x.0) b.seat)
 
 pub makes : (p q : Known) (machine : Ran) (actor : Actor) (choice at : ℕ) (st : Step) → machine.setup ≡ p.setup → IsPrefix p.seen machine.steps → at ≡ length machine.steps → at + 1 < 2 ^ 32
     → q.seen ≡ machine.steps ++ st ∷ [] → q.told ≡ p.told ++ (length machine.steps, st) ∷ [] → q.found ≡ 2 * length machine.steps → chosen machine actor choice ≡ Some st → EndsAs machine None → Makes p q actor choice at st
@@ -45,24 +44,17 @@ makes p q machine actor choice at st setup begins place short seen told found ch
     take_front [] ys = refl
     take_front (x ∷ xs) ys = ap (λ l. x ∷ l) (take_front xs ys)
 
--- the same of a pass that knew as much
-pub makes_from : (p p' q : Known) (actor : Actor) (choice at : ℕ) (st : Step) → p'.setup ≡ p.setup → p'.seen ≡ p.seen → p'.told ≡ p.told → Makes p' q actor choice at st → Makes p q actor choice at st
-makes_from p p' q actor choice at st setup seen told m = record {
-  not_below = subst (λ l. length l ≤ at) seen m.not_below;
-  begins = subst (λ l. IsPrefix l q.seen) seen m.begins;
-  place = m.place;
-  short = m.short;
-  last = m.last;
-  told = m.told ∙ ap (λ l. l ++ (at, st) ∷ []) told;
-  found = m.found;
-  choice_made = subst (λ (k : Opening). chosen (ran k (take at q.seen)) actor choice ≡ Some st) setup m.choice_made;
-  was_open = subst (λ (k : Opening). EndsAs (ran k (take at q.seen)) None) setup m.was_open;
-}
-
-pub over_from : (p p' q : Known) (end : End) → p'.setup ≡ p.setup → p'.seen ≡ p.seen → p'.told ≡ p.told → IsOver p' q end → IsOver p q end
-over_from p p' q end setup seen told o = record {
-  begins = subst (λ l. IsPrefix l q.seen) seen o.begins;
-  is_end = subst (λ (k : Opening). EndsAs (ran k q.seen) (Some end)) setup o.is_end;
-  told = o.told ∙ told;
-  found = o.found;
-}
+-- the same, from what the steps of a turn tell a seat
+pub tells_made : (p q : Known) (m m1 m2 m3 : Me Ran View) (actor : Actor) (choice at : ℕ) (st : Step) → m.0.setup ≡ p.setup → m.0.seen ≡ p.seen → m.0.told ≡ p.told
+    → Begun m m1 → Played m1 actor choice at st m2 → ((s : Step) → m2.1 ≡ (0, ran m2.0.setup (m2.0.seen ++ s ∷ [])) ∷ [] → m3 ≡ (with_step m2.0 s, []))
+    → q.seen ≡ m3.0.seen → q.told ≡ m3.0.told → q.found ≡ m3.0.found → Makes p q actor choice at st
+tells_made p q m m1 m2 m3 actor choice at st setup seen told b played published seen' told' found' =
+    let e = after_step m m1 m2 m3 st b played.seat published in
+    let turn : m1.0 ≡ turn_view m.0 b.log = ap (λ (x : Me Ran View). x.0) b.seat in
+    let few = played.few in
+    makes p q (ran m.0.setup b.log) actor choice at st setup (subst (λ l. IsPrefix l b.log) seen b.begins) (played.place ∙ ap (λ (x : View). length x.seen) turn) (omega arith)
+    (seen' ∙ ap (λ (x : Me Ran View). x.0.seen) e)
+    (told' ∙ ap (λ (x : Me Ran View). x.0.told) e ∙ ap (λ l. l ++ (length b.log, st) ∷ []) told)
+    (found' ∙ ap (λ (x : Me Ran View). x.0.found) e)
+    (subst (λ (x : View). chosen (ran x.setup x.seen) actor choice ≡ Some st) turn played.chose)
+    (subst (λ (x : View). EndsAs (ran x.setup x.seen) None) turn played.was_open)

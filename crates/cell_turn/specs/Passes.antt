@@ -10,7 +10,6 @@ known p = let v = p.seat.me.0 in record { table = p.seat.table_id; setup = v.set
 pub record IsAtRest (p : Inside) : Type 0 where
   pub empty : p.seat.me.1 ≡ []
   pub no_turn : p.seat.me.0.holds ≡ false
-  pub opened : p.seat.me.0.opens ≡ false
   pub settled : p.seat.me.0.joined ≡ []
   pub tokens : p.tokens ≡ p.seat.me.0.tokens
   pub front : p.front ≡ length p.seat.me.0.seen

@@ -9,7 +9,7 @@ use std::marker::Model;
 /// The right to ask for the turn. To a contract it is what it knows. It has the turn at no call's entry or exit.
 #[derive(Drop)]
 pub struct Pass {
-    pub(crate) seat: Seat<Option<Machine>, View>,
+    pub(crate) seat: Seat<Machine, View>,
     pub(crate) tokens: u32,
     pub(crate) front: u32,
     pub(crate) made: u32,

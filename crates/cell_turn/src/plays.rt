@@ -1,49 +1,35 @@
 //! What each step on the turn word tells. These types are for the proofs alone.
-ghost use Rattle.cell_turn.specs.Turn.{began, opened, asked, published, released, settled, kept_view, new_view, both_views, spent_view};
+ghost use Rattle.cell_turn.specs.Turn.{asked, published, released, settled, kept_view, new_view, both_views, spent_view};
 
 use crate::view::View;
 use atomic_table::{Join, Play, Split};
 use cell_machine::Machine;
 
-/// The start begins the first turn.
-pub(crate) struct Begin;
-
-impl Play<Option<Machine>, View> for Begin {
-    ghost then = { began };
-}
-
-/// The start ends it, with the machine in the slot.
-pub(crate) struct Open;
-
-impl Play<Option<Machine>, View> for Open {
-    ghost then = { opened };
-}
-
 /// A try for the turn.
 pub(crate) struct Ask;
 
-impl Play<Option<Machine>, View> for Ask {
+impl Play<Machine, View> for Ask {
     ghost then = { asked };
 }
 
 /// The end of a turn with a step.
 pub(crate) struct Publish;
 
-impl Play<Option<Machine>, View> for Publish {
+impl Play<Machine, View> for Publish {
     ghost then = { published };
 }
 
 /// The end of a turn without one.
 pub(crate) struct Release;
 
-impl Play<Option<Machine>, View> for Release {
+impl Play<Machine, View> for Release {
     ghost then = { released };
 }
 
 /// The load after a join, which settles what was seen.
 pub(crate) struct Settle;
 
-impl Play<Option<Machine>, View> for Settle {
+impl Play<Machine, View> for Settle {
     ghost then = { settled };
 }
 

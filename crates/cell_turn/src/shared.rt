@@ -1,15 +1,12 @@
 //! The shared machine.
-ghost use Rattle.std.specs.Prelude.{◌≡◌, ◌+◌, ◌-◌, ◌%◌, ◌<◌, ◌≤◌, [], length, None, Some, IfOk, IfErr, IfSome, IfNone, IsSome};
+ghost use Rattle.std.specs.Prelude.{◌≡◌, ◌+◌, ◌<◌, ◌≤◌, [], ◌∷◌, vec_len, IfOk, IfErr};
 ghost use mathlib.Core.List.{IsPrefix};
-ghost use Rattle.cell_base.specs.declared.steps.Step as step;
-ghost use Rattle.cell_machine.specs.Run.{next_of, EndsAs};
-ghost use Rattle.cell_turn.specs.Choice.{chosen, made};
 ghost use Rattle.cell_turn.specs.Known.{Belongs, TellsAll};
 ghost use Rattle.cell_turn.specs.Told.{first_pass, left_pass, new_pass, Tells, TurnTells, Stays, Joined};
 
 use crate::pass::Pass;
 use crate::plays::{Cut, Glue, Settle};
-use crate::turn::{ask, publish, put_in, release};
+use crate::turn::{ask, play, publish, release};
 use crate::view::{Key, TurnRule, View};
 use atomic_table::Table;
 use cell_base::{Actor, Step};
@@ -23,10 +20,10 @@ use std::time::Duration;
 /// For how many microseconds at most a thread rests that found the turn taken.
 const PAUSE: u64 = 50;
 
-/// A machine that threads share by reference. To a contract it is its table, the setup that was put in and the number of passes.
+/// A machine that threads share by reference. To a contract it is its table, its setup and the number of passes.
 #[derive(Drop)]
 pub struct Shared {
-    table: Table<Option<Machine>, View, Key, TurnRule, Global>,
+    table: Table<Machine, View, Key, TurnRule, Global>,
 }
 
 impl Model for Shared {
@@ -61,61 +58,22 @@ pub enum Turned {
     Over { end: End },
 }
 
-/// Why a machine is not shared.
+/// Why a machine isn't shared.
 #[derive(Drop)]
 pub enum StartError {
     /// There was no memory for the table. The machine comes back.
     Memory { machine: Machine },
 }
 
-/// How many steps the record has.
-fn record_len(machine: &Machine) -> u32
-    ensures length { result ≡ length machine.now.steps }
-    ensures few { result ≤ 1000000 }
+/// The machine, out of the slots of a table that was not made.
+fn taken_back(mut slots: Vec<Machine>) -> Machine
+    requires { vec_len slots ≡ 1 }
+    ensures { slots.items ≡ result ∷ [] }
 {
-    let budget = machine.setup().budget();
-    let len = machine.steps().len();
-    prove!(len <= budget as usize);
-    len as u32
-}
-
-/// The step of the actor for this choice where it has one, and else any that is allowed.
-fn choose(machine: &Machine, actor: Actor, choice: u64) -> Option<Step>
-    ensures chosen { result ≡ chosen machine.now actor choice }
-    ensures allowed { IfSome result (λ s. IsSome (next_of machine.now s)) }
-    ensures none { IfNone result ((s : step.Step) → next_of machine.now s ≡ None) }
-{
-    match machine.pick(actor, choice) {
-        Some(step) => Some(step),
-        None => machine.any_step(),
-    }
-}
-
-/// How a run has ended that can't go on.
-fn ending(machine: &Machine) -> End
-    requires { (s : step.Step) → next_of machine.now s ≡ None }
-    ensures { EndsAs machine.now (Some result) }
-{
-    let Some(end) = machine.end() else {
+    let Some(machine) = slots.pop() else {
         unreachable!()
     };
-    end
-}
-
-/// Makes the step that is chosen, or says how the run has ended where none is allowed.
-fn take_turn(machine: &mut Machine, actor: Actor, choice: u64) -> Result<Step, End>
-    ensures chosen { IfOk result (λ s. chosen machine.old actor choice ≡ Some s) }
-    ensures made { IfOk result (λ s. machine.new ≡ made machine.old s) }
-    ensures open { IfOk result (λ _. EndsAs machine.old None) }
-    ensures over { IfErr result (λ e. EndsAs machine.old (Some e) × (machine.new ≡ machine.old)) }
-{
-    let Some(step) = choose(machine, actor, choice) else {
-        return Err(ending(machine));
-    };
-    match machine.step(step) {
-        Ok(_) => Ok(step),
-        Err(_) => unreachable!(),
-    }
+    machine
 }
 
 impl Shared {
@@ -132,17 +90,27 @@ impl Shared {
             setup: Snapshot::of(machine.setup()),
             passes,
         };
-        let Ok((table, mut seat)) = Table::vacant(alloc, &[0], 1, &key) else {
+        let Ok(mut slots) = Vec::with_capacity(alloc, 1) else {
             return Err(StartError::Memory { machine });
         };
-        put_in(&table.shared, &mut seat, machine);
-        let pass = Pass {
-            seat,
-            tokens: passes,
-            front: 0,
-            made: 0,
-        };
-        Ok((Shared { table }, pass))
+        slots.push_reserved(machine);
+        match Table::new(alloc, &[0], slots, &key) {
+            Ok((table, seat)) => Ok((
+                Shared { table },
+                Pass {
+                    seat,
+                    tokens: passes,
+                    front: 0,
+                    made: 0,
+                },
+            )),
+            Err(refused) => {
+                let atomic_table::Refused { slots } = refused;
+                Err(StartError::Memory {
+                    machine: taken_back(slots),
+                })
+            }
+        }
     }
 
     /// A new pass, which gets one of the tokens and has seen as much.
@@ -191,20 +159,18 @@ impl Shared {
         ensures tells { Tells pass.old pass.new actor choice result }
     {
         let table = &self.table.shared;
-        let mut machine = match ask(table, &mut pass.seat) {
-            Ok(machine) => machine,
-            Err(turn) => return Tried::Busy { turn },
-        };
-        let at = record_len(&machine);
-        match take_turn(&mut machine, actor, choice) {
-            Ok(step) => {
-                publish(table, &mut pass.seat, machine);
+        if let Err(turn) = ask(table, &mut pass.seat) {
+            return Tried::Busy { turn };
+        }
+        match play(table, &mut pass.seat, actor, choice) {
+            Ok((at, step)) => {
+                publish(table, &mut pass.seat);
                 pass.front = at + 1;
                 pass.made += 1;
                 Tried::Made { at, step }
             }
-            Err(end) => {
-                release(table, &mut pass.seat, machine);
+            Err((at, end)) => {
+                release(table, &mut pass.seat);
                 pass.front = at;
                 Tried::Over { end }
             }
@@ -215,6 +181,7 @@ impl Shared {
     pub fn step_as<R: Wait>(&self, rt: &R, pass: &mut Pass, actor: Actor, choice: u64) -> Turned
         requires own { Belongs pass.old self.now }
         ensures same { Stays pass.old pass.new }
+        ensures tries { pass.old.tries < pass.new.tries }
         ensures tells { TurnTells pass.old pass.new actor choice result }
     {
         for _ in rt.forever() {
@@ -243,9 +210,8 @@ impl Shared {
         let Shared { table } = self;
         let Pass { seat, .. } = pass;
         let mut closed = table.close_with(seat);
-        let slot = closed.take(0);
+        let machine = closed.take(0);
         closed.free();
-        let Some(machine) = slot else { unreachable!() };
         machine
     }
 }
