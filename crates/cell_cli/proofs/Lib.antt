@@ -4,6 +4,8 @@ pub mod Steps
 pub mod Puts
 pub mod Runs
 pub mod Complete
+pub mod Machines
 pub mod ReadBack
 pub mod Lengths
 pub mod Verdicts
+pub mod Judged

@@ -1,31 +1,23 @@
 -- What `run` writes is read back by `check`.
-use Rattle.std.proofs.Common.{◌≡◌, ℕ, ◌+◌, ◌≤◌, false, cond, List, [], ◌∷◌, ◌++◌, length, Some, None, Result, Ok, Err, refl, sym, ap, subst, ◌∙◌, arith, inl, inr}
+use Rattle.std.proofs.Common.{◌≡◌, ℕ, ◌+◌, ◌≤◌, false, cond, List, [], ◌∷◌, length, Some, None, Result, Ok, Err, refl, sym, ap, subst, ◌∙◌, arith, inl, inr}
 use Rattle.std.specs.Prelude.{nat_lt}
 use Rattle.std.proofs.lemmas.Bool.{eq-eqb}
 use Rattle.std.proofs.lemmas.Bool.Decides.{nat_tests}
 use Rattle.cell_base.specs.Records.{spelling}
 use Rattle.cell_io.specs.Files.{File, file_named}
 use Rattle.cell_io.specs.Store.{Ledger}
-use Rattle.spu_asm.specs.Images.{Image}
-use Rattle.spu_asm.specs.Assembling.{assembled}
-use Rattle.spu_asm.specs.declared.error.AsmError.{AsmError}
-use Rattle.spu_asm.specs.declared.error.AsmError.TheVariants.{At, Memory as AsmMemory}
-use Rattle.cell_load.specs.Entries.{Entry}
-use Rattle.cell_load.specs.Order.{machine_at}
-use Rattle.cell_load.specs.Sources.{Named, sources_of}
-use Rattle.cell_load.specs.Loaded.{loaded, NoRow}
 use Rattle.cell_machine.specs.Opening.{Opening, opening}
 use Rattle.cell_machine.specs.Run.{Ran}
 use Rattle.cell_report.specs.States.{states_of}
 use Rattle.run_record.proofs.Records.{record_again}
 use Rattle.cell_cli.specs.declared.fault.Fault.{Fault}
 use Rattle.cell_cli.specs.declared.fault.FileId.{FileId}
-use Rattle.cell_cli.specs.declared.fault.FileId.TheVariants.{Machine, Source, Rec}
+use Rattle.cell_cli.specs.declared.fault.FileId.TheVariants.{Rec}
 use Rattle.cell_cli.specs.declared.fault.Status.{Status}
 use Rattle.cell_cli.specs.declared.fault.Status.TheVariants.{Done, Race, Refused}
 use Rattle.cell_cli.specs.Task.{Task, Work, refuse, ready, read, run_of, verdict_of}
 use Rattle.cell_cli.specs.Course.{Given, nothing, too_long, whole, within, given, by_given, if_whole, settled, Reads}
-use Rattle.cell_cli.specs.Forms.{text_limit, record_limit, with_image, sources_task, with_setup, with_plan, machine_task, run_task, check_task, by_verdict}
+use Rattle.cell_cli.specs.Forms.{record_limit, run_task, check_task, by_verdict}
 use Rattle.cell_cli.specs.Checks.{differ, states_differ, end_of, with_states, with_record, with_replay, checked}
 use Rattle.cell_cli.specs.Runs.{PrintsRun}
 use Rattle.cell_cli.specs.Words.{Spoken, run, check, asm, no_form, task_of}
@@ -34,6 +26,7 @@ use Rattle.cell_cli.specs.Output.{Took}
 use Rattle.cell_cli.specs.ReadBack.{IsKeptIn, IsReadBack, ReadsBack}
 use Rattle.cell_cli.proofs.Checks.{replays}
 use Rattle.cell_cli.proofs.Ends.{end-is}
+use Rattle.cell_cli.proofs.Machines.{machine-on}
 
 -- ---- the record file alone
 
@@ -79,44 +72,6 @@ module _ (files later : List File) where
       ap (λ g. by_given file g (λ bytes. settled later (next bytes))) now
       ∙ by-same file next (given files name limit) (λ bytes is. same-settled (next bytes) (λ f n r. same f n (inr (subst (λ g. if_whole g (λ b. Reads files (next b) f n)) (sym is) r))))
 
--- ---- another task of the same machine file
-
-module _ (files : List File) (work : Work) (next : Opening → Task) where
-  -- the first comes to work only as the run of a setup, and then the second goes on with that setup
-  abbrev GoesOn : Task → Task → Type 0
-  GoesOn first second = settled files first ≡ Ok work → (setup : Opening) × (work ≡ run_of setup) × (settled files second ≡ settled files (next setup))
-
-  loaded-on : (r : Result Opening NoRow) → GoesOn (with_setup r (λ S. ready (run_of S))) (with_setup r next)
-  loaded-on (Err found) e = absurd cc
-  loaded-on (Ok S) e = let same : run_of S ≡ work = cc in (S, sym same, refl)
-
-  given-on : (file : FileId) (g : Given) (first second : List ℕ → Task) → ((bytes : List ℕ) → GoesOn (first bytes) (second bytes))
-      → by_given file g (λ bytes. settled files (first bytes)) ≡ Ok work → (setup : Opening) × (work ≡ run_of setup) × (by_given file g (λ bytes. settled files (second bytes)) ≡ settled files (next setup))
-  given-on file nothing first second h e = absurd cc
-  given-on file too_long first second h e = absurd cc
-  given-on file (whole bytes) first second h e = h bytes e
-
-  image-on : (file : FileId) (r : Result Image AsmError) (first second : Image → Task) → ((image : Image) → GoesOn (first image) (second image)) → GoesOn (with_image file r first) (with_image file r second)
-  image-on file (Err (At line kind)) first second h e = absurd cc
-  image-on file (Err AsmMemory) first second h e = absurd cc
-  image-on file (Ok image) first second h e = h image e
-
-  sources-on : (sources : List Named) (i : ℕ) (so_far : List Image) (first second : List Image → Task) → ((images : List Image) → GoesOn (first images) (second images))
-      → GoesOn (sources_task i sources so_far first) (sources_task i sources so_far second)
-  sources-on [] i so_far first second h e = h so_far e
-  sources-on (source ∷ sources) i so_far first second h e =
-      given-on (Source i) (given files source.name text_limit)
-      (λ text. with_image (Source i) (assembled text) (λ image. sources_task (i + 1) sources (so_far ++ image ∷ []) first))
-      (λ text. with_image (Source i) (assembled text) (λ image. sources_task (i + 1) sources (so_far ++ image ∷ []) second))
-      (λ text. image-on (Source i) (assembled text) _ _ (λ image. sources-on sources (i + 1) (so_far ++ image ∷ []) first second h)) e
-
-  plan-on : {F : Type 0} (r : Result (List Entry) (ℕ × F)) → GoesOn (with_plan r (λ S. ready (run_of S))) (with_plan r next)
-  plan-on (Err fault) e = absurd cc
-  plan-on (Ok entries) e = sources-on (sources_of entries) 0 [] _ _ (λ images. loaded-on (loaded entries images)) e
-
-  machine-on : (machine : List ℕ) → GoesOn (run_task machine) (machine_task machine next)
-  machine-on machine e = given-on Machine (given files machine text_limit) (λ text. with_plan (machine_at text) (λ S. ready (run_of S))) (λ text. with_plan (machine_at text) next) (λ text. plan-on (machine_at text)) e
-
 -- ---- both
 
 given-whole : (files : List File) (name text : List ℕ) (limit : ℕ) → file_named files name ≡ Some text → length text ≤ limit → given files name limit ≡ whole text
@@ -124,15 +79,15 @@ given-whole files name text limit is fits =
     let short : nat_lt limit (length text) ≡ false = grind (arith, nat_tests, fits) in
     ap (within limit) is ∙ ap (λ b. cond b too_long (whole text)) short
 
-same-run : (S T : Opening) → run_of S ≡ run_of T → S ≡ T
+same-run : (S T : Opening) → ◌≡◌ {A = Result Work Fault} (Ok (run_of S)) (Ok (run_of T)) → S ≡ T
 same-run S T e = cc
 
 kept-read : (files later : List File) (machine record_file text : List ℕ) (setup : Opening) → settled files (run_task machine) ≡ Ok (run_of setup) → (r : PrintsRun setup text)
     → IsKeptIn files later (run_task machine) record_file text → settled later (check_task machine record_file) ≡ Ok (verdict_of (record { setup = setup; steps = r.steps }))
 kept-read files later machine record_file text setup is r k =
     let next : Opening → Task = λ S. read Rec record_file record_limit (λ t. by_verdict (checked S t)) in
-    let on = machine-on later (run_of setup) next machine (same-settled files later (run_task machine) k.same ∙ is) in
-    on.2 ∙ ap (λ S. settled later (next S)) (sym (same-run setup on.0 on.1))
+    let on = machine-on later (run_of setup) (λ S. ready (run_of S)) next machine (same-settled files later (run_task machine) k.same ∙ is) in
+    on.2 ∙ ap (λ S. settled later (next S)) (same-run on.0 setup on.1)
     ∙ ap (λ g. by_given Rec g (λ t. settled later (by_verdict (checked setup t)))) (given-whole later record_file text record_limit k.kept r.short)
     ∙ ap (λ v. settled later (by_verdict v)) (run-checked setup text r)
 
@@ -144,14 +99,18 @@ reads-back files machine text setup is r = record {
   checked = λ later record_file k. kept-read files later machine record_file text setup is r k;
 }
 
+same-work : (v w : Work) → ◌≡◌ {A = Result Work Fault} (Ok v) (Ok w) → v ≡ w
+same-work v w e = cc
+
 -- a run's task comes to no other work than a run
 ran-back : (files : List File) (machine : List ℕ) (before after : Sinks) (o : Result Work Fault) → settled files (run_task machine) ≡ o → Ended o before after Done
     → (text : List ℕ) × Took before.taken after.taken text × IsReadBack files machine text
 ran-back files machine before after (Err fault) is e = absurd e
 ran-back files machine before after (Ok work) is e =
-    let on = machine-on files work (λ S. ready (run_of S)) machine is in
-    let ends : Ends (run_of on.0) before after Done = subst (λ w. Ends w before after Done) on.1 e in
-    (ends.0, ends.2, reads-back files machine ends.0 on.0 (is ∙ ap (λ (w : Work). Ok w) on.1) ends.1)
+    let on = machine-on files work (λ S. ready (run_of S)) (λ S. ready (run_of S)) machine is in
+    let same : work ≡ run_of on.0 = same-work work (run_of on.0) (sym on.1) in
+    let ends : Ends (run_of on.0) before after Done = subst (λ w. Ends w before after Done) same e in
+    (ends.0, ends.2, reads-back files machine ends.0 on.0 (is ∙ ap (λ (w : Work). Ok w) same) ends.1)
 
 pub read_back : (files : List File) (spoken : Spoken) (old new : Ledger) (before after : Sinks) (status : Status) → Answers files (task_of spoken) old new before after status → ReadsBack files spoken before after status
 read_back files (run machine) old new before after Done a = ran-back files machine before after (settled files (run_task machine)) refl a

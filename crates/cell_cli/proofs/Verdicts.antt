@@ -1,5 +1,5 @@
--- A verdict that was found, and how the program ends when it is written.
-use Rattle.std.proofs.Common.{◌≡◌, ℕ, ◌<◌, List, [], length, map, Some, None, refl, sym, ap, subst, ◌∙◌, arith}
+-- A verdict that was found, and what is written of it.
+use Rattle.std.proofs.Common.{◌≡◌, ℕ, ◌<◌, List, [], length, map, Some, None, refl, sym, ap, ◌∙◌, arith}
 use Rattle.std.specs.Prelude.{Option, slice_get}
 use Rattle.std.specs.Option.{option_map_or}
 use Rattle.std.proofs.lemmas.Option.{slice_get_within}
@@ -10,15 +10,14 @@ use Rattle.race_order.specs.OrderedRuns.{trace_in}
 use Rattle.race_check.specs.declared.access.Access.{Access}
 use Rattle.race_check.specs.declared.check.Verdict.{Verdict}
 use Rattle.race_check.specs.declared.check.Verdict.TheVariants.{Accepted, Race as Racing}
-use Rattle.race_check.specs.Races.{access_of, accesses_in, Race, IsVerdict}
+use Rattle.race_check.specs.Races.{access_of, accesses_in, IsVerdict}
 use Rattle.race_check.specs.Reorderings.{EveryReorderingAgrees}
 use Rattle.race_check.proofs.Prefixes.{accesses-long}
 use Rattle.cell_report.specs.Verdicts.{verdict_lines, NamesSteps}
-use Rattle.cell_cli.specs.declared.fault.Status.{Status}
-use Rattle.cell_cli.specs.Code.{status_of}
+use Rattle.cell_cli.specs.declared.fault.Status.TheVariants.{Done, Race}
 use Rattle.cell_cli.specs.Task.{verdict_of}
-use Rattle.cell_cli.specs.Output.{Took, TookPart, Writes}
-use Rattle.cell_cli.specs.Answer.{Sinks, Ends, WrotePart}
+use Rattle.cell_cli.specs.Output.{TookPart}
+use Rattle.cell_cli.specs.Answer.{WrotePart}
 
 -- only a step of the run has an access
 access-within : (m : Ran) (j : ℕ) (a : Access) → slice_get (accesses_in m) j ≡ Some a → j < length m.steps
@@ -45,19 +44,8 @@ names-steps m (Racing i j) is =
     let low = access-within m j is.holds.conflict.second is.holds.conflict.second_at in
     (omega (arith, is.holds.below, low), low)
 
--- its text is that of such an end
-writes : (m : Ran) (v : Verdict) (text : List ℕ) → IsVerdict m v → (v ≡ Accepted → EveryReorderingAgrees m) → text ≡ verdict_lines m.steps v → Writes (verdict_of m) (status_of v) text
-writes m Accepted text is agree says = record { no_race = is; agree = agree refl; says = says }
-writes m (Racing i j) text is agree says = record { least = is; says = says }
-
-pub ends : (m : Ran) (v : Verdict) (status : Status) (text : List ℕ) (old new : Sinks) → status ≡ status_of v → IsVerdict m v → (v ≡ Accepted → EveryReorderingAgrees m) → text ≡ verdict_lines m.steps v
-    → Took old.taken new.taken text → Ends (verdict_of m) old new status
-ends m v status text old new told is agree says took = subst (Ends (verdict_of m) old new) (sym told) (on v is agree says)
-  where
-    on : (v : Verdict) → IsVerdict m v → (v ≡ Accepted → EveryReorderingAgrees m) → text ≡ verdict_lines m.steps v → Ends (verdict_of m) old new (status_of v)
-    on Accepted is agree says = (text, writes m Accepted text is agree says, took)
-    on (Racing i j) is agree says = (text, writes m (Racing i j) text is agree says, took)
-
+-- a part of its text went out
 pub wrote_part : (m : Ran) (v : Verdict) (text : List ℕ) (old new : Option (List ℕ)) → IsVerdict m v → (v ≡ Accepted → EveryReorderingAgrees m) → text ≡ verdict_lines m.steps v
     → TookPart old new text → WrotePart (verdict_of m) old new
-wrote_part m v text old new is agree says part = (status_of v, text, writes m v text is agree says, part)
+wrote_part m Accepted text old new is agree says part = (Done, text, record { no_race = is; agree = agree refl; says = says }, part)
+wrote_part m (Racing i j) text old new is agree says part = (Race i j, text, record { least = is; says = says }, part)

@@ -10,3 +10,5 @@ pub mod Jobs
 pub mod Code
 pub mod Runs
 pub mod ReadBack
+pub mod Verdicts
+pub mod Judged

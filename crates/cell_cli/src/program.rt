@@ -10,6 +10,7 @@ ghost use Rattle.cell_cli.specs.Forms.{run_task, check_task, asm_task};
 ghost use Rattle.cell_cli.specs.Words.{spoken, task_of, FailsIn, IsPrepared, no_form};
 ghost use Rattle.cell_cli.specs.Jobs.{work_of, CanBeDone};
 ghost use Rattle.cell_cli.specs.Answer.{Answers, AtFile, AtMachine, AtMachineOrRecord, Comes, Ends, FailsBy, IsComplete, IsExact, IsQuiet, ReadFails};
+ghost use Rattle.cell_cli.specs.Judged.{Judges};
 ghost use Rattle.cell_cli.specs.ReadBack.{ReadsBack};
 
 use crate::checking::check_record;
@@ -185,10 +186,11 @@ fn answer<T: Store, K: Sink>(alloc: Global, words: &[String], files: &mut T, out
     }
 }
 
-#[tactic(auto, using(crate::proofs::Complete::exact, crate::proofs::Complete::complete, crate::proofs::ReadBack::read_back))]
+#[tactic(auto, using(crate::proofs::Complete::exact, crate::proofs::Complete::complete, crate::proofs::Judged::judges, crate::proofs::ReadBack::read_back))]
 /// Does what the words ask for: reads files, and writes to the sink. Refusals are tried in this order: the words, the machine
 /// file (read, length, form), each source in turn (read, length, assembling), the instruction words, the record file (read, length, form,
-/// steps, states), its races, the output. Nothing is written before the output. A race is written as its verdict, and then answered.
+/// steps, states), the output. A check looks for races when nothing of the files refuses; a race is answered once its verdict is written.
+/// Nothing is written before the output.
 pub fn cell<T: Store, K: Sink>(
     alloc: Global,
     words: &[String],
@@ -212,6 +214,12 @@ pub fn cell<T: Store, K: Sink>(
     // Where they don't, and neither a reading nor the sink failed, the work is done.
     ensures complete { ForSome (T.files files.old) (λ told.
         IsComplete told (task_of (spoken (map string_bytes words.now))) (T.ledger files.old) (T.ledger files.new)
+        (record { taken = K.taken out.old; faults = K.faults out.old }) (record { taken = K.taken out.new; faults = K.faults out.new }) result) }
+
+    // A check is done only where no two steps of the recorded run race, and then every reordering of them agrees. It tells a
+    // race only where that is the least one.
+    ensures judges { ForSome (T.files files.old) (λ told.
+        Judges told (spoken (map string_bytes words.now))
         (record { taken = K.taken out.old; faults = K.faults out.old }) (record { taken = K.taken out.new; faults = K.faults out.new }) result) }
 
     // What a run that is done wrote is read back: `check` of it is to give the verdict on that run.
