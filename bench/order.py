@@ -37,7 +37,7 @@ def recorded(machine, budget):
     actors = 2 * SPES + 1
     choices, record = f"{machine}.choices", f"{machine}.record"
     with open(choices, "w") as file:
-        file.write(" ".join(str(actors * turn + turn % actors) for turn in range(budget)))
+        file.writelines(f"{actors * turn + turn % actors}\n" for turn in range(budget))
     with open(record, "wb") as file:
         subprocess.run([PROGRAM, "choose", machine, choices], stdout=file, cwd=run.ROOT, check=True)
     return record
