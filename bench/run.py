@@ -5,9 +5,8 @@ Prints instructions per second of two loops of a million steps; steps per second
 and text out, with one and with eight processors; the greatest memory of the widest machine; steps per
 second of eight processors that transfer without a pause, by single commands and by lists, and that raise
 one counter on the widest machine, and the time of one of their steps in runs of three lengths; steps per
-second and the greatest memory of the check of the output of such runs, beside those of the run, of whose
-time a check is to take at most twice; and the time and the greatest memory that assembling three sources
-of 4 MB takes. Each figure is the best of five runs; the time of a run of one step is taken off that of the
+second and the greatest memory of the check of the output of such runs, with the search for races, beside
+those of the run; and the time and the greatest memory that assembling three sources of 4 MB takes. Each figure is the best of five runs; the time of a run of one step is taken off that of the
 loops and of the commands, so that starting the program isn't counted.
 """
 import os
@@ -79,7 +78,7 @@ def checking(folder, source, spes, lines):
     with open(output, "wb") as file:
         subprocess.run([os.path.join(ROOT, "cell"), "run", machine], stdout=file, cwd=ROOT, check=True)
     took, most = measured(["check", machine, output])
-    print(f"{source} on {spes} processors with {lines} lines: a check replays {STEPS / took / 1e6:.2f} million steps a second; "
+    print(f"{source} on {spes} processors with {lines} lines: a check takes {STEPS / took / 1e6:.2f} million steps a second; "
           f"{took:.2f} s and {most / 1024:.1f} MiB, {took / ran:.2f} times the run's {ran:.2f} s, which takes {ran_most / 1024:.1f} MiB")
 
 
