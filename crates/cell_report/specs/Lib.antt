@@ -1,3 +1,4 @@
 pub mod States
 pub mod Images
 pub mod Verdicts
+pub mod Summaries

@@ -7,10 +7,14 @@ mod image;
 mod record;
 mod shows;
 mod states;
+mod summary;
+#[cfg(test)]
+mod tests;
 mod verdict;
 
 pub use error::TextError;
 pub use image::image_text;
 pub use record::record_text;
 pub use states::states_text;
+pub use summary::summary_text;
 pub use verdict::verdict_text;

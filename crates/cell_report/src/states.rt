@@ -15,7 +15,8 @@ use cell_base::line_text::{put_decimal, put_hex, put_hex_bytes};
 use cell_machine::{DmaFault, End, Machine, Status};
 use std::alloc::{AllocError, Global};
 
-fn put_end(out: &mut Vec<u8>, end: Option<End>) -> Result<(), AllocError>
+/// Writes the line of the end word at the end.
+pub(crate) fn put_end(out: &mut Vec<u8>, end: Option<End>) -> Result<(), AllocError>
     ensures { OnOk result (out.new.items ≡ out.old.items ++ end_line end) }
 {
     match end {
