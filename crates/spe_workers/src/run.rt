@@ -32,7 +32,7 @@ fn actor_of(spes: u8, number: u32) -> Actor
 }
 
 /// A worker for each actor of a machine with so many processors, in order. Each has one token: `first` has as many as there are actors.
-fn seat_all(
+pub(crate) fn seat_all(
     alloc: Global,
     shared: &Shared,
     mut first: Pass,
@@ -62,7 +62,7 @@ fn seat_all(
 }
 
 /// One pass of all workers' passes.
-fn join_all(shared: &Shared, mut workers: Vec<Worker>) -> Pass
+pub(crate) fn join_all(shared: &Shared, mut workers: Vec<Worker>) -> Pass
     requires some { 0 < vec_len workers }
     requires done { All (λ w. IsDone w.pass shared.now) workers.items }
     ensures own { Belongs result shared.now }
