@@ -1,14 +1,13 @@
-//! A run by choices.
+//! Runs on one thread, by choices.
 
-ghost use Rattle.std.specs.Prelude.{◌≡◌, ◌+◌, ◌*◌, ◌<◌, ◌≤◌, length};
+ghost use Rattle.std.specs.Prelude.{◌+◌, ◌*◌, ◌<◌, ◌≤◌};
+ghost use Rattle.std.specs.Iterator.{IsFinite};
 
 use crate::reading::{machine_of, numbers_of, setup_of};
-use anyhow::{Result, bail};
+use crate::showing::{show_record, show_states};
+use anyhow::Result;
 use cell_base::{Actor, Step};
 use cell_machine::Machine;
-use cell_report::record_text;
-use std::io;
-use std::io::Write;
 
 /// The actor of a number, of so many processors: these, their flow controllers, the host.
 fn actor(spes: u8, number: u64) -> Actor
@@ -37,24 +36,32 @@ fn chosen(machine: &Machine, spes: u8, number: u64) -> Option<Step>
 }
 
 /// Makes the step that each number chooses, as long as one is allowed.
-fn make_steps(machine: &mut Machine, numbers: &[u64]) {
+fn make_steps<I: Iterator<Item = u64> + Drop>(machine: &mut Machine, numbers: I)
+    requires can { I.can_next numbers }
+    requires ends { IsFinite (I.remaining numbers) }
+{
     let spes = machine.setup().spes();
     for number in numbers {
-        let Some(step) = chosen(machine, spes, *number) else {
+        let Some(step) = chosen(machine, spes, number) else {
             return;
         };
         let _ = machine.step(step);
     }
 }
 
-pub fn print_record(rt: &HostRuntime, machine: &str, choices: &str) -> Result<()> {
+/// Prints the record of the run that the numbers of a file choose.
+pub fn print_chosen(rt: &HostRuntime, machine: &str, choices: &str) -> Result<()> {
     let setup = setup_of(rt, machine)?;
     let numbers = numbers_of(rt, choices)?;
     let mut machine = machine_of(rt, setup)?;
-    make_steps(&mut machine, numbers.as_slice());
-    let Ok(text) = record_text(rt.alloc(), machine.steps()) else {
-        bail!("out of memory");
-    };
-    io::writer(rt).write_all(text.as_slice())?;
-    Ok(())
+    make_steps(&mut machine, numbers.into_iter());
+    show_record(rt, &machine)
+}
+
+/// Prints the record and the states of the run that the numbers from 0 on choose, to its end: the actors take turns.
+pub fn print_alone(rt: &HostRuntime, machine: &str) -> Result<()> {
+    let mut machine = machine_of(rt, setup_of(rt, machine)?)?;
+    make_steps(&mut machine, 0..u64::MAX);
+    show_record(rt, &machine)?;
+    show_states(rt, &machine)
 }
