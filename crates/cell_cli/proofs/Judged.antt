@@ -19,16 +19,17 @@ use Rattle.cell_report.specs.States.{states_of}
 use Rattle.run_record.specs.Reading.{record_at}
 use Rattle.run_record.proofs.Records.{record_takes}
 use Rattle.cell_cli.specs.declared.fault.Fault.{Fault}
+use Rattle.cell_cli.specs.declared.fault.Fault.TheVariants.{TooLarge}
 use Rattle.cell_cli.specs.declared.fault.FileId.{FileId}
 use Rattle.cell_cli.specs.declared.fault.FileId.TheVariants.{Source, Rec}
 use Rattle.cell_cli.specs.declared.fault.Status.{Status}
 use Rattle.cell_cli.specs.declared.fault.Status.TheVariants.{Done, Race, Refused}
-use Rattle.cell_cli.specs.Task.{Work, ready, read, run_of, text_of, verdict_of}
+use Rattle.cell_cli.specs.Task.{Work, refuse, ready, read, run_of, text_of, verdict_of, gen_of}
 use Rattle.cell_cli.specs.Course.{too_long, whole, within, by_given, settled}
 use Rattle.cell_cli.specs.Forms.{text_limit, record_limit, with_image, run_task, check_task, asm_task, by_verdict}
 use Rattle.cell_cli.specs.Checks.{differ, states_differ, end_of, or_refused, replayed, with_states, with_record, with_replay, checked}
-use Rattle.cell_cli.specs.Words.{Spoken, run, check, asm, no_form, task_of}
-use Rattle.cell_cli.specs.Answer.{Sinks, Wrote, Ended, Answers}
+use Rattle.cell_cli.specs.Words.{Spoken, run, check, asm, gen, no_form, task_of}
+use Rattle.cell_cli.specs.Answer.{Sinks, Wrote, Ends, Ended, Answers}
 use Rattle.cell_cli.specs.Judged.{RecordsRun, IsRunOf, Judges}
 use Rattle.cell_cli.proofs.Machines.{machine-on}
 
@@ -190,11 +191,19 @@ module _ (files : List File) (before after : Sinks) where
       let found = asm-work files work source is in
       no_race_of_text found.0 i j before.taken after.taken (subst (λ w. Wrote w (Race i j) before.taken after.taken) found.1 e)
 
+  -- what `gen` comes to
+  gen-ended : (n : ℕ) (status : Status) (b : Bool) → Ended (settled files (cond b (refuse (TooLarge n)) (ready (gen_of n)))) before after status → Ends (gen_of n) before after status
+  gen-ended n status true e = absurd e
+  gen-ended n status false e = e
+
 pub judges : (files : List File) (spoken : Spoken) (old new : Ledger) (before after : Sinks) (status : Status) → Answers files (task_of spoken) old new before after status → Judges files spoken before after status
 judges files (check machine record_file) old new before after Done a = check-done files before after machine record_file (settled files (check_task machine record_file)) refl a
 judges files (check machine record_file) old new before after (Race i j) a = check-raced files before after machine record_file i j (settled files (check_task machine record_file)) refl a
 judges files (run machine) old new before after (Race i j) a = run-raced files before after machine i j (settled files (run_task machine)) refl a
 judges files (asm source) old new before after (Race i j) a = asm-raced files before after source i j (settled files (asm_task source)) refl a
+judges files (gen n) old new before after Done a = gen-ended files before after n Done (nat_lt 64 n) a
+judges files (gen n) old new before after (Race i j) a = gen-ended files before after n (Race i j) (nat_lt 64 n) a
+judges files (gen n) old new before after (Refused fault) a = tt
 judges files no_form old new before after (Race i j) a = a
 judges files (check machine record_file) old new before after (Refused fault) a = tt
 judges files (run machine) old new before after Done a = tt

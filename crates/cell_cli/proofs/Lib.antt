@@ -9,3 +9,5 @@ pub mod ReadBack
 pub mod Lengths
 pub mod Verdicts
 pub mod Judged
+pub mod Answered
+pub mod Summaries

@@ -20,7 +20,7 @@ use Rattle.cell_cli.specs.Course.{Given, nothing, too_long, whole, within, given
 use Rattle.cell_cli.specs.Forms.{record_limit, run_task, check_task, by_verdict}
 use Rattle.cell_cli.specs.Checks.{differ, states_differ, end_of, with_states, with_record, with_replay, checked}
 use Rattle.cell_cli.specs.Runs.{PrintsRun}
-use Rattle.cell_cli.specs.Words.{Spoken, run, check, asm, no_form, task_of}
+use Rattle.cell_cli.specs.Words.{Spoken, run, check, asm, gen, no_form, task_of}
 use Rattle.cell_cli.specs.Answer.{Sinks, Ended, Ends, Answers}
 use Rattle.cell_cli.specs.Output.{Took}
 use Rattle.cell_cli.specs.ReadBack.{IsKeptIn, IsReadBack, ReadsBack}
@@ -118,4 +118,5 @@ read_back files (run machine) old new before after (Race first second) a = tt
 read_back files (run machine) old new before after (Refused fault) a = tt
 read_back files (check machine record_file) old new before after status a = tt
 read_back files (asm source) old new before after status a = tt
+read_back files (gen n) old new before after status a = tt
 read_back files no_form old new before after status a = tt

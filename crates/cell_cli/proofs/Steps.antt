@@ -27,7 +27,7 @@ use Rattle.cell_cli.specs.Task.{Task, read, ready, verdict_of}
 use Rattle.cell_cli.specs.Course.{whole, too_long, given, by_given, if_whole, settled, Reads}
 use Rattle.cell_cli.specs.Forms.{with_image, with_plan, with_setup, source_task, sources_task, by_verdict}
 use Rattle.cell_cli.specs.Answer.{Leads, RefusesIn, Comes, FailsBy, AtFile, AtMachine, AtMachineOrRecord}
-use Rattle.cell_cli.specs.Checks.{FaultGives}
+use Rattle.cell_cli.specs.Checks.{FaultGives, CheckGives}
 
 pub leads_here : (files : List File) (task rest : Task) → task ≡ rest → Leads files task rest
 leads_here files task rest same = record {
@@ -176,3 +176,13 @@ fails_none machine record_file old new wanted (BadRecord line) is = tt
 fails_none machine record_file old new wanted (NotARun at) is = tt
 fails_none machine record_file old new wanted (StatesDiffer at) is = tt
 fails_none machine record_file old new wanted (TooLarge n) is = tt
+
+-- what a check gives is what its task leads to
+pub check_fails : (machine record_file : List ℕ) (old new : Ledger) (wanted result : Result Ran Fault) → CheckGives result wanted → FailsBy (AtMachineOrRecord machine record_file) old new result
+check_fails machine record_file old new wanted (Ok m) gives = tt
+check_fails machine record_file old new wanted (Err fault) gives = fails_none machine record_file old new wanted fault gives
+
+pub check_comes : (files : List File) (task : Task) (wanted : Result Ran Fault) (old new : Ledger) (result : Result Ran Fault) → Leads files task (by_verdict wanted) → CheckGives result wanted
+    → Comes files task (λ m. ready (verdict_of m)) old new result
+check_comes files task wanted old new (Ok m) l gives = leads_on l (leads_verdict files wanted m gives)
+check_comes files task wanted old new (Err fault) l gives = refuses_after files task (by_verdict wanted) old new fault l (refuses_verdict files wanted old new fault gives)

@@ -1,5 +1,5 @@
 -- The task of each form, in the order of its refusals.
-use Rattle.std.specs.Prelude.{ℕ, ◌+◌, List, [], ◌∷◌, ◌++◌, Result, Ok, Err}
+use Rattle.std.specs.Prelude.{ℕ, ◌+◌, nat_lt, if◌then◌else◌, List, [], ◌∷◌, ◌++◌, Result, Ok, Err}
 use Rattle.spu_asm.specs.Images.{Image}
 use Rattle.spu_asm.specs.Assembling.{assembled}
 use Rattle.spu_asm.specs.declared.error.AsmError.{AsmError}
@@ -12,11 +12,11 @@ use Rattle.cell_machine.specs.Opening.{Opening}
 use Rattle.cell_machine.specs.Run.{Ran}
 use Rattle.cell_report.specs.Images.{image_lines}
 use Rattle.cell_cli.specs.declared.fault.Fault.{Fault}
-use Rattle.cell_cli.specs.declared.fault.Fault.TheVariants.{Machine as BadMachine, Source as BadSource, NotInTable, Memory}
+use Rattle.cell_cli.specs.declared.fault.Fault.TheVariants.{Machine as BadMachine, Source as BadSource, NotInTable, TooLarge, Memory}
 use Rattle.cell_cli.specs.declared.fault.FileId.{FileId}
 use Rattle.cell_cli.specs.declared.fault.FileId.TheVariants.{Machine, Source, Rec}
 use Rattle.cell_cli.specs.Checks.{checked}
-use Rattle.cell_cli.specs.Task.{Task, refuse, ready, read, run_of, text_of, verdict_of}
+use Rattle.cell_cli.specs.Task.{Task, refuse, ready, read, run_of, text_of, verdict_of, gen_of}
 
 -- how long a machine file or a source may be
 abbrev pub text_limit : ℕ
@@ -74,3 +74,7 @@ check_task machine record_file = machine_task machine (λ setup. read Rec record
 -- `asm SOURCE`
 abbrev pub asm_task : List ℕ → Task
 asm_task source = source_task 0 source (λ image. ready (text_of (image_lines image)))
+
+-- `gen N`
+abbrev pub gen_task : ℕ → Task
+gen_task n = if nat_lt 64 n then refuse (TooLarge n) else ready (gen_of n)

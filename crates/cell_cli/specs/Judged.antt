@@ -6,14 +6,16 @@ use Rattle.cell_machine.specs.State.{State}
 use Rattle.cell_machine.specs.Opening.{opening}
 use Rattle.cell_machine.specs.Run.{Ran, replay}
 use Rattle.cell_report.specs.States.{states_of}
+use Rattle.race_check.specs.declared.check.Verdict.TheVariants.{Accepted, Race as Racing}
 use Rattle.cell_cli.specs.declared.fault.Status.{Status}
 use Rattle.cell_cli.specs.declared.fault.Status.TheVariants.{Done, Race}
 use Rattle.cell_cli.specs.Task.{run_of}
 use Rattle.cell_cli.specs.Course.{settled}
 use Rattle.cell_cli.specs.Forms.{run_task}
 use Rattle.cell_cli.specs.Checks.{end_of}
-use Rattle.cell_cli.specs.Words.{Spoken, check}
+use Rattle.cell_cli.specs.Words.{Spoken, check, gen}
 use Rattle.cell_cli.specs.Verdicts.{IsAccepted, IsRaced}
+use Rattle.cell_cli.specs.Summaries.{SummarizesRun}
 use Rattle.cell_cli.specs.Answer.{Sinks}
 use Rattle.cell_cli.specs.Output.{Took}
 
@@ -34,11 +36,13 @@ pub record IsRunOf (files : List File) (machine record_file : List ℕ) (m : Ran
   pub records : RecordsRun m text
 
 -- `check` is done only with a run that is accepted, and tells a race only where that is the least of the run; and the sink took the text that
--- says so. No other form tells a race.
+-- says so. The same holds of `gen` and the run that it made. No other form tells a race.
 abbrev pub Judges : List File → Spoken → Sinks → Sinks → Status → Type 0
 Judges files (check machine record_file) before after Done =
     (m : Ran) × IsRunOf files machine record_file m × ((text : List ℕ) × IsAccepted m text × Took before.taken after.taken text)
 Judges files (check machine record_file) before after (Race i j) =
     (m : Ran) × IsRunOf files machine record_file m × ((text : List ℕ) × IsRaced m i j text × Took before.taken after.taken text)
+Judges files (gen n) before after Done = (text : List ℕ) × SummarizesRun n Accepted text × Took before.taken after.taken text
+Judges files (gen n) before after (Race i j) = (text : List ℕ) × SummarizesRun n (Racing i j) text × Took before.taken after.taken text
 Judges files spoken before after (Race i j) = ⊥
 Judges files spoken before after status = Unit {0}

@@ -6,9 +6,10 @@ pub mod Course
 pub mod Output
 pub mod Answer
 pub mod Causes
-pub mod Jobs
 pub mod Code
 pub mod Runs
+pub mod Summaries
 pub mod ReadBack
 pub mod Verdicts
 pub mod Judged
+pub mod Promises

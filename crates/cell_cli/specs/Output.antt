@@ -1,11 +1,13 @@
 -- What went out.
 use Rattle.std.specs.Prelude.{ℕ, ◌≡◌, List, ◌++◌, Option, Some, None}
 use Rattle.cell_io.specs.Store.{AddsPrefix}
+use Rattle.race_check.specs.declared.check.Verdict.TheVariants.{Accepted, Race as Racing}
 use Rattle.cell_cli.specs.declared.fault.Status.{Status}
 use Rattle.cell_cli.specs.declared.fault.Status.TheVariants.{Done, Race}
-use Rattle.cell_cli.specs.Task.{Work, run_of, text_of, verdict_of}
+use Rattle.cell_cli.specs.Task.{Work, run_of, text_of, verdict_of, gen_of}
 use Rattle.cell_cli.specs.Runs.{PrintsRun}
 use Rattle.cell_cli.specs.Verdicts.{IsAccepted, IsRaced}
+use Rattle.cell_cli.specs.Summaries.{SummarizesRun}
 
 -- the sink took the whole text
 abbrev pub Took : Option (List ℕ) → Option (List ℕ) → List ℕ → Type 0
@@ -23,4 +25,6 @@ Writes (run_of setup) Done text = PrintsRun setup text
 Writes (text_of t) Done text = text ≡ t
 Writes (verdict_of m) Done text = IsAccepted m text
 Writes (verdict_of m) (Race i j) text = IsRaced m i j text
+Writes (gen_of n) Done text = SummarizesRun n Accepted text
+Writes (gen_of n) (Race i j) text = SummarizesRun n (Racing i j) text
 Writes work status text = ⊥

@@ -5,11 +5,12 @@ use Rattle.cell_machine.specs.Run.{Ran}
 use Rattle.cell_cli.specs.declared.fault.Fault.{Fault}
 use Rattle.cell_cli.specs.declared.fault.FileId.{FileId}
 
--- the texts of one run of this setup; this text; or the verdict on this run
+-- the texts of one run of this setup; this text; the verdict on this run; or the summary of one run of the machine that is generated for this number
 pub data Work : Type 0 where
   run_of : Opening → Work
   text_of : List ℕ → Work
   verdict_of : Ran → Work
+  gen_of : ℕ → Work
 
 pub data Task : Type 0 where
   refuse : Fault → Task

@@ -1,14 +1,15 @@
 -- The forms of words.
-use Rattle.std.specs.Prelude.{ℕ, ◌≡◌, Bool, List, [], ◌∷◌, nat_eq, if◌then◌else◌, codes, Result, Err, IfErr}
+use Rattle.std.specs.Prelude.{ℕ, Bool, List, [], ◌∷◌, nat_eq, if◌then◌else◌, codes, Option, Some, None}
 use Rattle.std.specs.Cmp.Lexicographic.{pointwise}
-use Rattle.cell_cli.specs.declared.fault.Fault.{Fault}
+use Rattle.cell_base.specs.Numbers.{decimal_number}
 use Rattle.cell_cli.specs.declared.fault.Fault.TheVariants.{Usage}
 use Rattle.cell_cli.specs.declared.fault.FileId.{FileId}
 use Rattle.cell_cli.specs.declared.fault.FileId.TheVariants.{Source}
+use Rattle.cell_cli.specs.declared.words.Form.{Form}
+use Rattle.cell_cli.specs.declared.words.Form.TheVariants.{Run, Check, Asm, Gen, NoForm}
 use Rattle.cell_io.specs.Store.{Ledger}
 use Rattle.cell_cli.specs.Task.{Task, refuse}
-use Rattle.cell_cli.specs.Forms.{run_task, check_task, asm_task}
-use Rattle.cell_cli.specs.Causes.{IsOfInput}
+use Rattle.cell_cli.specs.Forms.{run_task, check_task, asm_task, gen_task}
 use Rattle.cell_cli.specs.Answer.{AtFile, AtMachine, AtMachineOrRecord}
 
 -- what the words say
@@ -16,23 +17,48 @@ pub data Spoken : Type 0 where
   run : List ℕ → Spoken
   check : List ℕ → List ℕ → Spoken
   asm : List ℕ → Spoken
+  gen : ℕ → Spoken
   no_form : Spoken
 
 abbrev pub is_word : List ℕ → List ℕ → Bool
 is_word text word = pointwise nat_eq text word
 
+-- `gen` with a word that is to be a number
+abbrev pub gen_said : Option ℕ → Spoken
+gen_said None = no_form
+gen_said (Some n) = gen n
+
 abbrev pub spoken : List (List ℕ) → Spoken
 spoken [] = no_form
 spoken (form ∷ []) = no_form
-spoken (form ∷ a ∷ []) = if is_word form (codes "run") then run a else if is_word form (codes "asm") then asm a else no_form
+spoken (form ∷ a ∷ []) =
+    if is_word form (codes "run") then run a
+    else if is_word form (codes "asm") then asm a
+    else if is_word form (codes "gen") then gen_said (decimal_number a)
+    else no_form
 spoken (form ∷ a ∷ b ∷ []) = if is_word form (codes "check") then check a b else no_form
 spoken (form ∷ a ∷ b ∷ c ∷ more) = no_form
+
+-- what a form that was read says
+abbrev pub said : Form → Spoken
+said (Run machine) = run machine.now
+said (Check machine record_file) = check machine.now record_file.now
+said (Asm source) = asm source.now
+said (Gen n) = gen n
+said NoForm = no_form
+
+-- they ask for no run
+abbrev pub AsksForNoRun : Spoken → Type 0
+AsksForNoRun (run machine) = ⊥
+AsksForNoRun (gen n) = ⊥
+AsksForNoRun spoken = Unit {0}
 
 -- what they ask for
 abbrev pub task_of : Spoken → Task
 task_of (run machine) = run_task machine
 task_of (check machine record_file) = check_task machine record_file
 task_of (asm source) = asm_task source
+task_of (gen n) = gen_task n
 task_of no_form = refuse Usage
 
 -- the files that may fail, and how, whatever the store tells
@@ -40,9 +66,4 @@ abbrev pub FailsIn : Spoken → FileId → Ledger → Ledger → Type 0
 FailsIn (run machine) file old new = AtMachine machine file old new
 FailsIn (check machine record_file) file old new = AtMachineOrRecord machine record_file file old new
 FailsIn (asm source) file old new = AtFile (Source 0) source file old new
-FailsIn no_form file old new = ⊥
-
--- usage is told exactly where the words are no form
-abbrev pub IsPrepared : {V : Type 0} → Spoken → Result V Fault → Type 0
-IsPrepared no_form result = result ≡ Err Usage
-IsPrepared spoken result = IfErr result IsOfInput
+FailsIn other file old new = ⊥

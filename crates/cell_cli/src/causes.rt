@@ -1,9 +1,10 @@
 //! What a refusal of a layer is called here.
 
 ghost use Rattle.std.specs.Prelude.{◌≡◌};
-ghost use Rattle.cell_cli.specs.Causes.{plan_fault_of, source_fault_of, load_fault_of, record_fault_of, replay_fault_of, IsOfInput};
+ghost use Rattle.cell_cli.specs.Causes.{plan_fault_of, source_fault_of, load_fault_of, record_fault_of, replay_fault_of, gen_fault_of, IsOfInput};
 
 use crate::fault::{Fault, FileId};
+use cell_gen::GenError;
 use cell_load::{LoadError, PlanError};
 use run_record::{RecordError, ReplayError};
 use spu_asm::AsmError;
@@ -55,5 +56,14 @@ pub fn replay_fault(error: ReplayError) -> Fault
     match error {
         ReplayError::NotARun { at } => Fault::NotARun { at },
         ReplayError::Memory => Fault::Memory,
+    }
+}
+
+pub fn gen_fault(error: GenError) -> Fault
+    ensures same { result ≡ gen_fault_of error }
+{
+    match error {
+        GenError::TooLarge { n } => Fault::TooLarge { n },
+        GenError::Memory => Fault::Memory,
     }
 }

@@ -12,7 +12,7 @@ fn machine(alloc: Global, budget: u32, lines: &str, source: &str) -> Result<Mach
     let text = format!(in alloc;
         "cell-machine 1\nlines 4\nbudget {budget}\nspe\nsource s\n{lines}"
     )?;
-    let mut files = files(alloc, text.as_str(), source, Vec::new(alloc))?;
+    let mut files = files(alloc, [text.as_str(), source, ""], Vec::new(alloc))?;
     let Ok(setup) = read_setup(alloc, &mut files, "m") else {
         return Err(Fail::new("the machine is refused"));
     };

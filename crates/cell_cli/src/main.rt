@@ -1,12 +1,14 @@
 //! `cell`: runs programs of the Cell processor's SPUs and writes the record of their steps.
 #![tactic(auto)]
 
+mod asm;
 mod causes;
+mod check;
 mod checking;
 #[cfg(test)]
 mod effect_tests;
 mod fault;
-mod job;
+mod generated;
 mod program;
 #[cfg(test)]
 mod queue_tests;
@@ -14,11 +16,14 @@ mod reading;
 mod run;
 #[cfg(test)]
 mod tests;
+#[cfg(test)]
+mod thread_tests;
 mod words;
 
 use cell_io::{DirStore, OutSink};
 use fault::{Fault, Status};
 use program::cell;
+use spe_workers::OpenGate;
 use std::process::ExitCode;
 use std::{env, io};
 
@@ -35,7 +40,14 @@ fn main(rt: HostRuntime) -> ExitCode {
     let mut files = DirStore::new(&rt);
     let mut out = OutSink::new(io::writer(&rt));
     let status = match read_words(&rt) {
-        Ok(words) => cell(rt.alloc(), words.as_slice(), &mut files, &mut out),
+        Ok(words) => cell(
+            &rt,
+            rt.alloc(),
+            words.as_slice(),
+            &mut files,
+            &mut out,
+            &OpenGate,
+        ),
         Err(_) => Status::Refused(Fault::Memory),
     };
     if let Status::Refused(fault) = status {

@@ -11,7 +11,7 @@ const MACHINE: &str = "cell-machine 1\nlines 129\nbudget 1000\nspe\nsource s\n";
 
 /// The machine whose one processor runs this source.
 fn machine(alloc: Global, source: &str) -> Result<Machine, Fail> {
-    let mut files = files(alloc, MACHINE, source, Vec::new(alloc))?;
+    let mut files = files(alloc, [MACHINE, source, ""], Vec::new(alloc))?;
     let Ok(setup) = read_setup(alloc, &mut files, "m") else {
         return Err(Fail::new("the machine is refused"));
     };

@@ -1,13 +1,19 @@
 // What the program answers where the outside fails, and what went out by then; and what a copy of a setup is good for.
+ghost use Rattle.std.specs.Prelude.{◌<◌, length, map, string_bytes, IfOk};
+ghost use Rattle.cell_cli.specs.Words.{spoken, AsksForNoRun};
+
 use crate::fault::{Fault, FileId, Status};
 use crate::program::cell;
 use crate::reading::read_setup;
-use crate::run::run;
 use cell_io::{Cut, MemFile, MemSink, MemStore};
+use cell_machine::{Machine, Setup};
 use cell_report::states_text;
 use run_record::replay;
+use spe_workers::{OpenGate, run_machine};
 use std::alloc::{AllocError, Global};
+use std::sync::Wait;
 use std::test::Fail;
+use std::thread::Threads;
 
 /// A machine of two sources, which are the one file `s`.
 const MACHINE: &str = "cell-machine 1\nlines 1\nbudget 9\nspe\nsource s\nsource s\n";
@@ -16,11 +22,10 @@ const RECORD: &str = "cell-record 1\nx 0\nsteps 1\n";
 
 const STATES: &str = "end AllStopped\nspe 0 stopped 0x0007 pc 0x00004 queued 0\nhost 0 of 0\n";
 
-/// The files `m` and `s`, and the record `r`. The fetches of these numbers fail.
+/// The files `m`, `s` and `r`. The fetches of these numbers fail.
 pub(crate) fn files(
     alloc: Global,
-    machine: &str,
-    source: &str,
+    [machine, source, record_file]: [&str; 3],
     failing: Vec<u32>,
 ) -> Result<MemStore, AllocError> {
     let mut files = Vec::new(alloc);
@@ -34,13 +39,13 @@ pub(crate) fn files(
     })?;
     files.push(MemFile {
         name: String::from_str(alloc, "r")?,
-        bytes: RECORD.as_bytes().to_vec(alloc)?,
+        bytes: record_file.as_bytes().to_vec(alloc)?,
     })?;
     Ok(MemStore::new(files, failing))
 }
 
 /// `run m`.
-fn run_words(alloc: Global) -> Result<Vec<String>, AllocError> {
+pub(crate) fn run_words(alloc: Global) -> Result<Vec<String>, AllocError> {
     let mut words = Vec::new(alloc);
     words.push(String::from_str(alloc, "run")?)?;
     words.push(String::from_str(alloc, "m")?)?;
@@ -48,7 +53,9 @@ fn run_words(alloc: Global) -> Result<Vec<String>, AllocError> {
 }
 
 /// `check m r`.
-fn check_words(alloc: Global) -> Result<Vec<String>, AllocError> {
+pub(crate) fn check_words(alloc: Global) -> Result<Vec<String>, AllocError>
+    ensures { IfOk result (λ words. AsksForNoRun (spoken (map string_bytes words.items))) }
+{
     let mut words = Vec::new(alloc);
     words.push(String::from_str(alloc, "check")?)?;
     words.push(String::from_str(alloc, "m")?)?;
@@ -57,15 +64,16 @@ fn check_words(alloc: Global) -> Result<Vec<String>, AllocError> {
 }
 
 /// The answer to these words, and what went out.
-fn told(
+fn told<R: Threads + Wait + Sync>(
+    rt: &R,
     alloc: Global,
     words: Vec<String>,
     fetches: Vec<u32>,
     puts: Vec<Cut>,
 ) -> Result<(Status, MemSink), Fail> {
-    let mut files = files(alloc, MACHINE, "stop 7", fetches)?;
+    let mut files = files(alloc, [MACHINE, "stop 7", RECORD], fetches)?;
     let mut out = MemSink::new(alloc, 100, puts)?;
-    let status = cell(alloc, words.as_slice(), &mut files, &mut out);
+    let status = cell(rt, alloc, words.as_slice(), &mut files, &mut out, &OpenGate);
     Ok((status, out))
 }
 
@@ -81,6 +89,7 @@ fn a_fetch_that_fails_names_its_file(rt: HostRuntime) -> Result<(), Fail> {
     for (call, file) in named.into_iter().enumerate() {
         let wanted = Status::Refused(Fault::ReadFault { file });
         let (status, out) = told(
+            &rt,
             alloc,
             check_words(alloc)?,
             vec![in alloc; call as u32]?,
@@ -90,6 +99,7 @@ fn a_fetch_that_fails_names_its_file(rt: HostRuntime) -> Result<(), Fail> {
         assert_eq!(rt; out.bytes(), b"".as_slice());
         // A run reads no record.
         let (status, _) = told(
+            &rt,
             alloc,
             run_words(alloc)?,
             vec![in alloc; call as u32]?,
@@ -105,12 +115,19 @@ fn a_fetch_that_fails_names_its_file(rt: HostRuntime) -> Result<(), Fail> {
 fn a_put_that_fails_is_told(rt: HostRuntime) -> Result<(), Fail> {
     let alloc = rt.alloc();
     let whole = format!(in alloc; "{RECORD}{STATES}")?;
-    let (status, out) = told(alloc, run_words(alloc)?, Vec::new(alloc), Vec::new(alloc))?;
+    let (status, out) = told(
+        &rt,
+        alloc,
+        run_words(alloc)?,
+        Vec::new(alloc),
+        Vec::new(alloc),
+    )?;
     assert_eq!(rt; status, Status::Done);
     assert_eq!(rt; out.bytes(), whole.as_bytes());
     // The record is put first, and then the states.
     for (call, bytes, taken) in [(0, 0, 0), (0, 5, 5), (1, 0, 26), (1, 5, 31)] {
         let (status, out) = told(
+            &rt,
             alloc,
             run_words(alloc)?,
             Vec::new(alloc),
@@ -121,7 +138,7 @@ fn a_put_that_fails_is_told(rt: HostRuntime) -> Result<(), Fail> {
     }
     for (bytes, taken) in [(0, 0), (5, 5)] {
         let cut = vec![in alloc; Cut { call: 0, bytes }]?;
-        let (status, out) = told(alloc, check_words(alloc)?, Vec::new(alloc), cut)?;
+        let (status, out) = told(&rt, alloc, check_words(alloc)?, Vec::new(alloc), cut)?;
         assert_eq!(rt; status, Status::Refused(Fault::WriteFault));
         assert_eq!(rt; Some(out.bytes()), b"accepted 1\n".get(..taken));
     }
@@ -137,15 +154,23 @@ const RAISE: &str =
 
 const SHOWN: &[u8] = b"\nmem 0x00000000 00000016\nls 0 0x02000 0102\nmem 0x00000081 00bbcc00\n";
 
+/// The machine of this setup, at its end.
+fn ended<R: Threads + Wait + Sync>(rt: &R, alloc: Global, setup: Setup) -> Result<Machine, Fail>
+    requires { 0 < length setup.entries }
+{
+    let (machine, _) = run_machine(rt, alloc, Machine::new(alloc, setup)?, &OpenGate)?;
+    Ok(machine)
+}
+
 #[test]
 fn a_copy_of_a_setup_replays_the_same_steps(rt: HostRuntime) -> Result<(), Fail> {
     let alloc = rt.alloc();
-    let mut files = files(alloc, COUNTER, RAISE, Vec::new(alloc))?;
+    let mut files = files(alloc, [COUNTER, RAISE, ""], Vec::new(alloc))?;
     let Ok(setup) = read_setup(alloc, &mut files, "m") else {
         return Err(Fail::new("the machine is refused"));
     };
     let copy = setup.copy(alloc)?;
-    let machine = run(alloc, setup)?;
+    let machine = ended(&rt, alloc, setup)?;
     let states = states_text(alloc, &machine)?;
     let again = replay(alloc, copy, machine.steps())?;
     assert_eq!(rt; states_text(alloc, &again)?.as_slice(), states.as_slice());

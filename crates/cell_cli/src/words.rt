@@ -1,8 +1,10 @@
 //! The words of the command line.
 
 ghost use Rattle.std.specs.Prelude.{◌≡◌, map, string_bytes};
-ghost use Rattle.cell_cli.specs.Words.{spoken};
-ghost use Rattle.cell_cli.specs.Jobs.{said};
+ghost use Rattle.cell_base.specs.Numbers.{decimal_number};
+ghost use Rattle.cell_cli.specs.Words.{spoken, said, gen_said};
+
+use cell_base::line_text::number_at;
 
 /// What the words ask for, by their places; a word that begins with `-` is a plain word.
 #[derive(Clone, Copy, Debug)]
@@ -17,7 +19,28 @@ pub enum Form<'a> {
     Asm {
         source: &'a str,
     },
+    Gen {
+        n: u32,
+    },
     NoForm,
+}
+
+/// The number that a word is in decimal, without a leading zero.
+fn number_of(word: &str) -> Option<u32>
+    ensures { result ≡ decimal_number word.now }
+{
+    let (n, rest) = number_at(word.as_bytes(), u32::MAX)?;
+    rest.is_empty().then_some(n)
+}
+
+/// The form `gen` with this word, where it is a number.
+fn gen_form(word: &str) -> Form<'_>
+    ensures { said result ≡ gen_said (decimal_number word.now) }
+{
+    match number_of(word) {
+        Some(n) => Form::Gen { n },
+        None => Form::NoForm,
+    }
 }
 
 /// The form of the words.
@@ -35,6 +58,7 @@ pub fn form_of(words: &[String]) -> Form<'_>
         [form, source] if form.as_str() == "asm" => Form::Asm {
             source: source.as_str(),
         },
+        [form, number] if form.as_str() == "gen" => gen_form(number.as_str()),
         _ => Form::NoForm,
     }
 }

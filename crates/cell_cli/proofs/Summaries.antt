@@ -1,0 +1,123 @@
+-- The run of a generated machine, and what is written of it.
+use Rattle.std.proofs.Common.{◌≡◌, ℕ, ◌<◌, Bool, true, false, cond, List, Some, Result, Ok, Err, refl, sym, ap, subst, arith}
+use Rattle.std.specs.Prelude.{Option, None, IsSomeAnd, nat_lt}
+use Rattle.std.proofs.lemmas.Bool.Decides.{nat_tests}
+use Rattle.cell_base.specs.declared.steps.Step.{Step}
+use Rattle.cell_machine.specs.declared.status.End.{End}
+use Rattle.cell_machine.specs.State.{State}
+use Rattle.cell_machine.specs.Run.{Ran, IsRun, state_of, IsEnd, HasEnd}
+use Rattle.cell_machine.proofs.Runs.{ends_once}
+use Rattle.cell_gen.specs.Generated.{generated}
+use Rattle.race_check.specs.declared.check.Verdict.{Verdict}
+use Rattle.race_check.specs.declared.check.Verdict.TheVariants.{Accepted, Race as Racing}
+use Rattle.race_check.specs.Races.{IsVerdict}
+use Rattle.race_check.specs.Reorderings.{EveryReorderingAgrees}
+use Rattle.cell_report.specs.Summaries.{summary_of}
+use Rattle.cell_gen.specs.declared.error.GenError.{GenError}
+use Rattle.cell_gen.specs.declared.error.GenError.TheVariants as gen_error
+use Rattle.cell_io.specs.Files.{File}
+use Rattle.cell_io.specs.Store.{Ledger}
+use Rattle.cell_cli.specs.declared.fault.Fault.{Fault}
+use Rattle.cell_cli.specs.declared.fault.Fault.TheVariants.{Usage, ReadFault, WriteFault, TooLong, Machine, Source, NotInTable, BadRecord, NotARun, StatesDiffer, TooLarge, Memory}
+use Rattle.cell_cli.specs.declared.fault.Status.{Status}
+use Rattle.cell_cli.specs.declared.fault.Status.TheVariants.{Done, Race, Refused}
+use Rattle.cell_cli.specs.Causes.{gen_fault_of}
+use Rattle.cell_cli.specs.Course.{settled}
+use Rattle.cell_cli.specs.Forms.{gen_task}
+use Rattle.cell_cli.specs.Code.{status_of}
+use Rattle.cell_cli.specs.Task.{Task, Work, refuse, ready, gen_of}
+use Rattle.cell_cli.specs.Output.{Took, TookPart}
+use Rattle.cell_cli.specs.Answer.{Sinks, Ends, Ended, Answers, WrotePart}
+use Rattle.cell_cli.specs.Summaries.{SummarizesRun}
+
+-- what was found of a run that has ended
+pub record IsFound (n : ℕ) (v : Verdict) (text : List ℕ) (m : Ran) : Type 0 where
+  pub run : IsRun m.setup m.steps
+  pub ended : HasEnd m
+  pub verdict : IsVerdict m v
+  pub agree : v ≡ Accepted → EveryReorderingAgrees m
+  pub says : IsSomeAnd (state_of m) (λ M. (end : Option End) × IsEnd M m.setup.budget end × (text ≡ summary_of n end m.steps M.memory.bytes v))
+
+module _ (n : ℕ) (v : Verdict) (text : List ℕ) where
+  module _ (steps : List Step) (found : IsFound n v text (record { setup = generated n; steps = steps })) where
+    with-end : (M : State) (end : Option End) → state_of (record { setup = generated n; steps = steps }) ≡ Some M → IsEnd M (generated n).budget end
+        → text ≡ summary_of n end steps M.memory.bytes v → SummarizesRun n v text
+    with-end M None stands is says =
+        absurd (ends_once (record { setup = generated n; steps = steps }) (subst (λ o. IsSomeAnd o (λ N. IsEnd N (generated n).budget None)) (sym stands) is) found.ended)
+    with-end M (Some end) stands is says = record {
+      steps = steps;
+      last = M;
+      end = end;
+      replayed = stands;
+      within = found.run.1;
+      ended = is;
+      verdict = found.verdict;
+      agree = found.agree;
+      says = says;
+    }
+
+    with-state : (o : Option State) → state_of (record { setup = generated n; steps = steps }) ≡ o
+        → IsSomeAnd o (λ M. (end : Option End) × IsEnd M (generated n).budget end × (text ≡ summary_of n end steps M.memory.bytes v)) → SummarizesRun n v text
+    with-state None stands is = absurd is
+    with-state (Some M) stands is = with-end M is.0 stands is.1 is.2
+
+  -- a machine with the generated setup
+  pub summarizes : (m : Ran) → m.setup ≡ generated n → IsFound n v text m → SummarizesRun n v text
+  summarizes m same found =
+      let here = subst (λ r. IsFound n v text r) (ap (λ setup. record { setup = setup; steps = m.steps }) same) found in
+      with-state m.steps here (state_of (record { setup = generated n; steps = m.steps })) refl here.says
+
+-- its text, which the code has as a slice
+pub summarizes_own : (n : ℕ) (v : Verdict) (items text : List ℕ) (m : Ran) → text ≡ items → m.setup ≡ generated n → IsFound n v items m → SummarizesRun n v text
+summarizes_own n v items text m same setup found = subst (λ t. SummarizesRun n v t) (sym same) (summarizes n v items m setup found)
+
+-- it went out
+pub ends_summary : (n : ℕ) (v : Verdict) (text : List ℕ) (before after : Sinks) → SummarizesRun n v text → Took before.taken after.taken text → Ends (gen_of n) before after (status_of v)
+ends_summary n Accepted text before after is took = (text, is, took)
+ends_summary n (Racing i j) text before after is took = (text, is, took)
+
+-- a part of it went out
+pub wrote_summary_part : (n : ℕ) (v : Verdict) (text : List ℕ) (old new : Option (List ℕ)) → SummarizesRun n v text → TookPart old new text → WrotePart (gen_of n) old new
+wrote_summary_part n Accepted text old new is part = (Done, text, is, part)
+wrote_summary_part n (Racing i j) text old new is part = (Race i j, text, is, part)
+
+-- ---- the answer to the words
+
+ended-work : (files : List File) (task : Task) (work : Work) (before after : Sinks) (status : Status) → settled files task ≡ Ok work → Ends work before after status → Ended (settled files task) before after status
+ended-work files task work before after status is e = subst (λ (r : Result Work Fault). Ended r before after status) (sym is) e
+
+-- the task comes to this work, which ended so
+answer-ended : (files : List File) (task : Task) (work : Work) (old new : Ledger) (before after : Sinks) (status : Status) → settled files task ≡ Ok work → Ends work before after status → Answers files task old new before after status
+answer-ended files task work old new before after Done is e = ended-work files task work before after Done is e
+answer-ended files task work old new before after (Race i j) is e = ended-work files task work before after (Race i j) is e
+answer-ended files task work old new before after (Refused WriteFault) is e = ended-work files task work before after (Refused WriteFault) is e
+answer-ended files task work old new before after (Refused Memory) is e = tt
+answer-ended files task work old new before after (Refused (ReadFault file)) is e = absurd e
+answer-ended files task work old new before after (Refused Usage) is e = absurd e
+answer-ended files task work old new before after (Refused (TooLong file)) is e = absurd e
+answer-ended files task work old new before after (Refused (Machine line)) is e = absurd e
+answer-ended files task work old new before after (Refused (Source file line kind)) is e = absurd e
+answer-ended files task work old new before after (Refused (NotInTable spe address word)) is e = absurd e
+answer-ended files task work old new before after (Refused (BadRecord line)) is e = absurd e
+answer-ended files task work old new before after (Refused (NotARun at)) is e = absurd e
+answer-ended files task work old new before after (Refused (StatesDiffer at)) is e = absurd e
+answer-ended files task work old new before after (Refused (TooLarge k)) is e = absurd e
+
+module _ (files : List File) (n : ℕ) where
+  -- a number that isn't above 64 comes to a run
+  gen-is : (64 < n → ⊥) → (b : Bool) → nat_lt 64 n ≡ b → settled files (cond b (refuse (TooLarge n)) (ready (gen_of n))) ≡ Ok (gen_of n)
+  gen-is within true is = absurd (within (grind (arith, nat_tests, is)))
+  gen-is within false is = refl
+
+  pub gen_ended : (old new : Ledger) (before after : Sinks) (status : Status) → (64 < n → ⊥) → Ends (gen_of n) before after status → Answers files (gen_task n) old new before after status
+  gen_ended old new before after status within e = answer-ended files (gen_task n) (gen_of n) old new before after status (gen-is within (nat_lt 64 n) refl) e
+
+  -- one above it is refused
+  gen-large : 64 < n → settled files (gen_task n) ≡ Err (TooLarge n)
+  gen-large large = let is : nat_lt 64 n ≡ true = grind (arith, nat_tests, large) in ap (λ b. settled files (cond b (refuse (TooLarge n)) (ready (gen_of n)))) is
+
+  pub gen_refused : (old new : Ledger) (before after : Sinks) (error : GenError) → ((m : ℕ) → error ≡ gen_error.TooLarge m → (64 < n) × (m ≡ n)) → Answers files (gen_task n) old new before after (Refused (gen_fault_of error))
+  gen_refused old new before after (gen_error.TooLarge m) cause =
+      let is = cause m refl in
+      subst (λ k. settled files (gen_task n) ≡ Err (TooLarge k)) (sym is.1) (gen-large is.0)
+  gen_refused old new before after gen_error.Memory cause = tt
