@@ -61,7 +61,7 @@ def main():
     print("| crate | " + " | ".join(KINDS) + " |")
     print("|---" * (1 + len(KINDS)) + "|")
     for line in (ROOT / "crates.txt").read_text().splitlines():
-        crate = line.partition(":")[0]
+        crate = line.partition(":")[0].split()[0]
         print(f"| {crate} | " + " | ".join(f"{table[crate][kind]:.1f}" for kind in KINDS) + " |")
     children = resource.getrusage(resource.RUSAGE_CHILDREN)
     total = (children.ru_utime + children.ru_stime) / 60

@@ -1,16 +1,17 @@
 #!/usr/bin/env python3
 """Whether a step of transfers costs more when more steps were made before it, in machine instructions counted by valgrind.
 
-Usage: python3 bench/growth.py, from the repository's root, after `./cell` was built. It takes some five minutes.
+Usage: python3 bench/growth.py, from the repository's root, after `rt ci` or after `rt run` in crates/run_trace. It takes some five minutes. The runs are made on
+one thread (`run_trace alone`), so that they have the same steps each time.
 """
 import os
 import re
 import subprocess
 import tempfile
 
+import order
 import run
 
-PROGRAM = os.path.join(run.ROOT, "crates/cell_cli/out/cell_cli")
 SOURCES = ("bench/transfer.s", "bench/lists.s")
 BUDGETS = (10_000, 20_000, 40_000, 80_000, 160_000, 800_000, 1_000_000)
 
@@ -19,7 +20,7 @@ def instructions(folder, source, budget):
     """How many machine instructions a run of so many steps takes."""
     machine = run.machine_file(folder, source, budget, 8, 128)
     counts = os.path.join(folder, "counts")
-    words = ["valgrind", "--tool=callgrind", f"--callgrind-out-file={counts}", PROGRAM, "run", machine]
+    words = ["valgrind", "--tool=callgrind", f"--callgrind-out-file={counts}", order.PROGRAM, "alone", machine]
     done = subprocess.run(words, cwd=run.ROOT, capture_output=True, text=True, check=True)
     return int(re.search(r"Collected : (\d+)", done.stderr).group(1))
 

@@ -18,12 +18,12 @@ LINES = 128
 SPES = 8
 
 
-def blocks(folder, budget):
+def blocks(folder, budget, spes=SPES):
     """A machine file whose processors each have a block of their own."""
-    name = os.path.join(folder, f"blocks.{budget}.cell")
+    name = os.path.join(folder, f"blocks.{budget}.{spes}.cell")
     with open(os.path.join(run.ROOT, "bench/blocks.s")) as file:
         text = file.read()
-    sources = [os.path.join(folder, f"blocks.{spe}.s") for spe in range(SPES)]
+    sources = [os.path.join(folder, f"blocks.{spe}.s") for spe in range(spes)]
     for spe, source in enumerate(sources):
         with open(source, "w") as file:
             file.write(text.replace("BASE", str(2048 * spe)))
@@ -32,14 +32,11 @@ def blocks(folder, budget):
     return name
 
 
-def recorded(machine, budget):
-    """The record of a run in which the actors take turns, in a file."""
-    actors = 2 * SPES + 1
-    choices, record = f"{machine}.choices", f"{machine}.record"
-    with open(choices, "w") as file:
-        file.writelines(f"{actors * turn + turn % actors}\n" for turn in range(budget))
+def recorded(machine):
+    """The output of a run in which the actors take turns on one thread, in a file."""
+    record = f"{machine}.record"
     with open(record, "wb") as file:
-        subprocess.run([PROGRAM, "choose", machine, choices], stdout=file, cwd=run.ROOT, check=True)
+        subprocess.run([PROGRAM, "alone", machine], stdout=file, cwd=run.ROOT, check=True)
     return record
 
 
@@ -74,8 +71,8 @@ def machines(folder):
 def main():
     with tempfile.TemporaryDirectory() as folder:
         for title, make in machines(folder):
-            made = [(make(budget), budget) for budget in run.BUDGETS]
-            growth(title, [(machine, recorded(machine, budget)) for machine, budget in made])
+            made = [make(budget) for budget in run.BUDGETS]
+            growth(title, [(machine, recorded(machine)) for machine in made])
 
 
 if __name__ == "__main__":

@@ -30,8 +30,8 @@ def crowd(folder, budget):
     return name
 
 
-def report(title, machine, budget):
-    record = order.recorded(machine, budget)
+def report(title, machine):
+    record = order.recorded(machine)
     took, most = run.measured(["check", machine, record], allowed=(0, 1))
     found, _, _ = order.times(machine, record)
     steps = found["steps"]
@@ -44,7 +44,7 @@ def main():
     with tempfile.TemporaryDirectory() as folder:
         for title, make in order.machines(folder) + [("a crowd", lambda budget: crowd(folder, budget))]:
             for budget in run.BUDGETS:
-                report(title, make(budget), budget)
+                report(title, make(budget))
 
 
 if __name__ == "__main__":

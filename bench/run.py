@@ -16,23 +16,24 @@ import tempfile
 import time
 
 ROOT = os.path.dirname(os.path.dirname(os.path.abspath(__file__)))
+CELL = os.path.join(ROOT, "cell")
 RUNS = 5
 STEPS = 1_000_000
 BUDGETS = (10_000, 100_000, STEPS)
 SOURCE_BYTES = 4_194_304
 
 
-def measured(words, allowed=(0,)):
+def measured(words, allowed=(0,), program=CELL):
     """The best time in seconds, and the greatest resident memory in KiB, of a command that ends with a status that is allowed."""
     best, most = None, 0
     for _ in range(RUNS):
         start = time.monotonic()
         with open(os.devnull, "w") as nowhere:
-            child = subprocess.Popen([os.path.join(ROOT, "cell"), *words], stdout=nowhere, cwd=ROOT)
+            child = subprocess.Popen([program, *words], stdout=nowhere, cwd=ROOT)
             _, status, usage = os.wait4(child.pid, 0)
         took = time.monotonic() - start
         if os.waitstatus_to_exitcode(status) not in allowed:
-            sys.exit(f"cell {' '.join(words)} failed")
+            sys.exit(f"{program} {' '.join(words)} failed")
         best = took if best is None else min(best, took)
         most = max(most, usage.ru_maxrss)
     return best, most
@@ -76,7 +77,7 @@ def checking(folder, source, spes, lines):
     output = f"{machine}.out"
     ran, ran_most = measured(["run", machine])
     with open(output, "wb") as file:
-        subprocess.run([os.path.join(ROOT, "cell"), "run", machine], stdout=file, cwd=ROOT, check=True)
+        subprocess.run([CELL, "run", machine], stdout=file, cwd=ROOT, check=True)
     took, most = measured(["check", machine, output])
     print(f"{source} on {spes} processors with {lines} lines: a check takes {STEPS / took / 1e6:.2f} million steps a second; "
           f"{took:.2f} s and {most / 1024:.1f} MiB, {took / ran:.2f} times the run's {ran:.2f} s, which takes {ran_most / 1024:.1f} MiB")
