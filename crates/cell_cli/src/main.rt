@@ -5,13 +5,9 @@ mod asm;
 mod causes;
 mod check;
 mod checking;
-#[cfg(test)]
-mod effect_tests;
 mod fault;
 mod generated;
 mod program;
-#[cfg(test)]
-mod queue_tests;
 mod reading;
 mod run;
 #[cfg(test)]

@@ -1,15 +1,11 @@
-// What the program answers where the outside fails, and what went out by then; and what a copy of a setup is good for.
-ghost use Rattle.std.specs.Prelude.{◌<◌, length, map, string_bytes, IfOk};
+// What the program answers where the outside fails, and what went out by then.
+ghost use Rattle.std.specs.Prelude.{map, string_bytes, IfOk};
 ghost use Rattle.cell_cli.specs.Words.{spoken, AsksForNoRun};
 
 use crate::fault::{Fault, FileId, Status};
 use crate::program::cell;
-use crate::reading::read_setup;
 use cell_io::{Cut, MemFile, MemSink, MemStore};
-use cell_machine::{Machine, Setup};
-use cell_report::states_text;
-use run_record::replay;
-use spe_workers::{OpenGate, run_machine};
+use spe_workers::OpenGate;
 use std::alloc::{AllocError, Global};
 use std::sync::Wait;
 use std::test::Fail;
@@ -142,38 +138,5 @@ fn a_put_that_fails_is_told(rt: HostRuntime) -> Result<(), Fail> {
         assert_eq!(rt; status, Status::Refused(Fault::WriteFault));
         assert_eq!(rt; Some(out.bytes()), b"accepted 1\n".get(..taken));
     }
-    Ok(())
-}
-
-/// Two processors raise a counter in memory three times each; each tells the last number that it wrote. Bytes are placed in stores and in memory.
-const COUNTER: &str =
-    "cell-machine 1\nlines 2\nbudget 1000\nspe\nsource s\nbytes 0x2000 0102\nspe\nsource s\nmem 0x3 10\nhost send 0 7\nhost store 0x82 bbcc\nhost take 1\nhost await 0\nshow mem 0 4\nshow ls 0 0x2000 2\nshow mem 0x81 4\n";
-
-const RAISE: &str =
-    "ila $5,0x1000\nil $7,3\nloop: wrch $ch16,$5\nwrch $ch18,$0\nil $8,0xD0\nwrch $ch21,$8\nrdch $9,$ch27\nlqd $10,0($5)\nai $10,$10,1\nstqd $10,0($5)\nil $8,0xB4\nwrch $ch21,$8\nrdch $9,$ch27\nbrnz $9,loop\nai $7,$7,-1\nbrnz $7,loop\nwrch $ch28,$10\nstop 0\n";
-
-const SHOWN: &[u8] = b"\nmem 0x00000000 00000016\nls 0 0x02000 0102\nmem 0x00000081 00bbcc00\n";
-
-/// The machine of this setup, at its end.
-fn ended<R: Threads + Wait + Sync>(rt: &R, alloc: Global, setup: Setup) -> Result<Machine, Fail>
-    requires { 0 < length setup.entries }
-{
-    let (machine, _) = run_machine(rt, alloc, Machine::new(alloc, setup)?, &OpenGate)?;
-    Ok(machine)
-}
-
-#[test]
-fn a_copy_of_a_setup_replays_the_same_steps(rt: HostRuntime) -> Result<(), Fail> {
-    let alloc = rt.alloc();
-    let mut files = files(alloc, [COUNTER, RAISE, ""], Vec::new(alloc))?;
-    let Ok(setup) = read_setup(alloc, &mut files, "m") else {
-        return Err(Fail::new("the machine is refused"));
-    };
-    let copy = setup.copy(alloc)?;
-    let machine = ended(&rt, alloc, setup)?;
-    let states = states_text(alloc, &machine)?;
-    let again = replay(alloc, copy, machine.steps())?;
-    assert_eq!(rt; states_text(alloc, &again)?.as_slice(), states.as_slice());
-    assert!(rt; states.as_slice().ends_with(SHOWN));
     Ok(())
 }

@@ -8,8 +8,6 @@ mod record;
 mod shows;
 mod states;
 mod summary;
-#[cfg(test)]
-mod tests;
 mod verdict;
 
 pub use error::TextError;
