@@ -7,7 +7,6 @@ use Rattle.cell_base.specs.Records.{spelling}
 use Rattle.cell_io.specs.Files.{File, file_named}
 use Rattle.cell_io.specs.Store.{Ledger}
 use Rattle.cell_machine.specs.Opening.{Opening, opening}
-use Rattle.cell_machine.specs.Run.{Ran}
 use Rattle.cell_report.specs.States.{states_of}
 use Rattle.run_record.proofs.Records.{record_again}
 use Rattle.cell_cli.specs.declared.fault.Fault.{Fault}
@@ -19,7 +18,7 @@ use Rattle.cell_cli.specs.Task.{Task, Work, refuse, ready, read, run_of, verdict
 use Rattle.cell_cli.specs.Course.{Given, nothing, too_long, whole, within, given, by_given, if_whole, settled, Reads}
 use Rattle.cell_cli.specs.Forms.{record_limit, run_task, check_task, by_verdict}
 use Rattle.cell_cli.specs.Checks.{differ, states_differ, end_of, with_states, with_record, with_replay, checked}
-use Rattle.cell_cli.specs.Runs.{PrintsRun}
+use Rattle.cell_cli.specs.Runs.{ran, PrintsRun}
 use Rattle.cell_cli.specs.Words.{Spoken, run, check, asm, gen, no_form, task_of}
 use Rattle.cell_cli.specs.Answer.{Sinks, Ended, Ends, Answers}
 use Rattle.cell_cli.specs.Output.{Took}
@@ -39,16 +38,16 @@ states-same at [] = refl
 states-same at (x ∷ xs) = differ-same at (x ∷ xs)
 
 -- the text of a run is found to be that run
-run-checked : (setup : Opening) (text : List ℕ) (r : PrintsRun setup text) → checked setup text ≡ Ok (record { setup = setup; steps = r.steps })
-run-checked setup text r =
-    let ran : Ran = record { setup = setup; steps = r.steps } in
+run-checked : (setup : Opening) (text : List ℕ) (p : PrintsRun setup text) → checked setup text ≡ Ok (ran p.run)
+run-checked setup text p =
+    let r = p.run in
     let states = states_of r.last setup.shows (Some r.end) in
     let own : states_of r.last setup.shows (end_of r.last setup.budget) ≡ states = ap (states_of r.last setup.shows) (sym (end-is r.last setup.budget (Some r.end) r.ended)) in
-    ap (λ t. checked setup t) r.printed
-    ∙ ap (with_record setup) (record_again r.steps states r.recorded)
+    ap (λ t. checked setup t) p.printed
+    ∙ ap (with_record setup) (record_again r.steps states p.recorded)
     ∙ ap (with_replay setup r.steps (length (spelling r.steps)) states) (replays r.steps 0 setup.budget (opening setup) r.last r.within r.replayed)
-    ∙ ap (λ t. with_states ran (states_differ (length (spelling r.steps)) states t)) own
-    ∙ ap (with_states ran) (states-same (length (spelling r.steps)) states)
+    ∙ ap (λ t. with_states (ran r) (states_differ (length (spelling r.steps)) states t)) own
+    ∙ ap (with_states (ran r)) (states-same (length (spelling r.steps)) states)
 
 -- ---- files that are as they were
 
@@ -82,21 +81,21 @@ given-whole files name text limit is fits =
 same-run : (S T : Opening) → ◌≡◌ {A = Result Work Fault} (Ok (run_of S)) (Ok (run_of T)) → S ≡ T
 same-run S T e = cc
 
-kept-read : (files later : List File) (machine record_file text : List ℕ) (setup : Opening) → settled files (run_task machine) ≡ Ok (run_of setup) → (r : PrintsRun setup text)
-    → IsKeptIn files later (run_task machine) record_file text → settled later (check_task machine record_file) ≡ Ok (verdict_of (record { setup = setup; steps = r.steps }))
-kept-read files later machine record_file text setup is r k =
+kept-read : (files later : List File) (machine record_file text : List ℕ) (setup : Opening) → settled files (run_task machine) ≡ Ok (run_of setup) → (p : PrintsRun setup text)
+    → IsKeptIn files later (run_task machine) record_file text → settled later (check_task machine record_file) ≡ Ok (verdict_of (ran p.run))
+kept-read files later machine record_file text setup is p k =
     let next : Opening → Task = λ S. read Rec record_file record_limit (λ t. by_verdict (checked S t)) in
     let on = machine-on later (run_of setup) (λ S. ready (run_of S)) next machine (same-settled files later (run_task machine) k.same ∙ is) in
     on.2 ∙ ap (λ S. settled later (next S)) (same-run on.0 setup on.1)
-    ∙ ap (λ g. by_given Rec g (λ t. settled later (by_verdict (checked setup t)))) (given-whole later record_file text record_limit k.kept r.short)
-    ∙ ap (λ v. settled later (by_verdict v)) (run-checked setup text r)
+    ∙ ap (λ g. by_given Rec g (λ t. settled later (by_verdict (checked setup t)))) (given-whole later record_file text record_limit k.kept p.short)
+    ∙ ap (λ v. settled later (by_verdict v)) (run-checked setup text p)
 
 reads-back : (files : List File) (machine text : List ℕ) (setup : Opening) → settled files (run_task machine) ≡ Ok (run_of setup) → PrintsRun setup text → IsReadBack files machine text
-reads-back files machine text setup is r = record {
+reads-back files machine text setup is p = record {
   setup = setup;
   own = is;
-  run = r;
-  checked = λ later record_file k. kept-read files later machine record_file text setup is r k;
+  prints = p;
+  checked = λ later record_file k. kept-read files later machine record_file text setup is p k;
 }
 
 same-work : (v w : Work) → ◌≡◌ {A = Result Work Fault} (Ok v) (Ok w) → v ≡ w

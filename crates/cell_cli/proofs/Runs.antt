@@ -21,33 +21,34 @@ pub record FollowsLaws (m : Ran) : Type 0 where
   pub locks : AreLocksKept m
   pub recorded : AreSteps m.steps
 
-printed : (m : Ran) (M : State) (o : Option End) (first second : List ℕ) → state_of m ≡ Some M → length m.steps ≤ m.setup.budget → FollowsLaws m → HasEnd m
-    → length second ≤ 700000 → IsEnd M m.setup.budget o → first ≡ spelling m.steps → second ≡ states_of M m.setup.shows o → PrintsRun m.setup (first ++ second)
-printed m M None first second stands within laws ended small is a b = absurd (ends_once m (subst (λ o. IsSomeAnd o (λ N. IsEnd N m.setup.budget None)) (sym stands) is) ended)
-printed m M (Some end) first second stands within laws ended small is a b = record {
-  steps = m.steps;
-  last = M;
-  end = end;
-  replayed = stands;
-  within = within;
-  order = laws.order;
-  lists = laws.lists;
-  locks = laws.locks;
-  recorded = laws.recorded;
-  ended = is;
-  short = both-short m.steps first second laws.recorded a small;
-  printed = ap (λ t. t ++ second) a ∙ ap (λ t. spelling m.steps ++ t) b;
-}
+-- What holds of the last state and the end word of a run that has ended: from there Q is come to.
+module _ (m : Ran) (P : State → Option End → Type 0) (Q : Type 0) (go : (last : State) (end : End) → state_of m ≡ Some last → IsEnd last m.setup.budget (Some end) → P last (Some end) → Q) where
+  with-end : HasEnd m → (M : State) (e : Option End) → state_of m ≡ Some M → IsEnd M m.setup.budget e → P M e → Q
+  with-end ended M None stands is holds = absurd (ends_once m (subst (λ o. IsSomeAnd o (λ N. IsEnd N m.setup.budget None)) (sym stands) is) ended)
+  with-end ended M (Some end) stands is holds = go M end stands is holds
 
-found : (m : Ran) (o : Option State) (first second : List ℕ) → state_of m ≡ o → length m.steps ≤ m.setup.budget → FollowsLaws m → HasEnd m
-    → length second ≤ 700000 → first ≡ spelling m.steps → IsSomeAnd o (λ M. (e : Option End) × IsEnd M m.setup.budget e × (second ≡ states_of M m.setup.shows e)) → PrintsRun m.setup (first ++ second)
-found m None first second stands within laws ended small a b = absurd b
-found m (Some M) first second stands within laws ended small a b = printed m M b.0 first second stands within laws ended small b.1 a b.2
+  with-state : HasEnd m → (o : Option State) → state_of m ≡ o → IsSomeAnd o (λ M. (e : Option End) × IsEnd M m.setup.budget e × P M e) → Q
+  with-state ended None stands is = absurd is
+  with-state ended (Some M) stands is = with-end ended M is.0 stands is.1 is.2
+
+  pub from_end : HasEnd m → IsSomeAnd (state_of m) (λ M. (e : Option End) × IsEnd M m.setup.budget e × P M e) → Q
+  from_end ended is = with-state ended (state_of m) refl is
 
 -- the two texts of a machine that has ended
 pub prints_run : (m : Ran) (first second : List ℕ) → length m.steps ≤ m.setup.budget → FollowsLaws m → HasEnd m → length second ≤ 700000 → first ≡ spelling m.steps
     → IsSomeAnd (state_of m) (λ M. (e : Option End) × IsEnd M m.setup.budget e × (second ≡ states_of M m.setup.shows e)) → PrintsRun m.setup (first ++ second)
-prints_run m first second within laws ended small a b = found m (state_of m) first second refl within laws ended small a b
+prints_run m first second within laws ended small a = from_end m (λ M e. second ≡ states_of M m.setup.shows e) (PrintsRun m.setup (first ++ second)) printed ended
+  where
+    printed : (last : State) (end : End) → state_of m ≡ Some last → IsEnd last m.setup.budget (Some end) → second ≡ states_of last m.setup.shows (Some end) → PrintsRun m.setup (first ++ second)
+    printed last end stands is b = record {
+      run = record { steps = m.steps; last = last; end = end; replayed = stands; within = within; ended = is };
+      order = laws.order;
+      lists = laws.lists;
+      locks = laws.locks;
+      recorded = laws.recorded;
+      short = both-short m.steps first second laws.recorded a small;
+      printed = ap (λ t. t ++ second) a ∙ ap (λ t. spelling m.steps ++ t) b;
+    }
 
 -- what the code made of a machine that has ended
 pub prints_own : (m : Ran) (steps : List Step) (record_items states_items first second : List ℕ) → HasEnd m → steps ≡ m.steps → IsRun m.setup m.steps → FollowsLaws m

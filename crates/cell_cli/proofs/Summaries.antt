@@ -1,12 +1,11 @@
 -- The run of a generated machine, and what is written of it.
 use Rattle.std.proofs.Common.{◌≡◌, ℕ, ◌<◌, Bool, true, false, cond, List, Some, Result, Ok, Err, refl, sym, ap, subst, arith}
-use Rattle.std.specs.Prelude.{Option, None, IsSomeAnd, nat_lt}
+use Rattle.std.specs.Prelude.{Option, IsSomeAnd, nat_lt}
 use Rattle.std.proofs.lemmas.Bool.Decides.{nat_tests}
 use Rattle.cell_base.specs.declared.steps.Step.{Step}
 use Rattle.cell_machine.specs.declared.status.End.{End}
 use Rattle.cell_machine.specs.State.{State}
 use Rattle.cell_machine.specs.Run.{Ran, IsRun, state_of, IsEnd, HasEnd}
-use Rattle.cell_machine.proofs.Runs.{ends_once}
 use Rattle.cell_gen.specs.Generated.{generated}
 use Rattle.race_check.specs.declared.check.Verdict.{Verdict}
 use Rattle.race_check.specs.declared.check.Verdict.TheVariants.{Accepted, Race as Racing}
@@ -29,6 +28,7 @@ use Rattle.cell_cli.specs.Task.{Task, Work, refuse, ready, gen_of}
 use Rattle.cell_cli.specs.Output.{Took, TookPart}
 use Rattle.cell_cli.specs.Answer.{Sinks, Ends, Ended, Answers, WrotePart}
 use Rattle.cell_cli.specs.Summaries.{SummarizesRun}
+use Rattle.cell_cli.proofs.Runs.{from_end}
 
 -- what was found of a run that has ended
 pub record IsFound (n : ℕ) (v : Verdict) (text : List ℕ) (m : Ran) : Type 0 where
@@ -39,33 +39,21 @@ pub record IsFound (n : ℕ) (v : Verdict) (text : List ℕ) (m : Ran) : Type 0 
   pub says : IsSomeAnd (state_of m) (λ M. (end : Option End) × IsEnd M m.setup.budget end × (text ≡ summary_of n end m.steps M.memory.bytes v))
 
 module _ (n : ℕ) (v : Verdict) (text : List ℕ) where
-  module _ (steps : List Step) (found : IsFound n v text (record { setup = generated n; steps = steps })) where
-    with-end : (M : State) (end : Option End) → state_of (record { setup = generated n; steps = steps }) ≡ Some M → IsEnd M (generated n).budget end
-        → text ≡ summary_of n end steps M.memory.bytes v → SummarizesRun n v text
-    with-end M None stands is says =
-        absurd (ends_once (record { setup = generated n; steps = steps }) (subst (λ o. IsSomeAnd o (λ N. IsEnd N (generated n).budget None)) (sym stands) is) found.ended)
-    with-end M (Some end) stands is says = record {
-      steps = steps;
-      last = M;
-      end = end;
-      replayed = stands;
-      within = found.run.1;
-      ended = is;
-      verdict = found.verdict;
-      agree = found.agree;
-      says = says;
-    }
-
-    with-state : (o : Option State) → state_of (record { setup = generated n; steps = steps }) ≡ o
-        → IsSomeAnd o (λ M. (end : Option End) × IsEnd M (generated n).budget end × (text ≡ summary_of n end steps M.memory.bytes v)) → SummarizesRun n v text
-    with-state None stands is = absurd is
-    with-state (Some M) stands is = with-end M is.0 stands is.1 is.2
+  generated-run : (steps : List Step) → IsFound n v text (record { setup = generated n; steps = steps }) → SummarizesRun n v text
+  generated-run steps found = from_end (record { setup = generated n; steps = steps }) (λ M end. text ≡ summary_of n end steps M.memory.bytes v) (SummarizesRun n v text) summarized found.ended found.says
+    where
+      summarized : (last : State) (end : End) → state_of (record { setup = generated n; steps = steps }) ≡ Some last → IsEnd last (generated n).budget (Some end)
+          → text ≡ summary_of n (Some end) steps last.memory.bytes v → SummarizesRun n v text
+      summarized last end stands is says = record {
+        run = record { steps = steps; last = last; end = end; replayed = stands; within = found.run.1; ended = is };
+        verdict = found.verdict;
+        agree = found.agree;
+        says = says;
+      }
 
   -- a machine with the generated setup
   pub summarizes : (m : Ran) → m.setup ≡ generated n → IsFound n v text m → SummarizesRun n v text
-  summarizes m same found =
-      let here = subst (λ r. IsFound n v text r) (ap (λ setup. record { setup = setup; steps = m.steps }) same) found in
-      with-state m.steps here (state_of (record { setup = generated n; steps = m.steps })) refl here.says
+  summarizes m same found = generated-run m.steps (subst (λ r. IsFound n v text r) (ap (λ setup. record { setup = setup; steps = m.steps }) same) found)
 
 -- its text, which the code has as a slice
 pub summarizes_own : (n : ℕ) (v : Verdict) (items text : List ℕ) (m : Ran) → text ≡ items → m.setup ≡ generated n → IsFound n v items m → SummarizesRun n v text
