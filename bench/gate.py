@@ -1,10 +1,12 @@
 #!/usr/bin/env python3
 """What the gate costs, crate by crate: runs `rt ci --anew` and prints a table of processor time in minutes.
 
-Usage: python3 bench/gate.py, on a machine that does nothing else. The gate's own output goes to standard error.
+Usage: python3 bench/gate.py [--kept], on a machine that does nothing else. The gate's own output goes to standard error. With --kept it is a plain
+`rt ci`, which goes on with what earlier runs on the machine have kept.
 
 Once a second it reads from /proc what each of the prover's processes has used so far. What a process uses after the
-last reading is in the total alone, so the columns add up to a little less.
+last reading is in the total alone, so the columns add up to a little less. On a virtual machine the last line tells how long processes had to wait while
+its host gave the cores to others.
 """
 import collections
 import os
@@ -46,9 +48,14 @@ def readings(gate):
         yield (entry.name, stat[19]), crate, kind_of(command, folder), used
 
 
+def stolen():
+    """Minutes of the cores' time that a host has given to others since the start of the machine."""
+    return int(pathlib.Path("/proc/stat").read_text().split()[8]) / TICKS / 60
+
+
 def main():
-    began = time.monotonic()
-    gate = subprocess.Popen(["rt", "ci", "--anew"], cwd=ROOT, stdout=sys.stderr)
+    began, taken = time.monotonic(), stolen()
+    gate = subprocess.Popen(["rt", "ci"] + ["--anew"] * ("--kept" not in sys.argv), cwd=ROOT, stdout=sys.stderr)
     processes = {}
     while gate.poll() is None:
         for process, crate, kind, used in readings(gate):
@@ -65,7 +72,7 @@ def main():
         print(f"| {crate} | " + " | ".join(f"{table[crate][kind]:.1f}" for kind in KINDS) + " |")
     children = resource.getrusage(resource.RUSAGE_CHILDREN)
     total = (children.ru_utime + children.ru_stime) / 60
-    print(f"\n{(time.monotonic() - began) / 60:.1f} minutes, {total:.0f} minutes of processor time")
+    print(f"\n{(time.monotonic() - began) / 60:.1f} minutes, {total:.0f} minutes of processor time; {stolen() - taken:.0f} minutes of the cores' time went to others")
     return gate.returncode
 
 
