@@ -12,8 +12,6 @@ mod entry;
 mod error;
 mod line;
 mod shadow;
-#[cfg(test)]
-mod tests;
 mod walk;
 
 pub use check::{Verdict, check_races};

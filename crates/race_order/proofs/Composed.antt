@@ -7,7 +7,7 @@ use Rattle.order_sets.specs.declared.facts.At.{At}
 use Rattle.order_sets.specs.declared.facts.Fact.TheVariants.{Whole, Elements}
 use Rattle.order_sets.specs.Facts.{covers}
 use Rattle.cell_base.specs.declared.steps.Step.{Step}
-use Rattle.cell_base.specs.declared.steps.Step.TheVariants.{Exec, Elem}
+use Rattle.cell_base.specs.declared.steps.Step.TheVariants.{Exec, Piece, Elem, Retire, Atomic, Host}
 use Rattle.mfc_command.specs.declared.command.Command.{Command}
 use Rattle.cell_machine.specs.declared.effect.Note.{Note}
 use Rattle.cell_machine.specs.declared.effect.Note.TheVariants.{Ack}
@@ -29,7 +29,8 @@ use Rattle.race_order.specs.Premises.{MayStep, QueueMay, IsQueued}
 use Rattle.race_order.specs.Sources.{is_in, IsKept, IsOwn, HaveOwn}
 use Rattle.race_order.proofs.Nexts.{Completes, Stalls, GoesInto, after}
 use Rattle.race_order.proofs.Local.{Touches, WaitsLocal, Stays, Itself, AtIssue, FromEarlier, Own, CompleteLocal, WasComplete, IsNow, FixedLocal, WasFixed, FixedNow, StalledLocal, WasStalled, StalledNow, AreLocal}
-use Rattle.race_order.specs.Lives.{is_touched, goes_in, own_has, moved, acks, acked_by, reads_of, ShowsLives, touch_brings}
+use Rattle.race_order.specs.Lives.{is_touched, goes_in, own_has, moved, acks, acked_by, reads_of, touch_brings}
+use Rattle.race_order.proofs.LivesNext.{ShowsNear}
 use Rattle.race_order.specs.Passes.{View, is_ahead, brings, with_into, from_class, classes_ahead}
 use Rattle.race_order.specs.Tables.{is_among}
 use Rattle.race_order.proofs.Passed.{Picked, picked, none_any}
@@ -65,7 +66,15 @@ acks_from : (p : ℕ) (s : Progress) (step : Step) (note : Note) → step ≡ Ex
 acks_from p s step note f g h =
     subst (λ x. acks p s x note ≡ true) (sym f) (and_from (p == p) _ (eq-eqb p p refl) (subst (λ y. acked_by s y ≡ true) (sym h) (and_from s.stalled _ g (eq-eqb s.command.tag s.command.tag refl))))
 
-module _ (n : ℕ) (trace : Trace) (e : Event) (orderly : IsOrderly n (trace ++ (e ∷ []))) (queued : IsQueued (trace ++ (e ∷ []))) (known : At → Bool) (lives : List Live) (shows : ShowsLives lives trace) (sets : View) (have : HaveOwn n sets trace) (into : List QueueRole) (lists : AreLists trace e into (issue_list (issued_in e.step e.effect.note)) (fix_list e.effect.fixed (spe_in e.step))) (final : View) (passed : AreStepped n e.step e.effect (after n trace e known) lives into sets final) where
+of_spe : (p c : ℕ) (step : Step) → is_of p c step ≡ true → spe_in step ≡ Some p
+of_spe p c (Exec q) h = cc
+of_spe p c (Piece q d x k) h = ap Some (eqb-true q p (and_parts (q == p) (d == c) h).0)
+of_spe p c (Elem q d) h = ap Some (eqb-true q p (and_parts (q == p) (d == c) h).0)
+of_spe p c (Retire q d) h = ap Some (eqb-true q p (and_parts (q == p) (d == c) h).0)
+of_spe p c (Atomic q) h = cc
+of_spe p c Host h = cc
+
+module _ (n : ℕ) (trace : Trace) (e : Event) (orderly : IsOrderly n (trace ++ (e ∷ []))) (queued : IsQueued (trace ++ (e ∷ []))) (known : At → Bool) (lives : List Live) (shows : ShowsNear (spe_in e.step) lives trace) (sets : View) (have : HaveOwn n sets trace) (into : List QueueRole) (lists : AreLists trace e into (issue_list (issued_in e.step e.effect.note)) (fix_list e.effect.fixed (spe_in e.step))) (final : View) (passed : AreStepped n e.step e.effect (after n trace e known) lives into sets final) where
   abbrev T : Trace
   T = trace ++ (e ∷ [])
 
@@ -79,15 +88,22 @@ module _ (n : ℕ) (trace : Trace) (e : Event) (orderly : IsOrderly n (trace ++ 
   may = subst (λ t. QueueMay t e) (take_before trace e) (queued (length trace) e (get_last trace e))
 
   live_has : (l : Live) → InLives l → Has trace l.spe l.cmd l.progress × (l.progress.done ≡ false)
-  live_has l i = shows.sound i.place l i.at
+  live_has l i = let h = shows.sound i.place l i.at in (h.1, h.2)
+
+  comes_to : (p c : ℕ) (s : Progress) → Has trace p c s → s.done ≡ false → Has T p c (next_of record { spe = p; cmd = c; progress = s }).progress
+  comes_to p c s h d = record { is = status_next p c trace e ∙ (ap (λ o. next_status p c o e) h.is ∙ ap (λ (b : Bool). Some (if b then s else stepped p c s e.step e.effect.note)) d) }
 
   next_has : (l : Live) → InLives l → Has T l.spe l.cmd (next_of l).progress
-  next_has l i =
-      let h = live_has l i in
-      record { is = status_next l.spe l.cmd trace e ∙ (ap (λ o. next_status l.spe l.cmd o e) h.0.is ∙ ap (λ (b : Bool). Some (if b then l.progress else stepped l.spe l.cmd l.progress e.step e.effect.note)) h.1) }
+  next_has l i = let h = live_has l i in comes_to l.spe l.cmd l.progress h.0 h.1
 
-  find : (p c : ℕ) (s : Progress) → Has trace p c s → s.done ≡ false → InLives record { spe = p; cmd = c; progress = s }
-  find p c s h d = let f = shows.full p c s h d in record { place = f.0; at = f.1 }
+  find : (p c : ℕ) (s : Progress) → spe_in e.step ≡ Some p → Has trace p c s → s.done ≡ false → InLives record { spe = p; cmd = c; progress = s }
+  find p c s w h d = let f = shows.full p c s w h d in record { place = f.0; at = f.1 }
+
+  -- what the step touches is of its processor
+  who_of : (p c : ℕ) → Touches trace e p c → spe_in e.step ≡ Some p
+  who_of p c (inl of) = of_spe p c e.step of
+  who_of p c (inr (inl h)) = ap spe_in h.1.is
+  who_of p c (inr (inr a)) = ap spe_in a.is
 
   touches_of : (l : Live) → InLives l → is_touched l e.step e.effect.note ≡ true → Touches trace e l.spe l.cmd
   touches_of l i x = by (or_cases (is_of l.spe l.cmd e.step) (acks l.spe l.progress e.step e.effect.note) x)
@@ -116,7 +132,7 @@ module _ (n : ℕ) (trace : Trace) (e : Event) (orderly : IsOrderly n (trace ++ 
     becomes : (next_of record { spe = p; cmd = c; progress = was }).progress ≡ t
 
   held_by : (p c : ℕ) (s t : Progress) → Has trace p c s → s.done ≡ false → Has T p c t → Held p c t
-  held_by p c s t h d g = record { was = s; has = h; live = d; becomes = same_progress T p c (next_of record { spe = p; cmd = c; progress = s }).progress t (next_has record { spe = p; cmd = c; progress = s } (find p c s h d)) g }
+  held_by p c s t h d g = record { was = s; has = h; live = d; becomes = same_progress T p c (next_of record { spe = p; cmd = c; progress = s }).progress t (comes_to p c s h d) g }
 
   completes_held : (p c : ℕ) (x : Completes trace e p c) → Held p c x.progress
   completes_held p c x = by (came trace e p c x.progress x.now.has)
@@ -342,11 +358,11 @@ module _ (n : ℕ) (trace : Trace) (e : Event) (orderly : IsOrderly n (trace ++ 
       let of : ((p == p) && (d == d)) ≡ true = and_from _ _ (eq-eqb p p refl) (eq-eqb d d refl) in
       let m : MayStep trace p d e.step e.effect.note = may.step p d (ap (is_of p d) h ∙ of) in
       let l : Live = record { spe = p; cmd = d; progress = m.progress } in
-      up6 (Waits p d) a (touch3 l a (find p d m.progress m.has m.live) (or_left _ _ (ap (is_of p d) h ∙ of)) (inl (or_left _ _ (ap (reads_of p d) h ∙ of), z)))
+      up6 (Waits p d) a (touch3 l a (find p d m.progress (ap spe_in h) m.has m.live) (or_left _ _ (ap (is_of p d) h ∙ of)) (inl (or_left _ _ (ap (reads_of p d) h ∙ of), z)))
   waits_from p d a kept (Itself (inr (inr h)) z) =
       let k : acks p h.progress e.step e.effect.note ≡ true = acks_from p h.progress e.step e.effect.note h.is h.stalled h.notes in
       let l : Live = record { spe = p; cmd = d; progress = h.progress } in
-      up6 (Waits p d) a (touch3 l a (find p d h.progress h.has (kept h.progress h.has)) (or_right (is_of p d e.step) _ k) (inl (or_right (reads_of p d e.step) _ k, z)))
+      up6 (Waits p d) a (touch3 l a (find p d h.progress (ap spe_in h.is) h.has (kept h.progress h.has)) (or_right (is_of p d e.step) _ k) (inl (or_right (reads_of p d e.step) _ k, z)))
   waits_from p d a kept (AtIssue command class h g y) =
       up6 (Waits p d) a (up_issue n trace e known lives sets into lists final passed p d command class a h g (up0 n trace e known lives sets into lists final passed (Complete p class) a y))
   waits_from p d a kept (FromEarlier c t x b y) = by (came trace e p d b.second b.second_is)
@@ -360,7 +376,7 @@ module _ (n : ℕ) (trace : Trace) (e : Event) (orderly : IsOrderly n (trace ++ 
       go : Held p d b.second → final (Waits p d) a ≡ true
       go hd =
           up5 n trace e known lives sets into lists final passed (Waits p d) a
-          (up_waits n trace e known lives sets into lists final passed record { spe = p; cmd = c; progress = hc.was } record { spe = p; cmd = d; progress = hd.was } a (find p c hc.was hc.has hc.live) (find p d hd.was hd.has hd.live)
+          (up_waits n trace e known lives sets into lists final passed record { spe = p; cmd = c; progress = hc.was } record { spe = p; cmd = d; progress = hd.was } a (find p c hc.was (who_of p c t) hc.has hc.live) (find p d hd.was (who_of p c t) hd.has hd.live)
           (ap (λ (v : Progress). v.done) hc.becomes ∙ x.now.done)
           (and_from _ _ (eq-eqb p p refl)
           (and_from _ _ (lt-ltb c d b.lower)
@@ -375,7 +391,7 @@ module _ (n : ℕ) (trace : Trace) (e : Event) (orderly : IsOrderly n (trace ++ 
       by (Moved s h live f st) = go (held_by p d s b.second h live b.second_is)
   waits_from p d a kept (Own (inl of) o) =
       let m : MayStep trace p d e.step e.effect.note = may.step p d of in
-      let i : InLives record { spe = p; cmd = d; progress = m.progress } = find p d m.progress m.has m.live in
+      let i : InLives record { spe = p; cmd = d; progress = m.progress } = find p d m.progress (of_spe p d e.step of) m.has m.live in
       up6 (Waits p d) a (touch3 record { spe = p; cmd = d; progress = m.progress } a i (or_left _ _ of) (inr (own_from record { spe = p; cmd = d; progress = m.progress } a i o)))
   waits_from p d a kept (Own (inr (inl h)) o) = none o.over
     where
@@ -390,7 +406,7 @@ module _ (n : ℕ) (trace : Trace) (e : Event) (orderly : IsOrderly n (trace ++ 
           absurd (omega arith)
   waits_from p d a kept (Own (inr (inr h)) o) =
       let k : acks p h.progress e.step e.effect.note ≡ true = acks_from p h.progress e.step e.effect.note h.is h.stalled h.notes in
-      let i : InLives record { spe = p; cmd = d; progress = h.progress } = find p d h.progress h.has (kept h.progress h.has) in
+      let i : InLives record { spe = p; cmd = d; progress = h.progress } = find p d h.progress (ap spe_in h.is) h.has (kept h.progress h.has) in
       up6 (Waits p d) a (touch3 record { spe = p; cmd = d; progress = h.progress } a i (or_right (is_of p d e.step) _ k) (inr (own_from record { spe = p; cmd = d; progress = h.progress } a i o)))
 
   complete_to : (p : ℕ) (class : Class) (a : At) → Cause n trace e known lives sets into lists final passed (Complete p class) a → CompleteLocal sets final trace e p class a
@@ -410,7 +426,7 @@ module _ (n : ℕ) (trace : Trace) (e : Event) (orderly : IsOrderly n (trace ++ 
   complete_from p class a (IsNow c t x of y) =
       up5 n trace e known lives sets into lists final passed (Complete p class) a
       (up_class n trace e known lives sets into lists final passed record { spe = p; cmd = c; progress = (completes_held p c x).was } class a
-      (find p c (completes_held p c x).was (completes_held p c x).has (completes_held p c x).live)
+      (find p c (completes_held p c x).was (who_of p c t) (completes_held p c x).has (completes_held p c x).live)
       (ap (λ (v : Progress). v.done) (completes_held p c x).becomes ∙ x.now.done) (ap (λ (v : Progress). is_in class v.command) (completes_held p c x).becomes ∙ of) (up4_of (Waits p c) a (down p c x.progress a t x.now.has (completes_held p c x) y)))
 
   fixed_to : (p g : ℕ) (a : At) → Cause n trace e known lives sets into lists final passed (Fixed p g) a → FixedLocal sets final e p g a
@@ -455,7 +471,7 @@ module _ (n : ℕ) (trace : Trace) (e : Event) (orderly : IsOrderly n (trace ++ 
   stalled_from : (p g : ℕ) (a : At) → StalledLocal sets final trace e p g a → final (Stalled p g) a ≡ true
   stalled_from p g a (WasStalled y) = up6 (Stalled p g) a (from2 (Stalled p g) a (up0 n trace e known lives sets into lists final passed (Stalled p g) a y))
   stalled_from p g a (StalledNow c t x tag y) =
-      let i : InLives record { spe = p; cmd = c; progress = (stalls_held p c x).was } = find p c (stalls_held p c x).was (stalls_held p c x).has (stalls_held p c x).live in
+      let i : InLives record { spe = p; cmd = c; progress = (stalls_held p c x).was } = find p c (stalls_held p c x).was (who_of p c t) (stalls_held p c x).has (stalls_held p c x).live in
       let k : (stalls_held p c x).was.command.tag ≡ g = sym (same_tag record { spe = p; cmd = c; progress = (stalls_held p c x).was } i) ∙ (ap (λ (v : Progress). v.command.tag) (stalls_held p c x).becomes ∙ tag) in
       subst (λ v. final (Stalled p v) a ≡ true) k
       (up6_of (Stalled p (stalls_held p c x).was.command.tag) a

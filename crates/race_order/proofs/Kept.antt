@@ -44,14 +44,8 @@ module _ (n : ℕ) (trace : Trace) (e : Event) (orderly : IsOrderly n (trace ++ 
   abbrev T : Trace
   T = trace ++ (e ∷ [])
 
-  long : length T ≡ length trace + 1
-  long = longer trace e
-
   front : take (length trace) T ≡ trace
   front = take_before trace e
-
-  here : slice_get T (length trace) ≡ Some e
-  here = get_last trace e
 
   later : (r : QueueRole) → IsKept trace r → Holds Rule n (IsPast n) T (sets r) (QueueSource trace r)
   later r kept = later_set n trace e orderly queued sets next holds known is nx r kept
@@ -150,7 +144,7 @@ module _ (n : ℕ) (trace : Trace) (e : Event) (orderly : IsOrderly n (trace ++ 
           by (inr x) = part_inside n trace e orderly queued sets next holds known is nx p x.1.command k x.1.part
 
       now : (k : ℕ) → Fixes e p → CompleteSource T p (Tag g) k → FixedSource T p g k
-      now k f s = record { place = length trace; fixed = record { event = e; at = here; is = f.is; fixed = f.fixed }; source = subst (λ t. CompleteSource t p (Tag g) k) (sym whole) s }
+      now k f s = record { place = length trace; fixed = record { event = e; at = get_last trace e; is = f.is; fixed = f.fixed }; source = subst (λ t. CompleteSource t p (Tag g) k) (sym whole) s }
 
       sound : (i : ℕ) (a : At) → IsStamp n T i a → FixedNext sets next e p g a → Past Rule T (FixedSource T p g) i
       sound i a st (WasFixed t) = past_of Rule T (FixedSource trace p g) (FixedSource T p g) i (λ k s. record { source = k; is = fixed_later p g k s; ordered = inl refl }) ((later (Fixed p g) low).sound i a st t)
@@ -178,7 +172,7 @@ module _ (n : ℕ) (trace : Trace) (e : Event) (orderly : IsOrderly n (trace ++ 
       by (inl of) = early (place_of trace e k r.acknowledges.event r.acknowledges.at)
         where
           may : MayStep trace p c e.step e.effect.note
-          may = (subst (λ u. QueueMay u e) front (queued (length trace) e here)).step p c of
+          may = (subst (λ u. QueueMay u e) front (queued (length trace) e (get_last trace e))).step p c of
 
           same : may.progress ≡ s
           same = same_progress trace p c may.progress s may.has has
@@ -221,7 +215,7 @@ module _ (n : ℕ) (trace : Trace) (e : Event) (orderly : IsOrderly n (trace ++ 
               absurd cc
           early (inl q) =
               let low : k < length trace = q.0 in
-              let l0 : length T ≡ length trace + 1 = long in
+              let l0 : length T ≡ length trace + 1 = longer trace e in
               let l : Later (take (length trace) T) p c r.progress = later_at T p c k (length trace) r.progress (omega arith) (omega arith) r.has in
               let sm : l.progress ≡ s = same_progress trace p c l.progress s (subst (λ u. Has u p c l.progress) front l.has) has in
               let left : r.progress.left ≡ 0 = (valid_at (take k T) p c r.progress r.has).rest r.stalled in
@@ -250,7 +244,7 @@ module _ (n : ℕ) (trace : Trace) (e : Event) (orderly : IsOrderly n (trace ++ 
   stalled_later : (p g k : ℕ) → StalledSource trace p g k → StalledSource T p g k
   stalled_later p g k s =
       let w : s.after ≤ length trace = s.within in
-      let l0 : length T ≡ length trace + 1 = long in
+      let l0 : length T ≡ length trace + 1 = longer trace e in
       record {
         command = s.command;
         element = s.element;
@@ -278,7 +272,7 @@ module _ (n : ℕ) (trace : Trace) (e : Event) (orderly : IsOrderly n (trace ++ 
 
       old : (b : ℕ) → b ≤ length trace → (h : IsStalled T b p s.command s.element) → h.progress.command.tag ≡ g → StalledSource trace p g k
       old b low h tag =
-          let l0 : length T ≡ length trace + 1 = long in
+          let l0 : length T ≡ length trace + 1 = longer trace e in
           let kb : k < b = no_element_after T queued n orderly b k p s.command s.element (omega arith) h s.step in
           record { command = s.command; element = s.element; after = b; within = low; stall = stalls_at b p s.command s.element low h; tag = tag; step = to_front k p s.command s.element (omega arith) s.step }
 
@@ -287,7 +281,7 @@ module _ (n : ℕ) (trace : Trace) (e : Event) (orderly : IsOrderly n (trace ++ 
       by (inl high) = how (came trace e p s.command s.stall.progress has)
         where
           at_end : s.after ≡ length trace + 1
-          at_end = let l0 : length T ≡ length trace + 1 = long in let w : s.after ≤ length T = s.within in omega arith
+          at_end = let l0 : length T ≡ length trace + 1 = longer trace e in let w : s.after ≤ length T = s.within in omega arith
 
           has : Has T p s.command s.stall.progress
           has = subst (λ u. Has u p s.command s.stall.progress) (subst (λ x. take x T ≡ T) (sym at_end) whole) s.stall.has
@@ -309,7 +303,7 @@ module _ (n : ℕ) (trace : Trace) (e : Event) (orderly : IsOrderly n (trace ++ 
                   same_read (inl x) = x
                   same_read (inr x) =
                       let of : is_of p s.command e.step ≡ true = ap (is_of p s.command) x.0 ∙ of_itself p s.command in
-                      let may : MayStep trace p s.command e.step e.effect.note = (subst (λ u. QueueMay u e) front (queued (length trace) e here)).step p s.command of in
+                      let may : MayStep trace p s.command e.step e.effect.note = (subst (λ u. QueueMay u e) front (queued (length trace) e (get_last trace e))).step p s.command of in
                       let fits : FitsProgress may.progress (Elem p s.command) e.effect.note = subst (λ v. FitsProgress may.progress v e.effect.note) x.0 may.fits in
                       let eq : may.progress ≡ t = same_progress trace p s.command may.progress t may.has h in
                       absurd (both_ways _ (subst (λ (v : Progress). v.stalled ≡ false) eq fits.2) q)

@@ -28,6 +28,7 @@ pub mod HasIn
 pub mod Passed
 pub mod Causes
 pub mod Composed
+pub mod LivesOf
 pub mod LivesNext
 pub mod Tags
 pub mod Listings

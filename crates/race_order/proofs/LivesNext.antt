@@ -1,24 +1,34 @@
 -- The list of outstanding commands after a step.
 use Rattle.std.proofs.Common.{◌≡◌, ℕ, zero, suc, ◌+◌, ◌-◌, ◌<◌, ◌≤◌, ◌^◌, get_or, Bool, true, false, not, List, [], ◌∷◌, ◌++◌, map, length, take, Some, ◌⊎◌, inl, inr, refl, sym, ap, ap₂, ◌∙◌, subst, arith}
-use Rattle.std.specs.Prelude.{slice_get, filter, if◌then◌else◌}
-use Rattle.std.proofs.lemmas.Bool.{cases_lt, both_ways}
-use Rattle.cell_base.specs.declared.steps.Step.TheVariants.{Exec}
+use Rattle.std.specs.Prelude.{slice_get, filter, if◌then◌else◌, cond, ◌==◌, ◌&&◌, ◌≢◌, Option, None, Vec}
+use Rattle.std.specs.declared.alloc.Global.{Global}
+use Rattle.std.proofs.lemmas.Bool.{cases_lt, both_ways, eqb-true, false_from_ne_true}
+use Rattle.cell_base.specs.declared.steps.Step.{Step}
+use Rattle.cell_base.specs.declared.steps.Step.TheVariants.{Exec, Piece, Elem, Retire, Atomic, Host}
+use Rattle.cell_machine.specs.declared.effect.Effect.{Effect}
+use Rattle.cell_machine.proofs.Same.{some_same}
 use Rattle.mfc_command.specs.declared.command.Command.{Command}
 use Rattle.cell_machine.specs.declared.effect.Note.{Note}
 use Rattle.cell_machine.specs.declared.effect.Note.TheVariants.{Nothing, Issue, AtomicIssue, TagRead, StallRead, Ack, AtomicRead, Put, Take, Ended, Awaited, Element}
 use Rattle.race_order.specs.declared.progress.Progress.{Progress}
 use Rattle.race_order.specs.Trace.{Event, Trace}
-use Rattle.race_order.specs.Status.{next_status, stepped, begun}
+use Rattle.race_order.specs.Status.{status, next_status, issued_as, stepped, after_ack, after_piece, after_element, begun}
 use Rattle.std.proofs.lemmas.List.{take_all}
 use Rattle.std.proofs.lemmas.Option.{slice_get-get_or}
-use Rattle.race_order.specs.Orderly.{IsOrderly, IsWithin}
+use Rattle.race_order.specs.Orderly.{IsWithin}
 use Rattle.race_order.proofs.Elements.{elem_fits}
 use Rattle.race_order.specs.Queue.{Has, ReadsElement}
 use Rattle.race_order.specs.declared.lives.Live.{Live}
 use Rattle.race_order.specs.Premises.{QueueMay, IsQueued, IsNumbered}
 use Rattle.race_order.proofs.Nexts.{IssuesNow}
-use Rattle.race_order.specs.Lives.{ShowsLives, moved, HaveRoom, AreOutstanding, AreWithin}
-use Rattle.race_order.proofs.Histories.{status_next, same_progress, read_there, issued_there, Came, Newly, Kept, Moved, came}
+use Rattle.race_order.specs.Lives.{ShowsLives, lives_of, near, moved, HaveRoom, AreOutstanding, AreWithin}
+use Rattle.race_order.specs.declared.lists.Issued.{Issued}
+use Rattle.race_order.specs.Ordering.{issued_in, spe_in}
+use Rattle.race_order.specs.Standing.{with_issued}
+use Rattle.race_order.specs.Stamps.{event_of}
+use Rattle.race_order.proofs.Listings.{issued_is}
+use Rattle.race_order.proofs.Small.{off-same, and-off}
+use Rattle.race_order.proofs.Histories.{status_next, same_progress, read_there, Came, Newly, Kept, Moved, came}
 use Rattle.race_order.proofs.Keeping.{issued_now}
 
 -- an element of the list
@@ -96,7 +106,32 @@ member_either (z ∷ zs) y x (suc i) e = by (member_either zs y x i e)
 abbrev live_of : ℕ → ℕ → Progress → Live
 live_of p c s = record { spe = p; cmd = c; progress = s }
 
-module _ (trace : Trace) (e : Event) (may : QueueMay trace e) (lives : List Live) (shows : ShowsLives lives trace) where
+-- the list has exactly the outstanding commands of one processor, or of none
+pub record ShowsNear (who : Option ℕ) (lives : List Live) (trace : Trace) : Type 0 where
+  pub sound : (i : ℕ) (l : Live) → slice_get lives i ≡ Some l → (who ≡ Some l.spe) × Has trace l.spe l.cmd l.progress × (l.progress.done ≡ false)
+  pub full : (p c : ℕ) (s : Progress) → who ≡ Some p → Has trace p c s → s.done ≡ false → (i : ℕ) × (slice_get lives i ≡ Some record { spe = p; cmd = c; progress = s })
+
+pub shows_near : (who : Option ℕ) (lists : List (Vec Live Global)) (trace : Trace) → ((p : ℕ) → who ≡ Some p → ShowsLives p (lives_of lists p) trace) → ShowsNear who (near lists who) trace
+shows_near None lists trace shows = record { sound = λ i l at. absurd (no_get i l at); full = λ p c s w h d. absurd (no_who p w) }
+  where
+    no_get : (i : ℕ) (l : Live) → slice_get [] i ≡ Some l → ⊥
+    no_get i l at = cc
+
+    no_who : (p : ℕ) → None ≡ Some p → ⊥
+    no_who p w = cc
+shows_near (Some p) lists trace shows =
+    record {
+      sound = λ i l at. let h = (shows p refl).sound i l at in (ap Some (sym h.0), h.1, h.2);
+      full = λ q c s w h d.
+          let same : p ≡ q = some_same p q w in
+          let g = (shows p refl).full c s (subst (λ r. Has trace r c s) (sym same) h) d in
+          (g.0, g.1 ∙ ap (λ r. Some (live_of r c s)) same);
+    }
+
+differs : (q p : ℕ) → Some q ≢ Some p → (q == p) ≡ false
+differs q p ne = false_from_ne_true (q == p) (λ h. ne (ap Some (eqb-true q p h)))
+
+module _ (trace : Trace) (e : Event) (may : QueueMay trace e) (lives : List Live) (shows : ShowsNear (spe_in e.step) lives trace) where
   abbrev T : Trace
   T = trace ++ (e ∷ [])
 
@@ -110,7 +145,7 @@ module _ (trace : Trace) (e : Event) (may : QueueMay trace e) (lives : List Live
   next_of : (l : Live) (i : ℕ) → slice_get lives i ≡ Some l → Has T l.spe l.cmd (moved l e.step e.effect.note).progress
   next_of l i at =
       let h = shows.sound i l at in
-      record { is = status_next l.spe l.cmd trace e ∙ (ap (λ o. next_status l.spe l.cmd o e) h.0.is ∙ ap (λ (b : Bool). Some (if b then l.progress else stepped l.spe l.cmd l.progress e.step e.effect.note)) h.1) }
+      record { is = status_next l.spe l.cmd trace e ∙ (ap (λ o. next_status l.spe l.cmd o e) h.1.is ∙ ap (λ (b : Bool). Some (if b then l.progress else stepped l.spe l.cmd l.progress e.step e.effect.note)) h.2) }
 
   -- each command after the step has come so far
   pub after_has : (l : Live) (i : ℕ) → slice_get (map (λ x. moved x e.step e.effect.note) lives) i ≡ Some l → Has T l.spe l.cmd l.progress
@@ -118,57 +153,121 @@ module _ (trace : Trace) (e : Event) (may : QueueMay trace e) (lives : List Live
       let m : Image (λ x. moved x e.step e.effect.note) lives l = member_of_map (λ x. moved x e.step e.effect.note) lives l i at in
       subst (λ (x : Live). Has T x.spe x.cmd x.progress) (sym m.is) (next_of m.one m.place m.at)
 
-  sound_kept : (i : ℕ) (l : Live) → slice_get kept_lives i ≡ Some l → Has T l.spe l.cmd l.progress × (l.progress.done ≡ false)
+  -- and is of the step's processor
+  after_who : (l : Live) (i : ℕ) → slice_get (map (λ x. moved x e.step e.effect.note) lives) i ≡ Some l → spe_in e.step ≡ Some l.spe
+  after_who l i at =
+      let m : Image (λ x. moved x e.step e.effect.note) lives l = member_of_map (λ x. moved x e.step e.effect.note) lives l i at in
+      subst (λ (x : Live). spe_in e.step ≡ Some x.spe) (sym m.is) (shows.sound m.place m.one m.at).0
+
+  sound_kept : (i : ℕ) (l : Live) → slice_get kept_lives i ≡ Some l → (spe_in e.step ≡ Some l.spe) × Has T l.spe l.cmd l.progress × (l.progress.done ≡ false)
   sound_kept i l at =
       let k : Kept_ (λ x. not x.progress.done) (map (λ x. moved x e.step e.effect.note) lives) l = filter_member (λ x. not x.progress.done) (map (λ x. moved x e.step e.effect.note) lives) l i at in
-      (after_has l k.place k.at, not_false l.progress.done k.passes)
+      (after_who l k.place k.at, after_has l k.place k.at, not_false l.progress.done k.passes)
 
-  full_kept : (p c : ℕ) (s t : Progress) → Has trace p c s → s.done ≡ false → Has T p c t → t.done ≡ false → Member kept_lives record { spe = p; cmd = c; progress = t }
-  full_kept p c s t h d g f =
-      let w = shows.full p c s h d in
-      let l : Live = record { spe = p; cmd = c; progress = s } in
+  of_one : (p i : ℕ) (l : Live) → spe_in e.step ≡ Some p → slice_get kept_lives i ≡ Some l → (l.spe ≡ p) × Has T l.spe l.cmd l.progress × (l.progress.done ≡ false)
+  of_one p i l w at = let k = sound_kept i l at in (some_same l.spe p (sym k.0 ∙ w), k.1, k.2)
+
+  full_kept : (p c : ℕ) (s t : Progress) → spe_in e.step ≡ Some p → Has trace p c s → s.done ≡ false → Has T p c t → t.done ≡ false → Member kept_lives record { spe = p; cmd = c; progress = t }
+  full_kept p c s t who h d g f =
+      let w = shows.full p c s who h d in
       let same : (moved record { spe = p; cmd = c; progress = s } e.step e.effect.note).progress ≡ t = same_progress T p c (moved record { spe = p; cmd = c; progress = s } e.step e.effect.note).progress t (next_of record { spe = p; cmd = c; progress = s } w.0 w.1) g in
       let m : slice_get (map (λ x. moved x e.step e.effect.note) lives) w.0 ≡ Some (moved record { spe = p; cmd = c; progress = s } e.step e.effect.note) = member_map (λ x. moved x e.step e.effect.note) lives record { spe = p; cmd = c; progress = s } w.0 w.1 in
       member_filter (λ x. not x.progress.done) (map (λ x. moved x e.step e.effect.note) lives) record { spe = p; cmd = c; progress = t } w.0 (m ∙ ap (λ v. Some record { spe = p; cmd = c; progress = v }) same) (ap not f)
 
   -- where the step issues no command
-  pub shows_same : ((p c : ℕ) (command : Command) → IssuesNow e p c command → ⊥) → ShowsLives kept_lives T
-  shows_same none = record { sound = sound_kept; full = λ p c t g f. by p c t g f (came trace e p c t g) }
+  shows_same : (p : ℕ) → spe_in e.step ≡ Some p → ((c : ℕ) (command : Command) → IssuesNow e p c command → ⊥) → ShowsLives p kept_lives T
+  shows_same p who none = record { sound = λ i l at. of_one p i l who at; full = λ c t g f. by c t g f (came trace e p c t g) }
     where
-      by : (p c : ℕ) (t : Progress) → Has T p c t → t.done ≡ false → Came trace e p c t → (i : ℕ) × (slice_get kept_lives i ≡ Some record { spe = p; cmd = c; progress = t })
-      by p c t g f (Newly x y z w) = absurd (none p c t.command record { is = y; notes = z })
-      by p c t g f (Kept s h d same) = absurd (both_ways _ f (ap (λ (v : Progress). v.done) same ∙ d))
-      by p c t g f (Moved s h live same st) = let m : Member kept_lives record { spe = p; cmd = c; progress = t } = full_kept p c s t h live g f in (m.place, m.at)
+      by : (c : ℕ) (t : Progress) → Has T p c t → t.done ≡ false → Came trace e p c t → (i : ℕ) × (slice_get kept_lives i ≡ Some record { spe = p; cmd = c; progress = t })
+      by c t g f (Newly x y z w) = absurd (none c t.command record { is = y; notes = z })
+      by c t g f (Kept s h d same) = absurd (both_ways _ f (ap (λ (v : Progress). v.done) same ∙ d))
+      by c t g f (Moved s h live same st) = let m : Member kept_lives record { spe = p; cmd = c; progress = t } = full_kept p c s t who h live g f in (m.place, m.at)
 
   -- where it issues one
-  pub shows_issue : (p c : ℕ) (command : Command) → IssuesNow e p c command → ShowsLives (kept_lives ++ (record { spe = p; cmd = c; progress = begun command } ∷ [])) T
-  shows_issue p c command h = record { sound = λ i l at. sound i l (member_either kept_lives new l i at); full = λ q d t g f. by q d t g f (came trace e q d t g) }
+  shows_issue : (p c : ℕ) (command : Command) → IssuesNow e p c command → ShowsLives p (kept_lives ++ (record { spe = p; cmd = c; progress = begun command } ∷ [])) T
+  shows_issue p c command h = record { sound = λ i l at. sound i l (member_either kept_lives new l i at); full = λ d t g f. by d t g f (came trace e p d t g) }
     where
       new : Live
       new = record { spe = p; cmd = c; progress = begun command }
 
-      sound : (i : ℕ) (l : Live) → Member kept_lives l ⊎ (l ≡ record { spe = p; cmd = c; progress = begun command }) → Has T l.spe l.cmd l.progress × (l.progress.done ≡ false)
-      sound i l (inl m) = sound_kept m.place l m.at
-      sound i l (inr q) =
-          subst (λ (x : Live). Has T x.spe x.cmd x.progress × (x.progress.done ≡ false)) (sym q)
-          (issued_now trace e p c command ((may.issue p c command h.is h.notes).0.above c (omega arith)) h, refl)
+      who : spe_in e.step ≡ Some p
+      who = ap spe_in h.is
 
-      one : (q d : ℕ) (t : Progress) → e.step ≡ Exec q → e.effect.note ≡ Issue d t.command → t ≡ begun t.command → live_of p c (begun command) ≡ live_of q d t
-      one q d t x y z =
-          let a : Exec p ≡ Exec q = sym h.is ∙ x in
+      sound : (i : ℕ) (l : Live) → Member kept_lives l ⊎ (l ≡ record { spe = p; cmd = c; progress = begun command }) → (l.spe ≡ p) × Has T l.spe l.cmd l.progress × (l.progress.done ≡ false)
+      sound i l (inl m) = of_one p m.place l who m.at
+      sound i l (inr q) =
+          subst (λ (x : Live). (x.spe ≡ p) × Has T x.spe x.cmd x.progress × (x.progress.done ≡ false)) (sym q)
+          (refl, issued_now trace e p c command ((may.issue p c command h.is h.notes).0.above c (omega arith)) h, refl)
+
+      one : (d : ℕ) (t : Progress) → e.effect.note ≡ Issue d t.command → t ≡ begun t.command → live_of p c (begun command) ≡ live_of p d t
+      one d t y z =
           let b : Issue c command ≡ Issue d t.command = sym h.notes ∙ y in
-          let pq : p ≡ q = cc in
           let cd : c ≡ d = cc in
           let k : command ≡ t.command = cc in
           let w : begun command ≡ t = ap begun k ∙ sym z in
-          ap₂ (λ u v. live_of u v (begun command)) pq cd ∙ ap (live_of q d) w
+          ap (λ v. live_of p v (begun command)) cd ∙ ap (live_of p d) w
 
-      by : (q d : ℕ) (t : Progress) → Has T q d t → t.done ≡ false → Came trace e q d t → (i : ℕ) × (slice_get (kept_lives ++ (record { spe = p; cmd = c; progress = begun command } ∷ [])) i ≡ Some record { spe = q; cmd = d; progress = t })
-      by q d t g f (Newly x y z w) = (length kept_lives, member_last kept_lives record { spe = p; cmd = c; progress = begun command } ∙ ap Some (one q d t y z w))
-      by q d t g f (Kept s hs dn same) = absurd (both_ways _ f (ap (λ (v : Progress). v.done) same ∙ dn))
-      by q d t g f (Moved s hs live same st) =
-          let m : Member kept_lives record { spe = q; cmd = d; progress = t } = full_kept q d s t hs live g f in
-          (m.place, member_left kept_lives (record { spe = p; cmd = c; progress = begun command } ∷ []) record { spe = q; cmd = d; progress = t } m.place m.at)
+      by : (d : ℕ) (t : Progress) → Has T p d t → t.done ≡ false → Came trace e p d t → (i : ℕ) × (slice_get (kept_lives ++ (record { spe = p; cmd = c; progress = begun command } ∷ [])) i ≡ Some record { spe = p; cmd = d; progress = t })
+      by d t g f (Newly x y z w) = (length kept_lives, member_last kept_lives record { spe = p; cmd = c; progress = begun command } ∙ ap Some (one d t z w))
+      by d t g f (Kept s hs dn same) = absurd (both_ways _ f (ap (λ (v : Progress). v.done) same ∙ dn))
+      by d t g f (Moved s hs live same st) =
+          let m : Member kept_lives record { spe = p; cmd = d; progress = t } = full_kept p d s t who hs live g f in
+          (m.place, member_left kept_lives (record { spe = p; cmd = c; progress = begun command } ∷ []) record { spe = p; cmd = d; progress = t } m.place m.at)
+
+  issue_found : (p c : ℕ) (command : Command) → IssuesNow e p c command → issued_in e.step e.effect.note ≡ Some record { spe = p; cmd = c; command = command }
+  issue_found p c command h = ap₂ issued_in h.is h.notes
+
+  -- the list after the step
+  pub lives_next : (p : ℕ) → spe_in e.step ≡ Some p → ShowsLives p (with_issued (issued_in e.step e.effect.note) kept_lives) T
+  lives_next p who = by (issued_in e.step e.effect.note) refl
+    where
+      none : (o : Option Issued) (i : Issued) → o ≡ None → o ≡ Some i → ⊥
+      none o i x y = cc
+
+      by : (o : Option Issued) → issued_in e.step e.effect.note ≡ o → ShowsLives p (with_issued o kept_lives) T
+      by None q = shows_same p who (λ c command h. none (issued_in e.step e.effect.note) record { spe = p; cmd = c; command = command } q (issue_found p c command h))
+      by (Some i) q =
+          let h = issued_is e.step e.effect.note i q in
+          subst (λ r. ShowsLives r (kept_lives ++ (record { spe = i.spe; cmd = i.cmd; progress = begun i.command } ∷ [])) T) (some_same i.spe p (sym (ap spe_in h.0) ∙ who)) (shows_issue i.spe i.cmd i.command record { is = h.0; notes = h.1 })
+
+-- a step of another processor, or of the host, changes nothing of a command
+status_else : (p c : ℕ) (o : Option Progress) (step : Step) (effect : Effect) → spe_in step ≢ Some p → next_status p c o (event_of step effect) ≡ o
+status_else p c None (Exec q) effect other = off-same (q == p) (issued_as c effect.note) None (differs q p other)
+status_else p c None (Piece q d x k) effect other = refl
+status_else p c None (Elem q d) effect other = refl
+status_else p c None (Retire q d) effect other = refl
+status_else p c None (Atomic q) effect other = refl
+status_else p c None Host effect other = refl
+status_else p c (Some s) step effect other = ap Some (by s.done)
+  where
+    off : (b t : Bool) (x : Progress) → b ≡ false → cond (b && t) x s ≡ s
+    off b t x e = off-same (b && t) x s (and-off b t e)
+
+    moves : (step : Step) → spe_in step ≢ Some p → stepped p c s step effect.note ≡ s
+    moves (Exec q) other = off-same (q == p) (after_ack s effect.note) s (differs q p other)
+    moves (Piece q d x k) other = off (q == p) (d == c) (after_piece s) (differs q p other)
+    moves (Elem q d) other = off (q == p) (d == c) (after_element s effect.note) (differs q p other)
+    moves (Retire q d) other = off (q == p) (d == c) (record s { stalled = false; done = true }) (differs q p other)
+    moves (Atomic q) other = refl
+    moves Host other = refl
+
+    by : (b : Bool) → (if b then s else stepped p c s step effect.note) ≡ s
+    by true = refl
+    by false = moves step other
+
+-- so the list of another processor is as before
+pub lives_else : (trace : Trace) (e : Event) (p : ℕ) (lives : List Live) → spe_in e.step ≢ Some p → ShowsLives p lives trace → ShowsLives p lives (trace ++ (e ∷ []))
+lives_else trace e p lives other shows =
+    record {
+      sound = λ i l at.
+          let h = shows.sound i l at in
+          let own : Has trace p l.cmd l.progress = subst (λ q. Has trace q l.cmd l.progress) h.0 h.1 in
+          (h.0, subst (λ q. Has (trace ++ (e ∷ [])) q l.cmd l.progress) (sym h.0) record { is = same l.cmd ∙ own.is }, h.2);
+      full = λ c s h d. shows.full c s record { is = sym (same c) ∙ h.is } d;
+    }
+  where
+    same : (c : ℕ) → status p c (trace ++ (e ∷ [])) ≡ status p c trace
+    same c = status_next p c trace e ∙ status_else p c (status p c trace) e.step e.effect other
 
 -- no more elements are read than have numbers
 number_low : (read : ℕ) (note : Note) → IsNumbered read note → read < 65534
@@ -200,16 +299,20 @@ read_low trace queued p c s h = by (cases_lt 0 s.read)
         omega arith
 
 -- the list has room, its commands are outstanding and of the n processors
-pub have_room : (trace : Trace) (queued : IsQueued trace) (lives : List Live) → ShowsLives lives trace → HaveRoom lives
-have_room trace queued lives shows = λ k d low.
-    let l : Live = get_or lives k d in
-    read_low trace queued (get_or lives k d).spe (get_or lives k d).cmd (get_or lives k d).progress (shows.sound k (get_or lives k d) (slice_get-get_or lives k d low)).0
+pub have_room : (trace : Trace) (queued : IsQueued trace) (who : Option ℕ) (lives : List Live) → ShowsNear who lives trace → HaveRoom lives
+have_room trace queued who lives shows = λ k d low. read_low trace queued (get_or lives k d).spe (get_or lives k d).cmd (get_or lives k d).progress (shows.sound k (get_or lives k d) (slice_get-get_or lives k d low)).1
 
-pub are_outstanding : (trace : Trace) (lives : List Live) → ShowsLives lives trace → AreOutstanding lives
-are_outstanding trace lives shows = λ k d low. (shows.sound k (get_or lives k d) (slice_get-get_or lives k d low)).1
+pub are_outstanding : (trace : Trace) (who : Option ℕ) (lives : List Live) → ShowsNear who lives trace → AreOutstanding lives
+are_outstanding trace who lives shows = λ k d low. (shows.sound k (get_or lives k d) (slice_get-get_or lives k d low)).2
 
-pub are_within : (n : ℕ) (trace : Trace) (orderly : IsOrderly n trace) (lives : List Live) → ShowsLives lives trace → AreWithin n lives
-are_within n trace orderly lives shows = λ k d low.
-    let h : Has trace (get_or lives k d).spe (get_or lives k d).cmd (get_or lives k d).progress = (shows.sound k (get_or lives k d) (slice_get-get_or lives k d low)).0 in
-    let i = issued_there trace (get_or lives k d).spe (get_or lives k d).cmd (length trace) (get_or lives k d).progress (omega arith) (subst (λ t. Has t (get_or lives k d).spe (get_or lives k d).cmd (get_or lives k d).progress) (sym (take_all (length trace) trace (omega arith))) h) in
-    subst (IsWithin n) i.2.is (orderly i.0 i.2.event i.2.at).within
+pub are_within : (n : ℕ) (who : Option ℕ) (trace : Trace) (lives : List Live) → ((p : ℕ) → who ≡ Some p → p < n) → ShowsNear who lives trace → AreWithin n lives
+are_within n who trace lives within shows = λ k d low. within (get_or lives k d).spe (shows.sound k (get_or lives k d) (slice_get-get_or lives k d low)).0
+
+-- the step's processor is one of them
+pub who_within : (n : ℕ) (step : Step) → IsWithin n step → (p : ℕ) → spe_in step ≡ Some p → p < n
+who_within n (Exec q) w p h = subst (λ r. r < n) (some_same q p h) w
+who_within n (Piece q c x k) w p h = subst (λ r. r < n) (some_same q p h) w
+who_within n (Elem q c) w p h = subst (λ r. r < n) (some_same q p h) w
+who_within n (Retire q c) w p h = subst (λ r. r < n) (some_same q p h) w
+who_within n (Atomic q) w p h = subst (λ r. r < n) (some_same q p h) w
+who_within n Host w p h = cc

@@ -68,50 +68,49 @@ module _ (Rule : Trace → ℕ → ℕ → Type 0) (plain : (t : Trace) (i j : �
               (λ k more less at. none k more less (step_there trace k (j + 1) (Atomic p) (omega arith) at)));
         }
 
+    -- the issue of the atomic command whose step stands at place j
+    record LastIssue (p j : ℕ) : Type 0 where
+      place : ℕ
+      below : place < j
+      notes : Notes trace place (Exec p) AtomicIssue
+      none : (x : ℕ) → place < x → x < j → IsStep trace x (Atomic p) → ⊥
+
+    last_issue : (p j : ℕ) → IsStep trace j (Atomic p) → LastIssue p j
+    last_issue p j b =
+        let t : IsTaken (take j trace) p = issued_at p j b in
+        let inside : t.place < length (take j trace) = slice_get_within (take j trace) t.place t.issue.event t.issue.at in
+        let less : t.place < j = omega (arith, inside, length-take j trace) in
+        record { place = t.place; below = less; notes = notes_there trace t.place j (Exec p) AtomicIssue less t.issue; none = λ x more under s. t.none x more (step_here trace x j (Atomic p) under s) }
+
+    last_edge : (p j : ℕ) → IsStep trace j (Atomic p) → (t : LastIssue p j) → Edge Rule trace t.place j
+    last_edge p j b t = issue_edge p j b t.place t.below t.notes t.none
+
     -- every earlier issue of an atomic operation comes before an Atomic step
     pub slot_chain : (p i j : ℕ) → i < j → Notes trace i (Exec p) AtomicIssue → IsStep trace j (Atomic p) → Ordered Rule trace i j
-    slot_chain p i j low a b = at (issued_at p j b)
+    slot_chain p i j low a b = let t : LastIssue p j = last_issue p j b in by t (cases_order i t.place)
       where
-        at : IsTaken (take j trace) p → Ordered Rule trace i j
-        at t =
-            let inside : t.place < length (take j trace) = slice_get_within (take j trace) t.place t.issue.event t.issue.at in
-            let less : t.place < j = omega (arith, inside, length-take j trace) in
-            let k : Notes trace t.place (Exec p) AtomicIssue = notes_there trace t.place j (Exec p) AtomicIssue less t.issue in
-            let none : (x : ℕ) → t.place < x → x < j → IsStep trace x (Atomic p) → ⊥ = λ x more under s. t.none x more (step_here trace x j (Atomic p) under s) in
-            let e : Edge Rule trace t.place j = issue_edge p j b t.place less k none in
-            by k e none (cases_order i t.place)
-          where
-            by : Notes trace t.place (Exec p) AtomicIssue → Edge Rule trace t.place j → ((x : ℕ) → t.place < x → x < j → IsStep trace x (Atomic p) → ⊥) → (i ≡ t.place) ⊎ ((i < t.place) ⊎ (t.place < i)) → Ordered Rule trace i j
-            by k e none (inl same) = One (subst (λ x. Edge Rule trace x j) (sym same) e)
-            by k e none (inr (inl up)) = Then (One (program trace p i t.place up (notes_step trace i (Exec p) AtomicIssue a) (notes_step trace t.place (Exec p) AtomicIssue k))) e
-            by k e none (inr (inr down)) = One (issue_edge p j b i low a (λ x more under s. none x (omega arith) under s))
+        by : (t : LastIssue p j) → (i ≡ t.place) ⊎ ((i < t.place) ⊎ (t.place < i)) → Ordered Rule trace i j
+        by t (inl same) = One (subst (λ x. Edge Rule trace x j) (sym same) (last_edge p j b t))
+        by t (inr (inl up)) = Then (One (program trace p i t.place up (notes_step trace i (Exec p) AtomicIssue a) (notes_step trace t.place (Exec p) AtomicIssue t.notes))) (last_edge p j b t)
+        by t (inr (inr down)) = One (issue_edge p j b i low a (λ x more under s. t.none x (omega arith) under s))
 
     -- the Atomic steps of one processor come one after the other
     pub atomic_chain : (p i j : ℕ) → i < j → IsStep trace i (Atomic p) → IsStep trace j (Atomic p) → Ordered Rule trace i j
-    atomic_chain p i j low a b = at (issued_at p j b)
+    atomic_chain p i j low a b = let t : LastIssue p j = last_issue p j b in by t (cases_order i t.place)
       where
-        at : IsTaken (take j trace) p → Ordered Rule trace i j
-        at t =
-            let inside : t.place < length (take j trace) = slice_get_within (take j trace) t.place t.issue.event t.issue.at in
-            let less : t.place < j = omega (arith, inside, length-take j trace) in
-            let k : Notes trace t.place (Exec p) AtomicIssue = notes_there trace t.place j (Exec p) AtomicIssue less t.issue in
-            let none : (x : ℕ) → t.place < x → x < j → IsStep trace x (Atomic p) → ⊥ = λ x more under s. t.none x more (step_here trace x j (Atomic p) under s) in
-            let e : Edge Rule trace t.place j = issue_edge p j b t.place less k none in
-            by k e none (cases_order i t.place)
-          where
-            by : Notes trace t.place (Exec p) AtomicIssue → Edge Rule trace t.place j → ((x : ℕ) → t.place < x → x < j → IsStep trace x (Atomic p) → ⊥) → (i ≡ t.place) ⊎ ((i < t.place) ⊎ (t.place < i)) → Ordered Rule trace i j
-            by k e none (inl same) =
-                let s : IsStep trace i (Exec p) = subst (λ x. IsStep trace x (Exec p)) (sym same) (notes_step trace t.place (Exec p) AtomicIssue k) in
-                let f : Atomic p ≡ Exec p = same_step trace i (Atomic p) (Exec p) a s in
-                absurd cc
-            by k e none (inr (inl up)) =
-                Then
-                (One record {
-                  below = up;
-                  rule = plain _ _ _ (NextAtomic p (step_here trace i (t.place + 1) (Atomic p) (omega arith) a) (notes_here trace t.place (t.place + 1) (Exec p) AtomicIssue (omega arith) k));
-                })
-                e
-            by k e none (inr (inr down)) = absurd (none i down low a)
+        by : (t : LastIssue p j) → (i ≡ t.place) ⊎ ((i < t.place) ⊎ (t.place < i)) → Ordered Rule trace i j
+        by t (inl same) =
+            let s : IsStep trace i (Exec p) = subst (λ x. IsStep trace x (Exec p)) (sym same) (notes_step trace t.place (Exec p) AtomicIssue t.notes) in
+            let f : Atomic p ≡ Exec p = same_step trace i (Atomic p) (Exec p) a s in
+            absurd cc
+        by t (inr (inl up)) =
+            Then
+            (One record {
+              below = up;
+              rule = plain _ _ _ (NextAtomic p (step_here trace i (t.place + 1) (Atomic p) (omega arith) a) (notes_here trace t.place (t.place + 1) (Exec p) AtomicIssue (omega arith) t.notes));
+            })
+            (last_edge p j b t)
+        by t (inr (inr down)) = absurd (t.none i down low a)
 
     source_event : (r : Role) (i b : ℕ) (e : Event) → i < b → slice_get (take b trace) i ≡ Some e → Joins (take i trace) e r → Source trace r i
     source_event r i b e low at joins = record { event = e; at = sym (get_take trace b i low) ∙ at; joins = joins }

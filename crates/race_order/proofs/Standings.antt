@@ -1,7 +1,10 @@
 -- An orderer stands for the longer run after a step.
-use Rattle.std.proofs.Common.{◌≡◌, ℕ, ◌+◌, ◌*◌, ◌-◌, ◌<◌, Bool, false, List, [], ◌∷◌, ◌++◌, map, length, take, get_or, Option, Some, None, ◌⊎◌, inl, inr, refl, sym, ap, ap₂, ◌∙◌, subst, subst₂, ◌&&◌, ◌==◌, arith}
-use Rattle.std.proofs.lemmas.Bool.{and_parts, eqb-true, both_ways, false_from_ne_true}
-use Rattle.std.specs.Prelude.{slice_get}
+use Rattle.std.proofs.Common.{◌≡◌, ℕ, ◌+◌, ◌*◌, ◌-◌, ◌<◌, Bool, false, List, [], ◌∷◌, ◌++◌, map, length, take, get_or, Option, Some, None, ◌⊎◌, inl, inr, refl, sym, ap, ◌∙◌, subst, subst₂, ◌&&◌, ◌==◌, arith}
+use Rattle.std.proofs.lemmas.Bool.{cases_eq, and_parts, eqb-true, both_ways, false_from_ne_true}
+use Rattle.std.specs.Prelude.{slice_get, filter, not, ◌≢◌, Vec}
+use Rattle.std.specs.declared.alloc.Global.{Global}
+use Rattle.cell_base.specs.declared.steps.Step.{Step}
+use Rattle.cell_machine.proofs.Same.{some_same}
 use Rattle.std.proofs.lemmas.Option.{get_or_from_slice_get}
 use Rattle.order_sets.specs.declared.facts.At.{At}
 use Rattle.race_order.specs.Trace.{Event, Trace}
@@ -12,12 +15,10 @@ use Rattle.race_order.specs.declared.orderer.Orderer.{Orderer}
 use Rattle.race_order.specs.Standing.{StandsFor, Keep, IsLast, with_issued}
 use Rattle.std.proofs.Math.Path.{fun_ext}
 use Rattle.std.specs.List.{list_any}
-use Rattle.mfc_command.specs.declared.command.Command.{Command}
 use Rattle.race_order.specs.Rules.{Rule, Ordered}
-use Rattle.race_order.specs.Orderly.{IsOrderly}
+use Rattle.race_order.specs.Orderly.{IsOrderly, IsWithin}
 use Rattle.race_order.proofs.Places.{longer, place_of, take_front, take_before}
 use Rattle.race_order.proofs.Advance.{Answers}
-use Rattle.race_order.specs.declared.lists.Issued.{Issued}
 use Rattle.race_order.specs.declared.lives.Live.{Live}
 use Rattle.race_order.specs.declared.roles.QueueRole.{QueueRole}
 use Rattle.race_order.specs.declared.roles.QueueRole.TheVariants.{Base, Waits, Complete, Fixed, Stalled}
@@ -25,10 +26,11 @@ use Rattle.race_order.specs.Premises.{IsQueued, QueueMay}
 use Rattle.race_order.proofs.Nexts.{AreNext, IssuesNow, after}
 use Rattle.race_order.proofs.Nexts as Next
 use Rattle.race_order.specs.Sources.{HaveOwn, IsKept, QueueSource}
-use Rattle.race_order.specs.Lives.{ShowsLives, moved}
+use Rattle.race_order.specs.Lives.{ShowsLives, lives_of, near, moved}
 use Rattle.race_order.specs.Pasts.{IsPast, Holds}
 use Rattle.race_order.specs.Passes.{View, is_over, is_over_as}
-use Rattle.race_order.specs.Bringing.{AreKept}
+use Rattle.race_order.specs.Bringing.{AreKept, nexts}
+use Rattle.race_order.specs.Ordering.{issued_in, spe_in}
 use Rattle.race_order.specs.Ordering.{issued_in}
 use Rattle.race_order.proofs.Answering.{by_plain, made, IsKnown, answers}
 use Rattle.race_order.proofs.Composed.{passes_local}
@@ -36,8 +38,8 @@ use Rattle.race_order.proofs.Locals.{local_next}
 use Rattle.race_order.proofs.Passed.{Picked, picked}
 use Rattle.race_order.specs.Queue.{Has}
 use Rattle.race_order.proofs.Kept.{all_kept, kept_before}
-use Rattle.race_order.proofs.Listings.{into_list, are_lists, looked_list, is_known, issued_is}
-use Rattle.race_order.proofs.LivesNext.{after_has, kept_lives, shows_same, shows_issue}
+use Rattle.race_order.proofs.Listings.{into_list, are_lists, looked_list, is_known}
+use Rattle.race_order.proofs.LivesNext.{ShowsNear, shows_near, after_has, lives_next, lives_else, who_within}
 
 pub name_is : (o : Orderer) (trace : Trace) (i : ℕ) (a : At) → StandsFor o trace → i + 1 < length trace → a ≡ get_or o.names.items i a → IsStamp o.spes trace i a
 name_is o trace i a stands low is =
@@ -57,7 +59,7 @@ none_over [] = refl
 none_over (l ∷ ls) = none_over ls
 
 -- no set that is kept is of a command that is complete now
-pub kept_not_over : (trace : Trace) (e : Event) (may : QueueMay trace e) (lives : List Live) (shows : ShowsLives lives trace) (r : QueueRole) → IsKept (trace ++ (e ∷ [])) r → is_over (map (λ l. moved l e.step e.effect.note) lives) r ≡ false
+pub kept_not_over : (trace : Trace) (e : Event) (may : QueueMay trace e) (lives : List Live) (shows : ShowsNear (spe_in e.step) lives trace) (r : QueueRole) → IsKept (trace ++ (e ∷ [])) r → is_over (map (λ l. moved l e.step e.effect.note) lives) r ≡ false
 kept_not_over trace e may lives shows (Base r) kept = none_over (map (λ l. moved l e.step e.effect.note) lives)
 kept_not_over trace e may lives shows (Complete p class) kept = none_over (map (λ l. moved l e.step e.effect.note) lives)
 kept_not_over trace e may lives shows (Fixed p g) kept = none_over (map (λ l. moved l e.step e.effect.note) lives)
@@ -71,7 +73,7 @@ kept_not_over trace e may lives shows (Waits p d) kept = false_from_ne_true _ (�
         let b = and_parts (x.one.spe == p) (x.one.cmd == d) a.1 in
         both_ways _ (kept x.one.progress (subst₂ (λ y z. Has (trace ++ (e ∷ [])) y z x.one.progress) (eqb-true x.one.spe p b.0) (eqb-true x.one.cmd d b.1) m)) a.0
 
-module _ (n : ℕ) (trace : Trace) (e : Event) (orderly : IsOrderly n (trace ++ (e ∷ []))) (queued : IsQueued (trace ++ (e ∷ []))) (known : At → Bool) (lives : List Live) (shows : ShowsLives lives trace) (sets : View) (have : HaveOwn n sets trace) (kept : Keep n trace sets) (known_is : (a : At) → known a ≡ list_any (λ r. sets r a) (looked_list trace e)) where
+module _ (n : ℕ) (trace : Trace) (e : Event) (orderly : IsOrderly n (trace ++ (e ∷ []))) (queued : IsQueued (trace ++ (e ∷ []))) (known : At → Bool) (lives : List Live) (shows : ShowsNear (spe_in e.step) lives trace) (sets : View) (have : HaveOwn n sets trace) (kept : Keep n trace sets) (known_is : (a : At) → known a ≡ list_any (λ r. sets r a) (looked_list trace e)) where
   abbrev T : Trace
   T = trace ++ (e ∷ [])
 
@@ -113,15 +115,34 @@ queued_next trace e o may i f at = by (place_of trace e i f at)
     by (inl q) = subst (λ t. QueueMay t f) (sym (take_front trace e i (omega arith))) (o i f q.1)
     by (inr q) = subst (λ t. QueueMay t f) (sym (subst (λ k. take k (trace ++ (e ∷ [])) ≡ trace) (sym q.0) (take_before trace e))) (subst (QueueMay trace) q.1 may)
 
-issue_found : (e : Event) (p c : ℕ) (command : Command) → IssuesNow e p c command → issued_in e.step e.effect.note ≡ Some record { spe = p; cmd = c; command = command }
-issue_found e p c command h = ap₂ issued_in h.is h.notes
+-- the list of the step's processor
+pub near_stands : (o : Orderer) (trace : Trace) (step : Step) → StandsFor o trace → IsWithin o.spes step → ShowsNear (spe_in step) (near o.lives.items (spe_in step)) trace
+near_stands o trace step st w = shows_near (spe_in step) o.lives.items trace (λ p h. st.lives p (who_within o.spes step w p h))
 
-pub lives_next : (trace : Trace) (e : Event) (may : QueueMay trace e) (lives : List Live) (shows : ShowsLives lives trace) → ShowsLives (with_issued (issued_in e.step e.effect.note) (kept_lives trace e may lives shows)) (trace ++ (e ∷ []))
-lives_next trace e may lives shows = by (issued_in e.step e.effect.note) refl
+-- the lists after the step
+pub lives_stand : (o : Orderer) (trace : Trace) (e : Event) → StandsFor o trace → IsWithin o.spes e.step → QueueMay trace e → (lists : List (Vec Live Global))
+    → ((p : ℕ) → spe_in e.step ≡ Some p → lives_of lists p ≡ with_issued (issued_in e.step e.effect.note) (filter (λ l. not l.progress.done) (nexts e.step e.effect (lives_of o.lives.items p))))
+    → ((p : ℕ) → spe_in e.step ≢ Some p → lives_of lists p ≡ lives_of o.lives.items p) → (p : ℕ) → p < o.spes → ShowsLives p (lives_of lists p) (trace ++ (e ∷ []))
+lives_stand o trace e st w may lists own others p low = by (spe_in e.step) refl
   where
-    none : (o : Option Issued) (i : Issued) → o ≡ None → o ≡ Some i → ⊥
-    none o i x y = cc
+    differs : (q : ℕ) → (q ≡ p → ⊥) → Some q ≢ Some p
+    differs q ne h = ne (some_same q p h)
 
-    by : (o : Option Issued) → issued_in e.step e.effect.note ≡ o → ShowsLives (with_issued o (kept_lives trace e may lives shows)) (trace ++ (e ∷ []))
-    by None q = shows_same trace e may lives shows (λ p c command h. none (issued_in e.step e.effect.note) record { spe = p; cmd = c; command = command } q (issue_found e p c command h))
-    by (Some i) q = let h = issued_is e.step e.effect.note i q in shows_issue trace e may lives shows i.spe i.cmd i.command record { is = h.0; notes = h.1 }
+    none : None ≢ Some p
+    none h = cc
+
+    else : spe_in e.step ≢ Some p → ShowsLives p (lives_of lists p) (trace ++ (e ∷ []))
+    else ne = subst (λ l. ShowsLives p l (trace ++ (e ∷ []))) (sym (others p ne)) (lives_else trace e p (lives_of o.lives.items p) ne (st.lives p low))
+
+    this : spe_in e.step ≡ Some p → ShowsLives p (lives_of lists p) (trace ++ (e ∷ []))
+    this h =
+        let shows : ShowsNear (spe_in e.step) (lives_of o.lives.items p) trace = subst (λ x. ShowsNear (spe_in e.step) (near o.lives.items x) trace) h (near_stands o trace e.step st w) in
+        subst (λ l. ShowsLives p l (trace ++ (e ∷ []))) (sym (own p h)) (lives_next trace e may (lives_of o.lives.items p) shows p h)
+
+    by : (x : Option ℕ) → spe_in e.step ≡ x → ShowsLives p (lives_of lists p) (trace ++ (e ∷ []))
+    by None h = else (λ g. none (sym h ∙ g))
+    by (Some q) h = which (cases_eq q p)
+      where
+        which : (q ≡ p) ⊎ (q ≡ p → ⊥) → ShowsLives p (lives_of lists p) (trace ++ (e ∷ []))
+        which (inl s) = this (h ∙ ap Some s)
+        which (inr ne) = else (λ g. differs q ne (sym h ∙ g))

@@ -1,5 +1,6 @@
 -- The outstanding commands, and what a step does to their sets.
-use Rattle.std.specs.Prelude.{◌≡◌, ℕ, ◌+◌, ◌*◌, ◌<◌, ◌==◌, ◌&&◌, ◌||◌, Bool, false, List, Some, slice_get, ◌^◌, All as Each}
+use Rattle.std.specs.Prelude.{◌≡◌, ℕ, zero, suc, ◌+◌, ◌*◌, ◌<◌, ◌==◌, ◌&&◌, ◌||◌, Bool, false, List, [], ◌∷◌, Vec, Option, Some, None, slice_get, ◌^◌, All as Each}
+use Rattle.std.specs.declared.alloc.Global.{Global}
 use Rattle.order_sets.specs.declared.facts.At.{At}
 use Rattle.order_sets.specs.declared.facts.Fact.TheVariants.{Whole, Elements}
 use Rattle.order_sets.specs.Facts.{covers}
@@ -38,10 +39,21 @@ is_touched l step note = is_of l.spe l.cmd step || acks l.spe l.progress step no
 abbrev pub moved : Live → Step → Note → Live
 moved l step note = record l { progress = stepped l.spe l.cmd l.progress step note }
 
--- the list has exactly the outstanding commands
-pub record ShowsLives (lives : List Live) (trace : Trace) : Type 0 where
-  pub sound : (i : ℕ) (l : Live) → slice_get lives i ≡ Some l → Has trace l.spe l.cmd l.progress × (l.progress.done ≡ false)
-  pub full : (p c : ℕ) (s : Progress) → Has trace p c s → s.done ≡ false → (i : ℕ) × (slice_get lives i ≡ Some record { spe = p; cmd = c; progress = s })
+-- the list has exactly the outstanding commands of processor p
+pub record ShowsLives (p : ℕ) (lives : List Live) (trace : Trace) : Type 0 where
+  pub sound : (i : ℕ) (l : Live) → slice_get lives i ≡ Some l → (l.spe ≡ p) × Has trace l.spe l.cmd l.progress × (l.progress.done ≡ false)
+  pub full : (c : ℕ) (s : Progress) → Has trace p c s → s.done ≡ false → (i : ℕ) × (slice_get lives i ≡ Some record { spe = p; cmd = c; progress = s })
+
+-- the list of processor p
+abbrev pub lives_of : List (Vec Live Global) → ℕ → List Live
+lives_of [] p = []
+lives_of (v ∷ vs) zero = v.items
+lives_of (v ∷ vs) (suc p) = lives_of vs p
+
+-- that of the processor whose step it is
+abbrev pub near : List (Vec Live Global) → Option ℕ → List Live
+near lists None = []
+near lists (Some p) = lives_of lists p
 
 -- what is done of the command
 abbrev pub own_has : ℕ → Live → At → Bool

@@ -15,7 +15,7 @@ use Rattle.race_order.specs.declared.orderer.Orderer.{Orderer}
 use Rattle.race_order.specs.declared.roles.QueueRole.{QueueRole}
 use Rattle.race_order.specs.Premises.{IsQueued}
 use Rattle.race_order.specs.Sources.{QueueSource, IsKept, HaveOwn}
-use Rattle.race_order.specs.Lives.{ShowsLives}
+use Rattle.race_order.specs.Lives.{ShowsLives, lives_of}
 use Rattle.race_order.specs.Pasts.{IsPast}
 use Rattle.race_order.specs.Tables.{sets_have, AreOf}
 
@@ -46,7 +46,8 @@ pub record StandsFor (o : Orderer) (trace : Trace) : Type 0 where
   pub spare_chains : length o.spare.ends.items ≡ 3 * o.spes + 1
   pub counts : Shows o.spes o.boxes trace
   pub names : AreNamed o.spes trace o.names.items
-  pub lives : ShowsLives o.lives.items trace
+  pub lives_long : length o.lives.items ≡ o.spes
+  pub lives : (p : ℕ) → p < o.spes → ShowsLives p (lives_of o.lives.items p) trace
   pub own : HaveOwn o.spes (sets_have o.sets) trace
   pub kept : Keep o.spes trace (sets_have o.sets)
   pub last : IsLast o.spes trace (has_at o.last)

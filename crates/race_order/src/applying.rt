@@ -1,12 +1,12 @@
 //! All that a step does to the sets and to the outstanding commands.
 
-ghost use Rattle.std.specs.Prelude.{◌≡◌, ℕ, ◌+◌, ◌*◌, ◌≤◌, IfOk, OnOk, length, filter, not, false};
+ghost use Rattle.std.specs.Prelude.{Some, ◌≡◌, ◌≢◌, ℕ, ◌+◌, ◌*◌, ◌<◌, ◌≤◌, [], IfOk, OnOk, length, filter, not, false};
 ghost use Rattle.std.specs.List.{list_any};
 ghost use Rattle.order_sets.specs.declared.facts.At.{At};
 ghost use Rattle.race_order.specs.declared.roles.QueueRole.{QueueRole as ARole};
 ghost use Rattle.race_order.specs.Counted.{Fits};
-ghost use Rattle.race_order.specs.Lives.{HaveRoom, AreWithin, AreOutstanding};
-ghost use Rattle.race_order.specs.Ordering.{issued_in, issue_list};
+ghost use Rattle.race_order.specs.Lives.{HaveRoom, AreWithin, AreOutstanding, lives_of, near};
+ghost use Rattle.race_order.specs.Ordering.{issued_in, issue_list, spe_in};
 ghost use Rattle.race_order.specs.Passes.{AreMoved, is_over};
 ghost use Rattle.race_order.specs.Bringing.{has_brought, IsOfChains, entered, nexts, AreStepped, AreKept};
 ghost use Rattle.race_order.specs.Standing.{with_issued};
@@ -17,7 +17,7 @@ use crate::brought::Brought;
 use crate::entering::enter_all;
 use crate::error::OrderError;
 use crate::going::go_on_all;
-use crate::lists::find_issue;
+use crate::lists::{find_issue, spe_of};
 use crate::lives::{Live, touch_all};
 use crate::passes::{pass_done, pass_fixed, pass_issued};
 use crate::progress::begin;
@@ -97,8 +97,8 @@ fn add_issued(lives: &mut Vec<Live>, step: Step, note: Note) -> Result<(), Order
     Ok(())
 }
 
-/// Takes the step into the sets, and puts the outstanding commands forward.
-pub(crate) fn take_in(
+/// Takes a step of a processor into the sets, and puts its outstanding commands forward.
+fn take_own(
     sets: &mut Sets,
     spare: &mut Known,
     lives: &mut Vec<Live>,
@@ -121,4 +121,58 @@ pub(crate) fn take_in(
     drop_done(sets, lives, done);
     add_issued(lives, brought.step, brought.effect.note)?;
     Ok(())
+}
+
+/// Takes a step of the host into the sets.
+fn take_host(
+    sets: &mut Sets,
+    spare: &mut Known,
+    boxes: &Boxes,
+    brought: &Brought,
+) -> Result<(), OrderError>
+    requires fits { Fits boxes.now brought.now.effect.now.note }
+    requires brought { IsOfChains brought.now }
+    requires sets { AreOf (3 * brought.now.spes + 1) sets.old }
+    requires spare { length spare.old.ends.items ≡ 3 * brought.now.spes + 1 }
+    ensures stepped { OnOk result (AreKept brought.now.spes brought.now.step brought.now.effect.now (has_brought brought.now) [] (entered boxes.now brought.now) (sets_have sets.old) (sets_have sets.new)) }
+    ensures chains { OnOk result (AreOf (3 * brought.now.spes + 1) sets.new) }
+    ensures spare { length spare.new.ends.items ≡ length spare.old.ends.items }
+{
+    apply(sets, spare, &mut [], boxes, brought)?;
+    Ok(())
+}
+
+/// Takes the step into the sets, and puts the outstanding commands of its processor forward.
+pub(crate) fn take_in(
+    sets: &mut Sets,
+    spare: &mut Known,
+    lives: &mut Vec<Vec<Live>>,
+    boxes: &Boxes,
+    brought: &Brought,
+) -> Result<(), OrderError>
+    requires fits { Fits boxes.now brought.now.effect.now.note }
+    requires spe { (p : ℕ) → spe_in brought.now.step ≡ Some p → p < length lives.old.items }
+    requires room { HaveRoom (near lives.old.items (spe_in brought.now.step)) }
+    requires live { AreOutstanding (near lives.old.items (spe_in brought.now.step)) }
+    requires within { AreWithin brought.now.spes (near lives.old.items (spe_in brought.now.step)) }
+    requires brought { IsOfChains brought.now }
+    requires sets { AreOf (3 * brought.now.spes + 1) sets.old }
+    requires spare { length spare.old.ends.items ≡ 3 * brought.now.spes + 1 }
+    ensures stepped { OnOk result (AreKept brought.now.spes brought.now.step brought.now.effect.now (has_brought brought.now) (near lives.old.items (spe_in brought.now.step)) (entered boxes.now brought.now) (sets_have sets.old) (sets_have sets.new)) }
+    ensures own { OnOk result ((p : ℕ) → spe_in brought.now.step ≡ Some p → lives_of lives.new.items p ≡ with_issued (issued_in brought.now.step brought.now.effect.now.note) (filter (λ l. not l.progress.done) (nexts brought.now.step brought.now.effect.now (lives_of lives.old.items p)))) }
+    ensures others { OnOk result ((p : ℕ) → spe_in brought.now.step ≢ Some p → lives_of lives.new.items p ≡ lives_of lives.old.items p) }
+    ensures long { OnOk result (length lives.new.items ≡ length lives.old.items) }
+    ensures chains { OnOk result (AreOf (3 * brought.now.spes + 1) sets.new) }
+    ensures spare { length spare.new.ends.items ≡ length spare.old.ends.items }
+{
+    match spe_of(brought.step) {
+        Some(spe) => {
+            take_own(sets, spare, &mut lives[usize::from(spe)], boxes, brought)?;
+            Ok(())
+        }
+        None => {
+            take_host(sets, spare, boxes, brought)?;
+            Ok(())
+        }
+    }
 }

@@ -68,28 +68,6 @@ fn go_on(
     Ok(next.progress.done)
 }
 
-fn go_on_each(
-    sets: &mut Sets,
-    spare: &mut Known,
-    lives: &mut [Live],
-    brought: &Brought,
-) -> Result<bool, OrderError>
-    requires room { HaveRoom lives.old }
-    requires live { AreOutstanding lives.old }
-    requires sets { AreOf (length spare.old.ends.items) sets.old }
-    ensures next { OnOk result (lives.new ≡ map (λ l. moved l brought.now.step brought.now.effect.now.note) lives.old) }
-    ensures has { OnOk result (AreMoved (λ g. list_any (stall_any g brought.now.step brought.now.effect.now.note) lives.old) (sets_have sets.old) (sets_have sets.new)) }
-    ensures chains { OnOk result (AreOf (length spare.old.ends.items) sets.new) }
-    ensures spare { length spare.new.ends.items ≡ length spare.old.ends.items }
-    ensures done { IfOk result (λ done. done ≡ list_any (λ l. l.progress.done) lives.new) }
-{
-    let mut done = false;
-    for i in 0..lives.len() {
-        done |= go_on(sets, spare, &mut lives[i], brought)?;
-    }
-    Ok(done)
-}
-
 /// Puts all commands forward, and answers whether one is complete then.
 pub(crate) fn go_on_all(
     sets: &mut Sets,
@@ -109,5 +87,9 @@ pub(crate) fn go_on_all(
     if !may_touch(brought.step, brought.effect.note) {
         return Ok(false);
     }
-    go_on_each(sets, spare, lives, brought)
+    let mut done = false;
+    for i in 0..lives.len() {
+        done |= go_on(sets, spare, &mut lives[i], brought)?;
+    }
+    Ok(done)
 }

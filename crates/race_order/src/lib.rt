@@ -22,8 +22,6 @@ mod progress;
 mod roles;
 mod sets;
 mod stamps;
-#[cfg(test)]
-mod tests;
 
 pub use error::OrderError;
 pub use orderer::Orderer;

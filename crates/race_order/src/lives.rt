@@ -1,6 +1,6 @@
 //! The outstanding commands.
 
-ghost use Rattle.std.specs.Prelude.{◌≡◌, ℕ, ◌+◌, ◌*◌, ◌<◌, ◌≤◌, ◌^◌, ◌||◌, ◌&&◌, OnOk, false};
+ghost use Rattle.std.specs.Prelude.{◌≡◌, ℕ, ◌+◌, ◌*◌, ◌<◌, ◌≤◌, ◌^◌, ◌||◌, ◌&&◌, IfOk, OnOk, length, [], false};
 ghost use Rattle.std.specs.List.{list_any};
 ghost use Rattle.order_sets.specs.declared.facts.At.{At as AnAt};
 ghost use Rattle.order_sets.specs.declared.facts.Fact.TheVariants.{Whole};
@@ -12,7 +12,7 @@ ghost use Rattle.race_order.specs.declared.progress.Progress.{Progress as AProgr
 ghost use Rattle.race_order.specs.declared.roles.QueueRole.{QueueRole as ARole};
 ghost use Rattle.race_order.specs.declared.roles.QueueRole.TheVariants.{Waits};
 ghost use Rattle.race_order.specs.Bringing.{has_brought, IsOfChains};
-ghost use Rattle.race_order.specs.Lives.{acked_by, acks, reads_of, goes_in, is_touched, moved, own_has, HaveRoom, AreWithin, AreOutstanding, touch_brings};
+ghost use Rattle.race_order.specs.Lives.{acked_by, acks, reads_of, goes_in, is_touched, moved, own_has, HaveRoom, AreWithin, AreOutstanding, touch_brings, lives_of};
 ghost use Rattle.race_order.specs.Tables.{same_role, sets_have, AreOf};
 
 use crate::brought::Brought;
@@ -23,6 +23,7 @@ use crate::sets::Sets;
 use cell_base::Step;
 use cell_machine::Note;
 use order_sets::Fact;
+use std::alloc::Global;
 
 /// An outstanding command.
 #[derive(Clone, Copy)]
@@ -30,6 +31,18 @@ pub(crate) struct Live {
     pub(crate) spe: u8,
     pub(crate) cmd: u32,
     pub(crate) progress: Progress,
+}
+
+/// A list for each of so many processors.
+pub(crate) fn no_lives(alloc: Global, spes: u8) -> Result<Vec<Vec<Live>>, OrderError>
+    ensures long { IfOk result (λ lists. length lists.items ≡ spes) }
+    ensures none { IfOk result (λ lists. (p : ℕ) → lives_of lists.items p ≡ []) }
+{
+    let mut lists = Vec::new(alloc);
+    for _ in 0..spes {
+        lists.push(Vec::new(alloc))?;
+    }
+    Ok(lists)
 }
 
 fn acked(progress: &Progress, note: &Note) -> bool
@@ -199,21 +212,6 @@ fn touch(sets: &mut Sets, live: &Live, brought: &Brought) -> Result<(), OrderErr
     Ok(())
 }
 
-fn touch_each(sets: &mut Sets, lives: &[Live], brought: &Brought) -> Result<(), OrderError>
-    requires room { HaveRoom lives.now }
-    requires live { AreOutstanding lives.now }
-    requires spe { AreWithin brought.now.spes lives.now }
-    requires brought { IsOfChains brought.now }
-    requires sets { AreOf (3 * brought.now.spes + 1) sets.old }
-    ensures has { OnOk result ((r : ARole) (at : AnAt) → sets_have sets.new r at ≡ (sets_have sets.old r at || list_any (touch_brings brought.now.spes brought.now.step brought.now.effect.now.note (has_brought brought.now) r at) lives.now)) }
-    ensures chains { OnOk result (AreOf (3 * brought.now.spes + 1) sets.new) }
-{
-    for live in lives {
-        touch(sets, live, brought)?;
-    }
-    Ok(())
-}
-
 /// The same for all commands.
 pub(crate) fn touch_all(
     sets: &mut Sets,
@@ -231,6 +229,8 @@ pub(crate) fn touch_all(
     if !may_touch(brought.step, brought.effect.note) {
         return Ok(());
     }
-    touch_each(sets, lives, brought)?;
+    for live in lives {
+        touch(sets, live, brought)?;
+    }
     Ok(())
 }

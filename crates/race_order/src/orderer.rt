@@ -17,7 +17,7 @@ use crate::boxes::Boxes;
 use crate::brought::Brought;
 use crate::error::OrderError;
 use crate::gathering::fill;
-use crate::lives::Live;
+use crate::lives::{Live, no_lives};
 use crate::sets::Sets;
 use crate::stamps::{fact, name};
 use cell_base::Step;
@@ -31,7 +31,8 @@ pub struct Orderer {
     sets: Sets,
     boxes: Boxes,
     names: Vec<At>,
-    lives: Vec<Live>,
+    // the outstanding commands of each processor
+    lives: Vec<Vec<Live>>,
     // what is known before the last step
     last: Known,
     // a set by way of which sets go into one another
@@ -50,7 +51,7 @@ impl Orderer {
             sets: Sets::new(alloc, spes),
             boxes: Boxes::new(alloc, spes)?,
             names: Vec::with_capacity(alloc, room as usize)?,
-            lives: Vec::new(alloc),
+            lives: no_lives(alloc, spes)?,
             last: Known::new(alloc, spes)?,
             spare: Known::new(alloc, spes)?,
         })

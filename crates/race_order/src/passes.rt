@@ -211,18 +211,6 @@ fn pass_complete(
     Ok(())
 }
 
-fn pass_each(sets: &mut Sets, spare: &mut Known, next: &[Live]) -> Result<(), OrderError>
-    requires { AreOf (length spare.old.ends.items) sets.old }
-    ensures has { OnOk result (AreMoved (λ g. list_any (done_any g next.now) next.now) (sets_have sets.old) (sets_have sets.new)) }
-    ensures chains { OnOk result (AreOf (length spare.old.ends.items) sets.new) }
-    ensures spare { length spare.new.ends.items ≡ length spare.old.ends.items }
-{
-    for c in next {
-        pass_complete(sets, spare, c, next)?;
-    }
-    Ok(())
-}
-
 /// The same for all commands, of which one is complete or none.
 pub(crate) fn pass_done(
     sets: &mut Sets,
@@ -239,7 +227,9 @@ pub(crate) fn pass_done(
     if !done {
         return Ok(());
     }
-    pass_each(sets, spare, next)?;
+    for c in next {
+        pass_complete(sets, spare, c, next)?;
+    }
     Ok(())
 }
 

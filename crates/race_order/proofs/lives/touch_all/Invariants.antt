@@ -5,7 +5,7 @@ use Rattle.race_order.specs.declared.roles.QueueRole.{QueueRole}
 use Rattle.race_order.specs.Bringing.{has_brought}
 use Rattle.race_order.specs.Lives.{touch_brings}
 use Rattle.race_order.specs.Tables.{sets_have, AreOf}
-use Rattle.race_order.proofs.lives.touch_each.Given as goal
+use Rattle.race_order.proofs.lives.touch_all.Given as goal
 
 abbrev pub invariant-loop-live : goal.invariant-loop-live
 invariant-loop-live l = record {

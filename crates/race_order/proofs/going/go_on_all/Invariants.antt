@@ -3,7 +3,7 @@ use Rattle.std.specs.List.{list_any}
 use Rattle.race_order.specs.Lives.{moved}
 use Rattle.race_order.specs.Passes.{AreMoved, stall_any}
 use Rattle.race_order.specs.Tables.{sets_have, AreOf}
-use Rattle.race_order.proofs.going.go_on_each.Given as goal
+use Rattle.race_order.proofs.going.go_on_all.Given as goal
 
 abbrev pub invariant-loop-i : goal.invariant-loop-i
 invariant-loop-i l = record {
