@@ -7,8 +7,6 @@ pub mod line_text;
 mod quad;
 mod scalars;
 mod steps;
-#[cfg(test)]
-mod tests;
 
 pub use immediates::{byte_mask, has_bit, low_bytes, ten_bit_halves, ten_bit_words};
 pub use quad::Quad;

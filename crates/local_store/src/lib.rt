@@ -114,24 +114,3 @@ pub fn line_of(at: u32) -> u32
 {
     at & 0x3_fff0
 }
-
-#[cfg(test)]
-mod tests {
-    use super::*;
-    use std::test::Fail;
-
-    #[test]
-    fn bytes_come_back_where_they_were_put(rt: HostRuntime) -> Result<(), Fail> {
-        let mut store = LocalStore::new(rt.alloc())?;
-        store.copy_in(0x3_ffff, &[0xab]);
-        store.set_quad(0xffff_fff7, Quad::of_words(&[1, 2, 3, 0x0405_0607]));
-        assert_eq!(rt; store.word(0x3_fffc), 0x0405_0607);
-        assert_eq!(rt; store.quad(0x3_fff0).word(2), 3);
-        assert_eq!(rt; store.word(0x3_ffec), 0);
-        let mut two = [0; 2];
-        store.copy_out(0x3_fffd, &mut two);
-        assert_eq!(rt; two, [5, 6]);
-        assert_eq!(rt; store.bytes().len(), STORE_BYTES);
-        Ok(())
-    }
-}

@@ -85,38 +85,3 @@ impl Memory {
         self.bytes[at..at + from.len()].copy_from_slice(from);
     }
 }
-
-#[cfg(test)]
-mod tests {
-    use super::*;
-
-    /// Writes at the start, over a line's end and at the end of a memory of two lines.
-    #[test]
-    fn copies_at_each_end(rt: HostRuntime) -> Result<(), MemoryError> {
-        let mut memory = Memory::new(rt.alloc(), 2)?;
-        let lines = memory.lines();
-        assert_eq!(rt; lines, 2);
-        memory.copy_in(0, &[1, 2]);
-        memory.copy_in(127, &[3, 4]);
-        memory.copy_in(254, &[5, 6]);
-        let mut got = [9; 3];
-        for (at, want) in [
-            (0, [1, 2, 0]),
-            (126, [0, 3, 4]),
-            (128, [4, 0, 0]),
-            (253, [0, 5, 6]),
-        ] {
-            memory.copy_out(at, &mut got);
-            assert_eq!(rt; got, want);
-        }
-        Ok(())
-    }
-
-    /// The greatest memory.
-    #[test]
-    fn has_room_for_all_lines(rt: HostRuntime) -> Result<(), MemoryError> {
-        let memory = Memory::new(rt.alloc(), 524_288)?;
-        assert_eq!(rt; memory.bytes().len(), 67_108_864);
-        Ok(())
-    }
-}

@@ -11,8 +11,6 @@ mod names;
 mod row;
 mod shape;
 mod table;
-#[cfg(test)]
-mod tests;
 
 pub use fields::keep_named;
 use fields::{is_clear, place_fields, place_opcode, read_fields};

@@ -12,8 +12,6 @@ mod ahead;
 mod branch;
 mod compute;
 mod flow;
-#[cfg(test)]
-mod tests;
 mod transfer;
 
 pub use address::next_pc;

@@ -8,8 +8,6 @@ mod arithmetic;
 mod compare;
 mod constants;
 mod multiply;
-#[cfg(test)]
-mod tests;
 
 pub use arithmetic::{
     row_a, row_addx, row_ah, row_ahi, row_ai, row_bg, row_bgx, row_cg, row_cgx, row_sf, row_sfh,

@@ -70,19 +70,3 @@ impl Regs {
         self.quads.as_slice()
     }
 }
-
-#[cfg(test)]
-mod tests {
-    use super::*;
-    use std::test::Fail;
-
-    #[test]
-    fn a_write_changes_its_register_alone(rt: HostRuntime) -> Result<(), Fail> {
-        let mut regs = Regs::new(rt.alloc())?;
-        regs.set(127, Quad::of_words(&[1, 2, 3, 4]));
-        assert_eq!(rt; regs.get(127).word(3), 4);
-        assert_eq!(rt; regs.get(126).bits(), 0);
-        assert_eq!(rt; regs.quads().len(), 128);
-        Ok(())
-    }
-}

@@ -6,8 +6,6 @@
 
 mod halves;
 mod quadword;
-#[cfg(test)]
-mod tests;
 mod words;
 
 pub use halves::{
