@@ -4,8 +4,6 @@
 mod error;
 mod making;
 mod program;
-#[cfg(test)]
-mod tests;
 
 pub use error::GenError;
 pub use making::generate;

@@ -80,22 +80,3 @@ impl<const N: usize> Mailbox<N> {
         Some(self.values.remove(0))
     }
 }
-
-#[cfg(test)]
-mod tests {
-    use super::*;
-
-    /// A mailbox of two places, filled, and then emptied.
-    #[test]
-    fn gives_the_oldest_first(rt: HostRuntime) {
-        let mut mailbox = Mailbox::<2>::new();
-        assert_eq!(rt; mailbox.is_empty(), true);
-        for (value, want) in [(7, Ok(())), (8, Ok(())), (9, Err(Full { value: 9 }))] {
-            assert_eq!(rt; mailbox.put(value), want);
-        }
-        assert_eq!(rt; mailbox.len(), 2);
-        for want in [Some(7), Some(8), None] {
-            assert_eq!(rt; mailbox.take(), want);
-        }
-    }
-}

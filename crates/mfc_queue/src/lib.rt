@@ -399,6 +399,3 @@ fn remove_from_all(sets: &mut [PlaceSet; 16], place: u8)
         sets[k] = set;
     }
 }
-
-#[cfg(test)]
-mod tests;

@@ -5,8 +5,6 @@ mod error;
 mod reading;
 mod recorded;
 mod replaying;
-#[cfg(test)]
-mod tests;
 
 pub use error::{RecordError, ReplayError};
 pub use reading::read_record;
