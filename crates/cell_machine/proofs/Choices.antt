@@ -291,7 +291,7 @@ none_of_command p P c d none at open_yet =
     (one.0, two.0, two.1)
 
 -- a command that has a step isn't complete
-open_if : (b t : Bool) → t ≡ true → (b ≡ true → t ≡ false) → b ≡ false
+pub open_if : (b t : Bool) → t ≡ true → (b ≡ true → t ≡ false) → b ≡ false
 open_if true t h k = absurd (true≢false (sym h ∙ k refl))
 open_if false t h k = refl
 
@@ -330,7 +330,7 @@ spe_none processors M p s shows all absent there =
     there P at (sym (allowed_mfc processors M p P shows at) ∙ actor_none M Mfc (length M.spes) p all (get-within M.spes p P at)))
 
 -- the elements of its commands are in order
-spe_elements : {memory : SharedMemory} {host : Progress} (processors : List Processor) (M : State) (p : ℕ) (P : Spe) (c : ℕ) (d : Command) → Shows processors memory host M → slice_get M.spes p ≡ Some P → slice_get P.moves.issued c ≡ Some d → AreElements P.moves c d
+pub spe_elements : {memory : SharedMemory} {host : Progress} (processors : List Processor) (M : State) (p : ℕ) (P : Spe) (c : ℕ) (d : Command) → Shows processors memory host M → slice_get M.spes p ≡ Some P → slice_get P.moves.issued c ≡ Some d → AreElements P.moves c d
 spe_elements processors M p P c d shows at there = elim (two_found ShowsSpe processors M.spes p shows.spes) as (λ _. AreElements P.moves c d) [
   | inl none ↦ absurd (no_spe (sym none ∙ at))
   | inr two ↦ let same : two.1 ≡ P = same_spe two.1 P (sym two.2 ∙ at) in shown two.0 (subst (λ y. ShowsSpe two.0 y) same two.3)

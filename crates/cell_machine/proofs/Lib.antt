@@ -4,6 +4,7 @@ pub mod Replays
 pub mod Choices
 pub mod Openings
 pub mod AnyStep
+pub mod MissesNone
 pub mod Runs
 pub mod Execs
 pub mod ChannelSteps

@@ -14,6 +14,7 @@ pub mod Next
 pub mod Opening
 pub mod Limits
 pub mod Run
+pub mod Actors
 pub mod Choices
 pub mod Order
 pub mod Lists

@@ -16,6 +16,7 @@ ghost use Rattle.cell_host.specs.Script.{Progress};
 ghost use Rattle.cell_machine.specs.Opening.{Opening, opening_spes, filled};
 ghost use Rattle.cell_machine.specs.Limits.{shown, shown_memory};
 ghost use Rattle.cell_machine.specs.Run.{Ran, IsRun, state_of, next_of, spe_of, picked_of, first_of, first_allowed, picked, allowed, is_quiet, IsEnd};
+ghost use Rattle.cell_machine.specs.Actors.{MissesNone};
 ghost use Rattle.cell_machine.specs.Effects.{effect_in};
 ghost use Rattle.cell_machine.specs.EffectLaws.{FixesOnce, LooksAlone, WritesAlone};
 ghost use Rattle.cell_machine.specs.Order.{IsInOrder};
@@ -369,10 +370,11 @@ impl Machine {
     }
 
     /// The allowed step of an actor at place `choice` modulo the number of its allowed steps, in their order.
-    /// None where it has none, or the budget is spent.
+    /// None where it has none, or the budget is spent. Each step that is allowed is among those of its actor, so that some choice picks it.
     pub fn pick(&self, actor: Actor, choice: u64) -> Option<Step>
         ensures picked { result ≡ picked_of self.now actor choice }
         ensures allowed { IfSome result (λ s. IsSome (next_of self.now s)) }
+        ensures complete { IsSomeAnd (state_of self.now) MissesNone }
     {
         if self.steps.len() >= self.setup.budget() as usize {
             return None;

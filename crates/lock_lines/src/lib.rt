@@ -5,9 +5,10 @@ ghost use Rattle.std.specs.Prelude.{◌≡◌, ℕ, ◌<◌, ◌≤◌, IfOk};
 ghost use Rattle.lock_lines.specs.Logs.{Logs, no_logs, held};
 ghost use Rattle.lock_lines.specs.Calls.{IsAbove, after_store, after_getllar, after_putllc, answer_of};
 ghost use Rattle.lock_lines.specs.Versions.{Versions, opening_versions, is_reserved, stored_to, got, put};
-ghost use Rattle.lock_lines.specs.Marks.{AreMarks, is_marked, IsLineCleared, IsSpeCleared, IsMarkedAlone};
+ghost use Rattle.lock_lines.specs.Marks.{is_marked, IsLineCleared, IsSpeCleared, IsMarkedAlone};
 
 use std::alloc::{AllocError, Global};
+use std::marker::Model;
 
 /// How many processors a word has bits for.
 const MAX_SPES: usize = 16;
@@ -31,14 +32,26 @@ pub enum Lock {
     Lost,
 }
 
-/// A word for each line, in which the bit of value 2^p says that processor p holds the line, and the line that each processor reserved last.
+/// Which lines are held. To a contract it is the number of processors and a word for each line, in which the bit of value 2^p says
+/// that processor p holds the line.
 #[derive(Drop)]
 pub struct LockLines {
     spes: u8,
     words: Vec<u16>,
-    last: [u32; 16],
-    ghost few: { spes ≤ 16 },
-    ghost marks: { AreMarks words.items last },
+    // the line that each processor reserved last: it can hold no other
+    last: [u32; MAX_SPES],
+}
+
+impl Model for LockLines {
+    ghost use Rattle.lock_lines.specs.Words.{Words};
+
+    ghost Value = { Words };
+
+    ghost use Rattle.lock_lines.specs.Seen.{words_of, IsSound};
+
+    ghost view = { words_of };
+
+    ghost invariant = { IsSound };
 }
 
 impl LockLines {
@@ -119,7 +132,7 @@ impl LockLines {
         requires line { line < line_count self.now }
         ensures logs { (logs : Logs) → StandsFor self.now logs → result ≡ held logs spe line }
         ensures versions { (v : Versions) → StandsForVersions self.now v → result ≡ is_reserved v spe line }
-        ensures marked { result ≡ is_marked self.now.words.items spe line }
+        ensures marked { result ≡ is_marked self.now.words spe line }
     {
         (self.words[line as usize] >> spe) & 1 == 1
     }
@@ -127,7 +140,7 @@ impl LockLines {
     /// Takes all marks from the line.
     fn clear_line(&mut self, line: u32)
         requires { line < line_count self.old }
-        ensures marks { IsLineCleared line self.old.words.items self.new.words.items }
+        ensures marks { IsLineCleared line self.old.words self.new.words }
         ensures size { HasSameSize self.old self.new }
     {
         self.words[line as usize] = 0;
@@ -136,7 +149,7 @@ impl LockLines {
     /// Takes its mark from the processor, which can only be at the line that it reserved last.
     fn clear_spe(&mut self, spe: u8)
         requires { spe < self.old.spes }
-        ensures marks { IsSpeCleared spe self.old.words.items self.new.words.items }
+        ensures marks { IsSpeCleared spe self.old.words self.new.words }
         ensures size { HasSameSize self.old self.new }
     {
         let line = self.last[usize::from(spe)];
@@ -147,7 +160,7 @@ impl LockLines {
     fn mark_alone(&mut self, spe: u8, line: u32)
         requires spe { spe < self.old.spes }
         requires line { line < line_count self.old }
-        ensures marks { IsMarkedAlone spe line self.old.words.items self.new.words.items }
+        ensures marks { IsMarkedAlone spe line self.old.words self.new.words }
         ensures size { HasSameSize self.old self.new }
     {
         self.clear_spe(spe);
@@ -155,6 +168,3 @@ impl LockLines {
         self.words[line as usize] |= 1 << spe;
     }
 }
-
-#[cfg(test)]
-mod tests;

@@ -1,6 +1,9 @@
-use Rattle.std.proofs.Common.{length, arith, ap}
+use Rattle.std.proofs.Common.{length, arith, ap, sym, subst}
+use Rattle.std.specs.Prelude.{IsSomeAnd}
+use Rattle.cell_machine.specs.Actors.{MissesNone}
 use Rattle.cell_machine.specs.Run.{Ran}
 use Rattle.cell_machine.proofs.AnyStep.{machine-replayed, picked-is, pick-allowed}
+use Rattle.cell_machine.proofs.MissesNone.{misses_none}
 use Rattle.cell_machine.proofs.Replays.{machine-kept}
 use Rattle.cell_machine.proofs.machine.Machine.pick.Goals as goal
 
@@ -18,3 +21,9 @@ returns-clause-picked c =
 
 pub nth_step-requires : goal.nth_step-requires
 nth_step-requires c = rw c.deref.ensures.value (machine-kept c.self.invariant)
+
+pub returns-clause-complete : goal.returns-clause-complete
+returns-clause-complete c = subst (λ o. IsSomeAnd o MissesNone) (sym (machine-replayed _ _ _ _ _ c.self.invariant c.self.view_is)) (misses_none c.self.inside.processors.items c.self.invariant.state c.self.invariant.shown)
+
+pub returns-then-len-budget-clause-complete : goal.returns-then-len-budget-clause-complete
+returns-then-len-budget-clause-complete c = subst (λ o. IsSomeAnd o MissesNone) (sym (machine-replayed _ _ _ _ _ c.self.invariant c.self.view_is)) (misses_none c.self.inside.processors.items c.self.invariant.state c.self.invariant.shown)
