@@ -1,5 +1,5 @@
 -- From what the table's steps tell to what a pass tells.
-use Rattle.std.proofs.Common.{◌≡◌, ℕ, ◌+◌, ◌*◌, ◌^◌, ◌<◌, true, List, [], ◌∷◌, ◌++◌, length, take, Some, None, refl, sym, ap, ◌∙◌, subst, arith, length-append}
+use Rattle.std.proofs.Common.{◌≡◌, ◌⊎◌, inl, inr, ℕ, ◌+◌, ◌*◌, ◌^◌, ◌<◌, true, List, [], ◌∷◌, ◌++◌, length, take, Some, None, refl, sym, ap, ◌∙◌, subst, arith, length-append}
 use mathlib.Core.List.{IsPrefix}
 use Rattle.atomic_table.specs.Table.{Me}
 use Rattle.cell_base.specs.declared.steps.Actor.{Actor}
@@ -7,11 +7,16 @@ use Rattle.cell_base.specs.declared.steps.Step.{Step}
 use Rattle.cell_machine.specs.Run.{Ran, EndsAs}
 use Rattle.cell_turn.specs.Choice.{ran, chosen}
 use Rattle.cell_turn.specs.declared.view.View.{View}
-use Rattle.cell_turn.specs.Known.{Known}
+use Rattle.cell_turn.specs.Known.{Known, Rests}
 use Rattle.cell_turn.specs.Turn.{asking, with_step}
 use Rattle.cell_turn.specs.Seats.{Begun, Played}
 use Rattle.cell_turn.specs.Told.{Makes}
 use Rattle.cell_turn.proofs.Fronts.{prefix_trans, prefix_length}
+
+-- a pass that is yet as at the start, or of which it is known that it had not the turn
+pub had_rested : (p q : Known) → (q ≡ p) ⊎ Rests p → Rests q → Rests p
+had_rested p q (inl same) now = subst Rests same now
+had_rested p q (inr rested) now = rested
 
 -- the view that has the turn of this record
 abbrev pub turn_view : View → List Step → View

@@ -1,5 +1,5 @@
 -- What contracts see of a pass and of the shared machine, and what a told step means.
-use Rattle.std.specs.Prelude.{◌≡◌, ℕ, ◌<◌, ◌==◌, List, length, Some, slice_get, count_by, All}
+use Rattle.std.specs.Prelude.{◌≡◌, ℕ, ◌<◌, ◌==◌, Bool, false, List, length, Some, slice_get, count_by, All}
 use Rattle.atomic_table.specs.Seated.{TableId}
 use Rattle.cell_base.specs.declared.steps.Step.{Step}
 use Rattle.cell_machine.specs.Opening.{Opening}
@@ -14,6 +14,7 @@ pub record Known : Type 0 where
   pub tokens : ℕ  -- its share of the passes
   pub tries : ℕ  -- how often it asked for the turn
   pub found : ℕ  -- the turn word that it found last
+  pub holds : Bool  -- whether it has the turn
 
 -- the shared machine
 pub record Sharing : Type 0 where
@@ -24,6 +25,10 @@ pub record Sharing : Type 0 where
 -- the pass is one of this shared machine
 abbrev pub Belongs : Known → Sharing → Type 0
 Belongs p s = (p.table ≡ s.table) × (p.setup ≡ s.setup) × (p.passes ≡ s.passes)
+
+-- the pass has not the turn
+abbrev pub Rests : Known → Type 0
+Rests p = p.holds ≡ false
 
 -- the step stands in the record at the place that was told
 abbrev pub Stands : List Step → ℕ × Step → Type 0

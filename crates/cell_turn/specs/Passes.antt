@@ -4,7 +4,7 @@ use Rattle.cell_turn.specs.Known.{Known}
 use Rattle.cell_turn.specs.declared.pass.Pass.TheInside.{Inside}
 
 abbrev pub known : Inside → Known
-known p = let v = p.seat.me.0 in record { table = p.seat.table_id; setup = v.setup; passes = v.passes; seen = v.seen; told = v.told; tokens = v.tokens; tries = v.tries; found = v.found }
+known p = let v = p.seat.me.0 in record { table = p.seat.table_id; setup = v.setup; passes = v.passes; seen = v.seen; told = v.told; tokens = v.tokens; tries = v.tries; found = v.found; holds = v.holds }
 
 -- it holds no slot and has no turn, and its numbers are those of its view
 pub record IsAtRest (p : Inside) : Type 0 where

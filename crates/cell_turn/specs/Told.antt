@@ -1,5 +1,5 @@
 -- What the start, a split, a try, a turn and a join tell a caller.
-use Rattle.std.specs.Prelude.{◌≡◌, ◌⊎◌, ℕ, ◌+◌, ◌*◌, ◌%◌, ◌-◌, ◌^◌, ◌<◌, ◌≤◌, [], ◌∷◌, ◌++◌, length, take, Some, None}
+use Rattle.std.specs.Prelude.{◌≡◌, ◌⊎◌, ℕ, false, ◌+◌, ◌*◌, ◌%◌, ◌-◌, ◌^◌, ◌<◌, ◌≤◌, [], ◌∷◌, ◌++◌, length, take, Some, None}
 use mathlib.Core.List.{IsPrefix}
 use Rattle.cell_base.specs.declared.steps.Actor.{Actor}
 use Rattle.cell_base.specs.declared.steps.Step.{Step}
@@ -14,7 +14,7 @@ use Rattle.cell_turn.specs.declared.shared.Turned.TheVariants as turned
 
 -- the first pass of a shared machine, with all tokens
 abbrev pub first_pass : Sharing → Known
-first_pass s = record { table = s.table; setup = s.setup; passes = s.passes; seen = []; told = []; tokens = s.passes; tries = 0; found = 0 }
+first_pass s = record { table = s.table; setup = s.setup; passes = s.passes; seen = []; told = []; tokens = s.passes; tries = 0; found = 0; holds = false }
 
 -- what a split leaves of a pass
 abbrev pub left_pass : Known → Known

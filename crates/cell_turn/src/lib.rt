@@ -5,8 +5,6 @@
 mod pass;
 mod plays;
 mod shared;
-#[cfg(test)]
-mod tests;
 mod turn;
 mod view;
 

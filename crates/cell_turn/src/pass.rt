@@ -1,5 +1,6 @@
 //! The right of one thread to ask for the turn.
 ghost use Rattle.std.specs.Prelude.{◌≡◌, length};
+ghost use Rattle.cell_turn.specs.Known.{Rests};
 
 use crate::view::View;
 use atomic_table::Seat;
@@ -30,21 +31,24 @@ impl Model for Pass {
 impl Pass {
     /// How many tokens it has: all passes of a machine have as many as were asked for at the start.
     pub fn tokens(&self) -> u32
-        ensures { result ≡ self.now.tokens }
+        ensures tokens { result ≡ self.now.tokens }
+        ensures rests { Rests self.now }
     {
         self.tokens
     }
 
     /// How many steps of the record it has seen.
     pub fn front(&self) -> u32
-        ensures { result ≡ length self.now.seen }
+        ensures front { result ≡ length self.now.seen }
+        ensures rests { Rests self.now }
     {
         self.front
     }
 
     /// How many steps it made.
     pub fn made(&self) -> u32
-        ensures { result ≡ length self.now.told }
+        ensures made { result ≡ length self.now.told }
+        ensures rests { Rests self.now }
     {
         self.made
     }

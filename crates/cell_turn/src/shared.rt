@@ -1,7 +1,7 @@
 //! The shared machine.
 ghost use Rattle.std.specs.Prelude.{◌≡◌, ◌+◌, ◌<◌, ◌≤◌, [], ◌∷◌, vec_len, IfOk, IfErr};
 ghost use mathlib.Core.List.{IsPrefix};
-ghost use Rattle.cell_turn.specs.Known.{Belongs, TellsAll};
+ghost use Rattle.cell_turn.specs.Known.{Belongs, Rests, TellsAll};
 ghost use Rattle.cell_turn.specs.Told.{first_pass, left_pass, new_pass, Tells, TurnTells, Stays, Joined};
 
 use crate::pass::Pass;
@@ -119,6 +119,7 @@ impl Shared {
         requires two { 2 ≤ pass.old.tokens }
         ensures left { pass.new ≡ left_pass pass.old }
         ensures new { result ≡ new_pass pass.old }
+        ensures rests { Rests pass.old × Rests pass.new × Rests result }
     {
         let seat = self.table.shared.split_seat::<Cut>(&mut pass.seat);
         pass.tokens -= 1;
@@ -134,7 +135,8 @@ impl Shared {
     pub fn join(&self, pass: &mut Pass, other: Pass)
         requires own { Belongs pass.old self.now }
         requires other_own { Belongs other self.now }
-        ensures { Joined pass.old other pass.new }
+        ensures joined { Joined pass.old other pass.new }
+        ensures rests { Rests pass.old × Rests other × Rests pass.new }
     {
         let Pass {
             seat,
@@ -155,6 +157,7 @@ impl Shared {
     pub fn try_step(&self, pass: &mut Pass, actor: Actor, choice: u64) -> Tried
         requires own { Belongs pass.old self.now }
         ensures same { Stays pass.old pass.new }
+        ensures rests { Rests pass.old × Rests pass.new }
         ensures tries { pass.new.tries ≡ pass.old.tries + 1 }
         ensures tells { Tells pass.old pass.new actor choice result }
     {
@@ -181,6 +184,7 @@ impl Shared {
     pub fn step_as<R: Wait>(&self, rt: &R, pass: &mut Pass, actor: Actor, choice: u64) -> Turned
         requires own { Belongs pass.old self.now }
         ensures same { Stays pass.old pass.new }
+        ensures rests { Rests pass.old × Rests pass.new }
         ensures tries { pass.old.tries < pass.new.tries }
         ensures tells { TurnTells pass.old pass.new actor choice result }
     {
@@ -206,6 +210,7 @@ impl Shared {
         ensures setup { result.setup ≡ self.setup }
         ensures begins { IsPrefix pass.seen result.steps }
         ensures told { TellsAll pass.told result.steps }
+        ensures rests { Rests pass }
     {
         let Shared { table } = self;
         let Pass { seat, .. } = pass;

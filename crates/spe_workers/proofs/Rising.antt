@@ -8,7 +8,7 @@ use Rattle.cell_machine.specs.Opening.{Opening}
 use Rattle.cell_machine.specs.Run.{Ran, IsRun, EndsAs, HasEnd}
 use Rattle.cell_turn.specs.Choice.{ran}
 use Rattle.cell_machine.proofs.Runs.{ended_is_whole}
-use Rattle.cell_turn.specs.Known.{Known}
+use Rattle.cell_turn.specs.Known.{Known, Rests}
 use Rattle.cell_turn.specs.Told.{Stays, Makes, IsOver}
 use Rattle.cell_turn.proofs.Fronts.{prefix_self, prefix_trans, prefix_length}
 use Rattle.spe_workers.specs.Worked.{Rises, Further, Worked}
@@ -36,8 +36,8 @@ further_step p q r actor choice at s f same m = record {
   rises = rises_push (length p.seen) (length q.seen) at (length r.seen) s f.more f.rises m.not_below (let e = m.place in omega arith);
 }
 
-pub worked : (p q r : Known) (end : End) → Further p q → Stays q r → IsOver q r end → Worked p r
-worked p q r end f same o = record {
+pub worked : (p q r : Known) (end : End) → Further p q → Stays q r → IsOver q r end → Rests r → Worked p r
+worked p q r end f same o rests = record {
   further = record {
     same = stays_trans p q r f.same same;
     begins = prefix_trans p.seen q.seen r.seen f.begins o.begins;
@@ -45,6 +45,7 @@ worked p q r end f same o = record {
     told = o.told ∙ f.told;
     rises = rises_more (length p.seen) (length q.seen) (length r.seen) f.more f.rises (prefix_length q.seen r.seen o.begins);
   };
+  rests = rests;
   ended = (end, subst (λ (k : Opening). EndsAs (ran k r.seen) (Some end)) (sym same.1) o.is_end);
 }
 

@@ -4,7 +4,7 @@ use mathlib.Core.List.{IsPrefix}
 use Rattle.cell_base.specs.declared.steps.Step.{Step}
 use Rattle.cell_machine.specs.Run.{HasEnd}
 use Rattle.cell_turn.specs.Choice.{ran}
-use Rattle.cell_turn.specs.Known.{Known, Sharing, Belongs}
+use Rattle.cell_turn.specs.Known.{Known, Sharing, Belongs, Rests}
 use Rattle.cell_turn.specs.Told.{Stays}
 
 -- the places rise, from `from` on and below `upto`
@@ -20,9 +20,10 @@ pub record Further (p q : Known) : Type 0 where
   pub told : q.told ≡ p.told ++ more
   pub rises : Rises (length p.seen) (length q.seen) more
 
--- and what it has seen has an end
+-- and what it has seen has an end, and it has not the turn
 pub record Worked (p q : Known) : Type 0 where
   pub further : Further p q
+  pub rests : Rests q
   pub ended : HasEnd (ran q.setup q.seen)
 
 -- a pass with one token

@@ -3,8 +3,6 @@
 
 mod gate;
 mod run;
-#[cfg(test)]
-mod tests;
 mod worker;
 
 pub use gate::{Gate, OpenGate};

@@ -5,7 +5,7 @@ use Rattle.spe_workers.proofs.worker.work.Goals as goal
 pub returns-in-Over : goal.returns-in-Over
 returns-in-Over g c =
     let i = c.loop.invariant in
-    record { number = i.number; actor = i.actor; pass = worked _ _ _ _ i.further c.in-Over.ensures.same c.in-Over.ensures.tells }
+    record { number = i.number; actor = i.actor; pass = worked _ _ _ _ i.further c.in-Over.ensures.same c.in-Over.ensures.tells c.in-Over.ensures.rests.1 }
 
 pub loop-preserved : goal.loop-preserved
 loop-preserved g c =
