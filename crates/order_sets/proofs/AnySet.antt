@@ -2,9 +2,8 @@
 use Rattle.std.proofs.Common.{◌≡◌, ℕ, ◌+◌, ◌++◌, take, zero, suc, ◌<◌, Bool, true, false, ◌||◌, List, [], ◌∷◌, length, filter, get_or, set, refl, ap, sym, ◌∙◌, arith}
 use Rattle.std.specs.List.{list_any}
 use Rattle.std.proofs.lemmas.List.Folds.{list_any_more}
-use Rattle.order_sets.specs.Between.{IsBetween}
 
-first_more : (a b rest more : Bool) → b ≡ (a || more) → (b || rest) ≡ ((a || rest) || more)
+pub first_more : (a b rest more : Bool) → b ≡ (a || more) → (b || rest) ≡ ((a || rest) || more)
 first_more true b rest more e = ap (λ x. x || rest) e
 first_more false b true true e = ap (λ x. x || true) e
 first_more false b true false e = ap (λ x. x || true) e
@@ -33,48 +32,6 @@ any_kept {X} p keep w (x ∷ xs) h = on (keep x) (p x) refl refl (any_kept p kee
     on true b e f rest = rw e (within (p x) rest)
     on false true e f rest = rw (e, h x e f) refl
     on false false e f rest = rw (e, f) rest
-
-pub any_of_take : {X : Type 0} (p : X → Bool) (i : ℕ) (xs : List X) → list_any p (take i xs) ≡ true → list_any p xs ≡ true
-any_of_take p zero xs e = absurd (cc)
-any_of_take p (suc i) [] e = e
-any_of_take {X} p (suc i) (x ∷ xs) e = on (p x) (any_of_take p i xs) e
-  where
-    on : (b : Bool) → (list_any p (take i xs) ≡ true → list_any p xs ≡ true) → (b || list_any p (take i xs)) ≡ true → (b || list_any p xs) ≡ true
-    on true rest f = refl
-    on false rest f = rest f
-
-pub any_append : {X : Type 0} (p : X → Bool) (xs ys : List X) → list_any p (xs ++ ys) ≡ (list_any p xs || list_any p ys)
-any_append p [] ys = refl
-any_append {X} p (x ∷ xs) ys = on (p x) (any_append p xs ys)
-  where
-    on : (b : Bool) → list_any p (xs ++ ys) ≡ (list_any p xs || list_any p ys) → (b || list_any p (xs ++ ys)) ≡ ((b || list_any p xs) || list_any p ys)
-    on true e = refl
-    on false e = e
-
--- what an old set and the first of some more have lies between the old one and the two together
-pub between : {X : Type 0} (p : X → Bool) (old now : Bool) (i : ℕ) (more : List X) → now ≡ (old || list_any p (take i more)) → IsBetween old (list_any p more) now
-between {X} p old now i more e = record { stays = λ was. e ∙ ap (λ b. b || list_any p (take i more)) was; only = λ is. on old (sym e ∙ is) }
-  where
-    on : (b : Bool) → (b || list_any p (take i more)) ≡ true → (b || list_any p more) ≡ true
-    on true f = refl
-    on false f = any_of_take p i more f
-
--- what is kept and what grows, when the next one is kept or taken in
-pub kept_next : (all x grows old run : Bool) → (all || grows) ≡ (old || run) → ((all || x) || grows) ≡ ((old || x) || run)
-kept_next true x grows true run e = refl
-kept_next true x grows false true e = elim x as (λ v. true ≡ (v || true)) [ true ↦ refl | false ↦ refl ]
-kept_next true x grows false false e = cc
-kept_next false x true true run e = elim x as (λ v. (v || true) ≡ true) [ true ↦ refl | false ↦ refl ]
-kept_next false x true false run e = elim x as (λ v. (v || true) ≡ (v || run)) [ true ↦ refl | false ↦ e ]
-kept_next false x false true run e = cc
-kept_next false x false false run e = elim x as (λ v. (v || false) ≡ (v || run)) [ true ↦ refl | false ↦ e ]
-
-pub taken_next : (all x grows old run new : Bool) → (all || grows) ≡ (old || run) → new ≡ (x || grows) → (all || new) ≡ ((old || x) || run)
-taken_next all x grows old run new e f = ap (λ v. all || v) f ∙ (swap all x grows ∙ kept_next all x grows old run e)
-  where
-    swap : (a x g : Bool) → (a || (x || g)) ≡ ((a || x) || g)
-    swap true x g = refl
-    swap false x g = refl
 
 pub any_snoc : {X : Type 0} (p : X → Bool) (xs : List X) (x : X) → list_any p (xs ++ (x ∷ [])) ≡ (list_any p xs || p x)
 any_snoc p [] x = or_none (p x)

@@ -1,2 +1,3 @@
 pub mod AnySet
 pub mod SetLaws
+pub mod SeenLaws

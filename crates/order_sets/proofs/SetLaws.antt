@@ -1,19 +1,17 @@
 -- What a set holds after runs were joined, and after what they cover was dropped.
-use Rattle.std.proofs.Common.{◌≡◌, ℕ, ◌++◌, ◌==◌, Bool, true, false, not, ◌||◌, ◌&&◌, List, [], ◌∷◌, filter, refl, ap, ap₂, sym, subst, ◌∙◌, arith}
-use Rattle.std.specs.Prelude.{Result, Ok, Err, OnErr, nat_le}
+use Rattle.std.proofs.Common.{◌≡◌, ℕ, ◌++◌, ◌==◌, Bool, true, false, not, ◌||◌, ◌&&◌, List, [], ◌∷◌, filter, refl, ap, ap₂, sym, subst, ◌∙◌, arith, true≢false}
+use Rattle.std.specs.Prelude.{nat_le}
 use Rattle.std.specs.List.{list_any}
 use Rattle.std.proofs.lemmas.Bool.Decides.{nat_tests}
 use Rattle.std.proofs.lemmas.List.Elements.{filter-append}
 use Rattle.order_sets.specs.declared.facts.At.{At}
 use Rattle.order_sets.specs.declared.run.Run.{Run}
 use Rattle.order_sets.specs.declared.parts.Part.{Part}
-use Rattle.order_sets.specs.Facts.{is_at}
-use Rattle.order_sets.specs.Holds.{in_run, in_part, is_inside}
+use Rattle.order_sets.specs.declared.facts.Fact.{Fact}
+use Rattle.order_sets.specs.declared.facts.Fact.TheVariants.{Upto, Whole, Elements, One}
+use Rattle.order_sets.specs.Facts.{is_at, covers}
+use Rattle.order_sets.specs.Holds.{in_run, in_part, is_inside, is_needed}
 use Rattle.order_sets.proofs.AnySet.{any_kept, any_snoc}
-
-pub on_err : {T E P : Type 0} (r : Result T E) → P → OnErr r P
-on_err (Ok x) p = tt
-on_err (Err e) p = p
 
 -- ---- runs
 
@@ -31,7 +29,7 @@ kept_whole whole = on (is_inside whole whole)
 is_within : (whole r : Run) (at : At) → is_kept whole r ≡ false → in_run at r ≡ true → in_run at whole ≡ true
 is_within whole r at e inside = grind (arith, nat_tests)
 
-or_swap : (a b : Bool) → (a || b) ≡ (b || a)
+pub or_swap : (a b : Bool) → (a || b) ≡ (b || a)
 or_swap true true = refl
 or_swap true false = refl
 or_swap false true = refl
@@ -94,9 +92,12 @@ same_step o at e =
     as_record : (a b c d p q r s : ℕ) → a ≡ p → b ≡ q → c ≡ r → d ≡ s → record { chain = a; cmd = b; elem = c; place = d } ≡ (let at : At = record { chain = p; cmd = q; elem = r; place = s } in at)
     as_record a b c d p q r s e f g h = cc
 
-pub ones_dropped : (runs : List Run) (parts : List Part) (ones : List At) (at : At)
-    → (is_covered runs parts at || list_any (λ a. is_at a at) (filter (λ o. not (is_covered runs parts o)) ones)) ≡ (is_covered runs parts at || list_any (λ a. is_at a at) ones)
-ones_dropped runs parts ones at = any_kept (λ a. is_at a at) (λ o. not (is_covered runs parts o)) (is_covered runs parts at) ones gone
+pub ones_dropped : (runs : List Run) (parts : List Part) (rest : List Fact) (at : At)
+    → (is_covered runs parts at || list_any (λ f. covers f at) (filter (is_needed runs parts) rest)) ≡ (is_covered runs parts at || list_any (λ f. covers f at) rest)
+ones_dropped runs parts rest at = any_kept (λ f. covers f at) (is_needed runs parts) (is_covered runs parts at) rest gone
   where
-    gone : (o : At) → not (is_covered runs parts o) ≡ false → is_at o at ≡ true → is_covered runs parts at ≡ true
-    gone o e inside = subst (λ x. is_covered runs parts x ≡ true) (same_step o at inside) (covered _ e)
+    gone : (f : Fact) → is_needed runs parts f ≡ false → covers f at ≡ true → is_covered runs parts at ≡ true
+    gone (One o) e inside = subst (λ x. is_covered runs parts x ≡ true) (same_step o at inside) (covered _ e)
+    gone (Upto chain place) e inside = absurd (true≢false e)
+    gone (Whole chain cmd) e inside = absurd (true≢false e)
+    gone (Elements chain cmd below) e inside = absurd (true≢false e)

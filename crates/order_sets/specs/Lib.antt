@@ -1,4 +1,5 @@
-pub mod Between
 pub mod Facts
 pub mod Holds
+pub mod Seen
 pub mod Stands
+pub mod Steps

@@ -1,19 +1,19 @@
 //! The set of known steps.
 
-ghost use Rattle.std.specs.Prelude.{◌≡◌, ℕ, [], ◌∷◌, ◌++◌, ◌<◌, ◌≤◌, ◌^◌, ◌*◌, ◌+◌, ◌||◌, List, length, OnOk, OnErr, IfOk, max, nat_lt, slice_index, ◌≢◌};
+ghost use Rattle.std.specs.Prelude.{◌≡◌, ℕ, [], ◌∷◌, ◌++◌, ◌<◌, ◌≤◌, ◌*◌, ◌+◌, ◌||◌, List, length, vec_len, vec_capacity, OnOk, OnErr, IfOk, IsOk, max, nat_lt, slice_index, ◌≢◌};
 ghost use Rattle.std.specs.List.{list_any};
 ghost use Rattle.order_sets.specs.declared.facts.At.{At};
 ghost use Rattle.order_sets.specs.declared.facts.Fact.{Fact};
-ghost use Rattle.order_sets.specs.Between.{IsBetween};
-ghost use Rattle.order_sets.specs.Facts.{covers, is_at};
-ghost use Rattle.order_sets.specs.Holds.{in_run, in_part};
-ghost use Rattle.order_sets.specs.Stands.{has_at, holds_at, StandsFor, Fits, AreAlike};
+ghost use Rattle.order_sets.specs.Facts.{covers};
+ghost use Rattle.order_sets.specs.Holds.{in_run, in_part, is_needed};
+ghost use Rattle.order_sets.specs.Stands.{has_at, StandsFor, Fits, AreAlike};
 
 use crate::facts::{At, Fact};
 use crate::parts::{self, Part};
 use crate::run::Run;
-use crate::{ones, runs};
+use crate::{rest, runs};
 use std::alloc::{AllocError, AllocFailed, Global};
+use std::marker::Model;
 use thiserror::Error;
 
 /// A call found no memory.
@@ -35,14 +35,25 @@ impl<T: Drop> From<AllocFailed<T>> for KnownError {
     }
 }
 
-/// A set of steps, which stands for a list of facts: it has the steps that one of them covers.
+/// A set of steps of some chains. To a contract it is the number of these chains and a list of facts: it has the steps that one of
+/// them covers.
 #[derive(Drop)]
 pub struct Known {
-    // of each chain one more than the last place that is known, or 0
+    // of each chain one more than the last place that is known, or 0, but for a place behind which no end can stand
     ends: Vec<u32>,
     runs: Vec<Run>,
     parts: Vec<Part>,
-    ones: Vec<At>,
+    rest: Vec<Fact>,
+}
+
+impl Model for Known {
+    ghost use Rattle.order_sets.specs.Steps.{Steps};
+
+    ghost Value = { Steps };
+
+    ghost use Rattle.order_sets.specs.Seen.{steps_of};
+
+    ghost view = { steps_of };
 }
 
 /// Whether the step stands below its chain's end.
@@ -63,15 +74,14 @@ fn raise_all(ends: &mut [u32], other: &[u32])
     }
 }
 
-/// Raises the end of the chain to behind the place.
-fn raise(ends: &mut [u32], chain: u8, place: u32)
-    requires chain { chain < length ends.old }
-    requires place { place + 1 < 2 ^ 32 }
-    ensures here { slice_index ends.new chain ≡ max (slice_index ends.old chain) (place + 1) }
+/// Raises the end of the chain to this one.
+fn raise(ends: &mut [u32], chain: u8, end: u32)
+    requires { chain < length ends.old }
+    ensures here { slice_index ends.new chain ≡ max (slice_index ends.old chain) end }
     ensures others { (k : ℕ) → k ≢ chain → slice_index ends.new k ≡ slice_index ends.old k }
 {
-    let end = &mut ends[usize::from(chain)];
-    *end = (*end).max(place + 1);
+    let old = &mut ends[usize::from(chain)];
+    *old = (*old).max(end);
 }
 
 /// Puts each end back to 0.
@@ -84,10 +94,10 @@ fn lower_all(ends: &mut [u32])
     }
 }
 
-/// Adds each of the other runs; where there is no memory, some of them.
+/// Adds each of the other runs. Where there is room for them, none is missing.
 fn add_runs(runs: &mut Vec<Run>, other: &[Run]) -> Result<(), AllocError>
     ensures ok { OnOk result ((at : At) → list_any (in_run at) runs.new.items ≡ (list_any (in_run at) runs.old.items || list_any (in_run at) other.now)) }
-    ensures err { OnErr result ((at : At) → IsBetween (list_any (in_run at) runs.old.items) (list_any (in_run at) other.now) (list_any (in_run at) runs.new.items)) }
+    ensures room { vec_len runs.old + length other.now ≤ vec_capacity runs.old → IsOk result }
 {
     // Sets that were joined before mostly have the same runs at the same places.
     for (i, r) in other.iter().enumerate() {
@@ -96,10 +106,10 @@ fn add_runs(runs: &mut Vec<Run>, other: &[Run]) -> Result<(), AllocError>
     Ok(())
 }
 
-/// Adds the other runs, as a copy where there are none; where there is no memory, some of them.
+/// Adds the other runs, as a copy where there are none. Where there is room for them, none is missing.
 fn join_runs(runs: &mut Vec<Run>, other: &[Run]) -> Result<(), AllocError>
     ensures ok { OnOk result ((at : At) → list_any (in_run at) runs.new.items ≡ (list_any (in_run at) runs.old.items || list_any (in_run at) other.now)) }
-    ensures err { OnErr result ((at : At) → IsBetween (list_any (in_run at) runs.old.items) (list_any (in_run at) other.now) (list_any (in_run at) runs.new.items)) }
+    ensures room { vec_len runs.old + length other.now ≤ vec_capacity runs.old → IsOk result }
 {
     if runs.is_empty() {
         return runs.extend_from_slice(other);
@@ -107,10 +117,10 @@ fn join_runs(runs: &mut Vec<Run>, other: &[Run]) -> Result<(), AllocError>
     add_runs(runs, other)
 }
 
-/// Adds each of the other elements; where there is no memory, some of them.
+/// Adds each of the other elements. Where there is room for them, none is missing.
 fn add_parts(parts: &mut Vec<Part>, other: &[Part]) -> Result<(), AllocError>
     ensures ok { OnOk result ((at : At) → list_any (in_part at) parts.new.items ≡ (list_any (in_part at) parts.old.items || list_any (in_part at) other.now)) }
-    ensures err { OnErr result ((at : At) → IsBetween (list_any (in_part at) parts.old.items) (list_any (in_part at) other.now) (list_any (in_part at) parts.new.items)) }
+    ensures room { vec_len parts.old + length other.now ≤ vec_capacity parts.old → IsOk result }
 {
     for p in other {
         parts::add(parts, *p)?;
@@ -118,10 +128,10 @@ fn add_parts(parts: &mut Vec<Part>, other: &[Part]) -> Result<(), AllocError>
     Ok(())
 }
 
-/// Adds the other elements, as a copy where there are none; where there is no memory, some of them.
+/// Adds the other elements, as a copy where there are none. Where there is room for them, none is missing.
 fn join_parts(parts: &mut Vec<Part>, other: &[Part]) -> Result<(), AllocError>
     ensures ok { OnOk result ((at : At) → list_any (in_part at) parts.new.items ≡ (list_any (in_part at) parts.old.items || list_any (in_part at) other.now)) }
-    ensures err { OnErr result ((at : At) → IsBetween (list_any (in_part at) parts.old.items) (list_any (in_part at) other.now) (list_any (in_part at) parts.new.items)) }
+    ensures room { vec_len parts.old + length other.now ≤ vec_capacity parts.old → IsOk result }
 {
     if parts.is_empty() {
         return parts.extend_from_slice(other);
@@ -129,26 +139,26 @@ fn join_parts(parts: &mut Vec<Part>, other: &[Part]) -> Result<(), AllocError>
     add_parts(parts, other)
 }
 
-/// Adds each of the other steps; where there is no memory, some of them.
-fn add_ones(ones: &mut Vec<At>, other: &[At]) -> Result<(), AllocError>
-    ensures ok { OnOk result ((at : At) → list_any (λ a. is_at a at) ones.new.items ≡ (list_any (λ a. is_at a at) ones.old.items || list_any (λ a. is_at a at) other.now)) }
-    ensures err { OnErr result ((at : At) → IsBetween (list_any (λ a. is_at a at) ones.old.items) (list_any (λ a. is_at a at) other.now) (list_any (λ a. is_at a at) ones.new.items)) }
+/// Adds each of the other facts. Where there is room for them, none is missing.
+fn add_rest(rest: &mut Vec<Fact>, other: &[Fact]) -> Result<(), AllocError>
+    ensures ok { OnOk result ((at : At) → list_any (λ f. covers f at) rest.new.items ≡ (list_any (λ f. covers f at) rest.old.items || list_any (λ f. covers f at) other.now)) }
+    ensures room { vec_len rest.old + length other.now ≤ vec_capacity rest.old → IsOk result }
 {
-    for o in other {
-        ones::add(ones, *o)?;
+    for f in other {
+        rest::add(rest, *f)?;
     }
     Ok(())
 }
 
-/// Adds the other steps, as a copy where there are none; where there is no memory, some of them.
-fn join_ones(ones: &mut Vec<At>, other: &[At]) -> Result<(), AllocError>
-    ensures ok { OnOk result ((at : At) → list_any (λ a. is_at a at) ones.new.items ≡ (list_any (λ a. is_at a at) ones.old.items || list_any (λ a. is_at a at) other.now)) }
-    ensures err { OnErr result ((at : At) → IsBetween (list_any (λ a. is_at a at) ones.old.items) (list_any (λ a. is_at a at) other.now) (list_any (λ a. is_at a at) ones.new.items)) }
+/// Adds the other facts, as a copy where there are none. Where there is room for them, none is missing.
+fn join_rest(rest: &mut Vec<Fact>, other: &[Fact]) -> Result<(), AllocError>
+    ensures ok { OnOk result ((at : At) → list_any (λ f. covers f at) rest.new.items ≡ (list_any (λ f. covers f at) rest.old.items || list_any (λ f. covers f at) other.now)) }
+    ensures room { vec_len rest.old + length other.now ≤ vec_capacity rest.old → IsOk result }
 {
-    if ones.is_empty() {
-        return ones.extend_from_slice(other);
+    if rest.is_empty() {
+        return rest.extend_from_slice(other);
     }
-    add_ones(ones, other)
+    add_rest(rest, other)
 }
 
 /// Whether a run has the command.
@@ -180,11 +190,21 @@ fn is_covered(one: At, runs: &[Run], parts: &[Part]) -> bool
     runs::has(runs, one) || parts::has(parts, one)
 }
 
-/// Drops the steps of commands that a run has whole, and of elements that a part has.
-fn drop_ones(ones: &mut Vec<At>, runs: &[Run], parts: &[Part])
-    ensures { (at : At) → ((list_any (in_run at) runs.now || list_any (in_part at) parts.now) || list_any (λ a. is_at a at) ones.new.items) ≡ ((list_any (in_run at) runs.now || list_any (in_part at) parts.now) || list_any (λ a. is_at a at) ones.old.items) }
+/// Whether the fact is more than a step that a run or a part has.
+fn is_needed(f: &Fact, runs: &[Run], parts: &[Part]) -> bool
+    ensures { result ≡ is_needed runs.now parts.now f.now }
 {
-    ones.retain(|o| !is_covered(*o, runs, parts));
+    match *f {
+        Fact::One { at } => !is_covered(at, runs, parts),
+        _ => true,
+    }
+}
+
+/// Drops the steps of commands that a run has whole, and of elements that a part has.
+fn drop_ones(rest: &mut Vec<Fact>, runs: &[Run], parts: &[Part])
+    ensures { (at : At) → ((list_any (in_run at) runs.now || list_any (in_part at) parts.now) || list_any (λ f. covers f at) rest.new.items) ≡ ((list_any (in_run at) runs.now || list_any (in_part at) parts.now) || list_any (λ f. covers f at) rest.old.items) }
+{
+    rest.retain(|f| is_needed(f, runs, parts));
 }
 
 impl Known {
@@ -192,53 +212,46 @@ impl Known {
     pub fn new(alloc: Global, spes: u8) -> Result<Known, KnownError>
         requires { (1 ≤ spes) × (spes ≤ 16) }
         ensures empty { IfOk result (λ known. StandsFor known []) }
-        ensures chains { IfOk result (λ known. length known.ends.items ≡ 3 * spes + 1) }
+        ensures chains { IfOk result (λ known. known.chains ≡ 3 * spes + 1) }
     {
         let ends = vec![in alloc; 0u32; 3 * usize::from(spes) + 1]?;
         Ok(Known {
             ends,
             runs: Vec::new(alloc),
             parts: Vec::new(alloc),
-            ones: Vec::new(alloc),
+            rest: Vec::new(alloc),
         })
     }
 
     /// Takes all steps out.
     pub fn clear(&mut self)
         ensures empty { StandsFor self.new [] }
-        ensures chains { length self.new.ends.items ≡ length self.old.ends.items }
+        ensures chains { self.new.chains ≡ self.old.chains }
     {
         lower_all(self.ends.as_mut_slice());
         self.runs.clear();
         self.parts.clear();
-        self.ones.clear();
+        self.rest.clear();
     }
 
     /// Whether the step, which is of a chain that the set has, is in the set: exactly where a fact for which it stands covers it.
     pub fn has(&self, at: At) -> bool
-        requires { at.chain < length self.now.ends.items }
+        requires { at.chain < self.now.chains }
         ensures has { result ≡ has_at self.now at }
         ensures covered { (facts : List Fact) → StandsFor self.now facts → result ≡ list_any (λ f. covers f at) facts }
     {
-        is_below(self.ends.as_slice(), at) || self.holds(at)
+        is_below(self.ends.as_slice(), at)
+            || is_covered(at, &self.runs, &self.parts)
+            || rest::has(self.rest.as_slice(), at)
     }
 
-    /// Whether the step is in the set, its chain's end aside.
-    fn holds(&self, at: At) -> bool
-        ensures { result ≡ holds_at self.now at }
-    {
-        runs::has(self.runs.as_slice(), at)
-            || parts::has(self.parts.as_slice(), at)
-            || ones::has(self.ones.as_slice(), at)
-    }
-
-    /// Adds a fact, whose chain the set has and whose place is below 4,294,967,295. Where there is no memory, the set stays as it is.
+    /// Adds a fact, whose chain the set has. Where there is no memory, the set stays as it is.
     pub fn add(&mut self, f: Fact) -> Result<(), KnownError>
         requires { Fits self.old f }
         ensures stands { (facts : List Fact) → StandsFor self.old facts → OnOk result (StandsFor self.new (facts ++ f ∷ [])) }
         ensures ok { OnOk result ((at : At) → has_at self.new at ≡ (has_at self.old at || covers f at)) }
-        ensures chains { length self.new.ends.items ≡ length self.old.ends.items }
-        ensures err { OnErr result ((at : At) → has_at self.new at ≡ has_at self.old at) }
+        ensures chains { self.new.chains ≡ self.old.chains }
+        ensures err { OnErr result (self.new ≡ self.old) }
     {
         self.put(f)?;
         self.drop_covered();
@@ -249,44 +262,50 @@ impl Known {
     fn put(&mut self, f: Fact) -> Result<(), AllocError>
         requires { Fits self.old f }
         ensures ok { OnOk result ((at : At) → has_at self.new at ≡ (has_at self.old at || covers f at)) }
-        ensures chains { length self.new.ends.items ≡ length self.old.ends.items }
-        ensures err { OnErr result ((at : At) → has_at self.new at ≡ has_at self.old at) }
+        ensures chains { self.new.chains ≡ self.old.chains }
+        ensures err { OnErr result (self.new ≡ self.old) }
     {
         match f {
-            Fact::Upto { chain, place } => raise(self.ends.as_mut_slice(), chain, place),
+            Fact::Upto { chain, place } => match place.checked_add(1) {
+                Some(end) => raise(self.ends.as_mut_slice(), chain, end),
+                None => rest::add(&mut self.rest, f)?,
+            },
             Fact::Whole { chain, cmd } => runs::add(&mut self.runs, runs::single(chain, cmd))?,
             Fact::Elements { chain, cmd, below } => {
                 parts::add(&mut self.parts, Part { chain, cmd, below })?
             }
-            Fact::One { at } => ones::add(&mut self.ones, at)?,
+            Fact::One { .. } => rest::add(&mut self.rest, f)?,
         }
         Ok(())
     }
 
-    /// Adds what the other set has, which was made for the same number of processors. Where there is no memory, the set has what it
-    /// had and some of that.
+    /// Adds what the other set has, which was made for the same number of processors. Where there is no memory, the set stays as it is.
     pub fn join(&mut self, other: &Known) -> Result<(), KnownError>
         requires { AreAlike self.old other.now }
         ensures stands { (facts more : List Fact) → StandsFor self.old facts → StandsFor other.now more → OnOk result (StandsFor self.new (facts ++ more)) }
         ensures ok { OnOk result ((at : At) → has_at self.new at ≡ (has_at self.old at || has_at other.now at)) }
-        ensures chains { length self.new.ends.items ≡ length self.old.ends.items }
-        ensures err { OnErr result ((at : At) → IsBetween (has_at self.old at) (has_at other.now at) (has_at self.new at)) }
+        ensures chains { self.new.chains ≡ self.old.chains }
+        ensures err { OnErr result (self.new ≡ self.old) }
     {
         self.unite(other)?;
         self.drop_covered();
         Ok(())
     }
 
-    /// Puts in all that the other set has. Where there is no memory, the set has what it had and some of that.
+    /// Puts in all that the other set has. Where there is no memory, the set stays as it is.
     fn unite(&mut self, other: &Known) -> Result<(), AllocError>
         requires { AreAlike self.old other.now }
         ensures ok { OnOk result ((at : At) → has_at self.new at ≡ (has_at self.old at || has_at other.now at)) }
-        ensures chains { length self.new.ends.items ≡ length self.old.ends.items }
-        ensures err { OnErr result ((at : At) → IsBetween (has_at self.old at) (has_at other.now at) (has_at self.new at)) }
+        ensures chains { self.new.chains ≡ self.old.chains }
+        ensures err { OnErr result (self.new ≡ self.old) }
     {
+        self.runs.reserve(other.runs.len())?;
+        self.parts.reserve(other.parts.len())?;
+        self.rest.reserve(other.rest.len())?;
+        // There is room now, so none of these fails after another has changed the set.
         join_runs(&mut self.runs, &other.runs)?;
         join_parts(&mut self.parts, &other.parts)?;
-        join_ones(&mut self.ones, &other.ones)?;
+        join_rest(&mut self.rest, &other.rest)?;
         raise_all(self.ends.as_mut_slice(), other.ends.as_slice());
         Ok(())
     }
@@ -294,9 +313,9 @@ impl Known {
     /// Drops parts of commands and single steps that the set has anyway.
     fn drop_covered(&mut self)
         ensures same { (at : At) → has_at self.new at ≡ has_at self.old at }
-        ensures ends { self.new.ends ≡ self.old.ends }
+        ensures chains { self.new.chains ≡ self.old.chains }
     {
         drop_parts(&mut self.parts, &self.runs);
-        drop_ones(&mut self.ones, &self.runs, &self.parts);
+        drop_ones(&mut self.rest, &self.runs, &self.parts);
     }
 }

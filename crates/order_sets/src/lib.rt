@@ -6,12 +6,10 @@
 
 mod facts;
 mod known;
-mod ones;
 mod parts;
+mod rest;
 mod run;
 mod runs;
-#[cfg(test)]
-mod tests;
 
 pub use facts::{At, Fact};
 pub use known::{Known, KnownError};

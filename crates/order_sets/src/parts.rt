@@ -1,6 +1,6 @@
 //! The first elements of commands.
 
-ghost use Rattle.std.specs.Prelude.{◌≡◌, ℕ, ◌||◌, ◌&&◌, ◌==◌, IsTrue, OnOk, OnErr};
+ghost use Rattle.std.specs.Prelude.{◌≡◌, ℕ, ◌||◌, ◌&&◌, ◌==◌, IsTrue, ◌<◌, ◌≤◌, ◌+◌, vec_len, vec_capacity, IsOk, OnOk, OnErr};
 ghost use Rattle.std.specs.List.{list_any};
 ghost use Rattle.order_sets.specs.declared.facts.At.{At};
 ghost use Rattle.order_sets.specs.Holds.{in_part};
@@ -41,10 +41,13 @@ fn raised(a: &Part, b: &Part) -> Part
     }
 }
 
-/// Adds the elements, if any, to those of the same command, or behind all. Where there is no memory, all stays as it is.
+/// Adds the elements, if any, to those of the same command, or behind all. Only where there is no room it may fail, and then all stays as it is.
 pub(crate) fn add(parts: &mut Vec<Part>, part: Part) -> Result<(), AllocError>
     ensures ok { OnOk result ((at : At) → list_any (in_part at) parts.new.items ≡ (list_any (in_part at) parts.old.items || in_part at part)) }
     ensures err { OnErr result (parts.new.items ≡ parts.old.items) }
+    ensures len { vec_len parts.new ≤ vec_len parts.old + 1 }
+    ensures capacity { vec_capacity parts.old ≤ vec_capacity parts.new }
+    ensures room { vec_len parts.old < vec_capacity parts.old → IsOk result }
 {
     if part.below == 0 {
         return Ok(());

@@ -1,6 +1,6 @@
 //! Runs of whole commands.
 
-ghost use Rattle.std.specs.Prelude.{◌≡◌, ℕ, ◌||◌, true, IsTrue, ◌↔◌, OnOk, OnErr};
+ghost use Rattle.std.specs.Prelude.{◌≡◌, ℕ, ◌||◌, true, IsTrue, ◌↔◌, ◌<◌, ◌≤◌, ◌+◌, vec_len, vec_capacity, IsOk, OnOk, OnErr};
 ghost use Rattle.std.specs.List.{list_any};
 ghost use Rattle.order_sets.specs.declared.facts.At.{At};
 ghost use Rattle.order_sets.specs.declared.facts.Fact.TheVariants.{Whole};
@@ -85,10 +85,13 @@ fn covers_at(runs: &[Run], i: usize, run: &Run) -> bool
     i < runs.len() && is_inside(run, &runs[i])
 }
 
-/// Adds a run, which takes in those that it touches. Where there is no memory, all stays as it is.
+/// Adds a run, which takes in those that it touches. Only where there is no room it may fail, and then all stays as it is.
 pub(crate) fn add(runs: &mut Vec<Run>, run: Run) -> Result<(), AllocError>
     ensures ok { OnOk result ((at : At) → list_any (in_run at) runs.new.items ≡ (list_any (in_run at) runs.old.items || in_run at run)) }
     ensures err { OnErr result (runs.new.items ≡ runs.old.items) }
+    ensures len { vec_len runs.new ≤ vec_len runs.old + 1 }
+    ensures capacity { vec_capacity runs.old ≤ vec_capacity runs.new }
+    ensures room { vec_len runs.old < vec_capacity runs.old → IsOk result }
 {
     if covers(runs.as_slice(), &run) {
         return Ok(());
@@ -103,6 +106,9 @@ pub(crate) fn add(runs: &mut Vec<Run>, run: Run) -> Result<(), AllocError>
 pub(crate) fn add_near(runs: &mut Vec<Run>, i: usize, run: Run) -> Result<(), AllocError>
     ensures ok { OnOk result ((at : At) → list_any (in_run at) runs.new.items ≡ (list_any (in_run at) runs.old.items || in_run at run)) }
     ensures err { OnErr result (runs.new.items ≡ runs.old.items) }
+    ensures len { vec_len runs.new ≤ vec_len runs.old + 1 }
+    ensures capacity { vec_capacity runs.old ≤ vec_capacity runs.new }
+    ensures room { vec_len runs.old < vec_capacity runs.old → IsOk result }
 {
     if covers_at(runs.as_slice(), i, &run) {
         return Ok(());

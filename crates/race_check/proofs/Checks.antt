@@ -5,10 +5,11 @@ use Rattle.std.proofs.lemmas.Bool.{both_ways, cases_Bool, cases_lt}
 use Rattle.cell_machine.specs.declared.effect.Place.{Place}
 use Rattle.cell_machine.specs.Run.{Ran}
 use Rattle.cell_machine.specs.Traces.{trace_of}
-use Rattle.race_order.specs.OrderedRuns.{trace_in, IsOrdered}
+use Rattle.race_order.specs.Told.{trace_in}
 use Rattle.race_order.proofs.Places.{get_take}
 use Rattle.race_check.specs.declared.access.Access.{Access}
-use Rattle.race_check.specs.Races.{accesses_in, Conflict, IsLeast, Race, RaceBy}
+use Rattle.race_check.specs.Races.{Conflict, IsLeast, RaceBy}
+use Rattle.race_check.specs.Walks.{IsOrdered, accesses_in, RaceIn}
 use Rattle.race_check.specs.declared.crowd.Crowd.{Crowd}
 use Rattle.race_check.specs.declared.line.Line.{Line}
 use Rattle.race_check.specs.Crowds.{Has, IsSafe}
@@ -123,16 +124,16 @@ module _ (m : Ran) (is : trace_of m ≡ Some (trace_in m)) (j : ℕ) (w : Ran) (
   pub shows_whole : (lines : List Line) → Shows (IsOrdered w) (accesses_in w) lines (j + 1) → Shows (IsOrdered m) (accesses_in m) lines (j + 1)
   shows_whole lines shows = shows_below (IsOrdered w) (IsOrdered m) (accesses_in w) (accesses_in m) (j + 1) to_whole same lines (j + 1) (omega arith) shows
 
-  race_made : (i : ℕ) → Race m i j → Race w i j
+  race_made : (i : ℕ) → RaceIn m i j → RaceIn w i j
   race_made i race = race_below (IsOrdered w) (IsOrdered m) (accesses_in w) (accesses_in m) (j + 1) to_whole same i j (omega arith) race
 
-  race_whole : (i : ℕ) → Race w i j → Race m i j
+  race_whole : (i : ℕ) → RaceIn w i j → RaceIn m i j
   race_whole i race = race_below (IsOrdered m) (IsOrdered w) (accesses_in m) (accesses_in w) (j + 1) to_made (λ i low. sym (same i low)) i j (omega arith) race
 
   -- no earlier step races with the one at j
-  pub none_made : ((i k : ℕ) → k < j → Race m i k → ⊥) → ((i : ℕ) → Race w i j → ⊥) → (i k : ℕ) → k < j + 1 → Race m i k → ⊥
+  pub none_made : ((i k : ℕ) → k < j → RaceIn m i k → ⊥) → ((i : ℕ) → RaceIn w i j → ⊥) → (i k : ℕ) → k < j + 1 → RaceIn m i k → ⊥
   none_made below none i k low race = more_none (IsOrdered m) (accesses_in m) j below (λ i race. none i (race_made i race)) i k low race
 
   -- the first that does is the least race
-  pub least_made : (i : ℕ) → ((i k : ℕ) → k < j → Race m i k → ⊥) → Race w i j → ((k : ℕ) → k < i → Race w k j → ⊥) → IsLeast (Race m) i j
+  pub least_made : (i : ℕ) → ((i k : ℕ) → k < j → RaceIn m i k → ⊥) → RaceIn w i j → ((k : ℕ) → k < i → RaceIn w k j → ⊥) → IsLeast (RaceIn m) i j
   least_made i below race first = least (IsOrdered m) (accesses_in m) i j below (race_whole i race) (λ k low r. first k low (race_made k r))

@@ -1,6 +1,6 @@
 -- A run and its first steps: their traces, their order, and the actions that they are.
-use Rattle.std.proofs.Common.{◌≡◌, ℕ, zero, suc, ◌+◌, ◌<◌, List, [], ◌∷◌, ◌++◌, length, map, take, true, refl, sym, ap, ◌∙◌, subst, arith, Option, Some, None}
-use Rattle.std.specs.Prelude.{◌↔◌, nat_lt, slice_get, is_some, IsSome, option_map, option_and_then}
+use Rattle.std.proofs.Common.{◌≡◌, ℕ, zero, suc, ◌+◌, ◌<◌, List, [], ◌∷◌, ◌++◌, length, map, take, Bool, true, refl, sym, ap, ◌∙◌, subst, arith, Option, Some, None}
+use Rattle.std.specs.Prelude.{◌↔◌, IsTrue, nat_lt, slice_get, is_some, IsSome, option_map, option_and_then}
 use Rattle.std.proofs.lemmas.Bool.{lt-ltb}
 use Rattle.std.proofs.lemmas.List.{length-map, length-take-le, map-append, take-map, take-take, take_more}
 use Rattle.std.proofs.lemmas.Option.{get_or_from_slice_get, slice_get_within}
@@ -18,10 +18,12 @@ use Rattle.cell_machine.proofs.Same.{get-last, some_same}
 use Rattle.cell_machine.proofs.StepBytes.{of_map, of_then}
 use Rattle.race_order.specs.Trace.{Trace}
 use Rattle.race_order.specs.Rules.{Rule, Edge, Ordered, One, Then}
-use Rattle.race_order.specs.OrderedRuns.{trace_in, IsOrdered}
+use Rattle.race_order.specs.OrderedRuns.{OnTrace}
+use Rattle.race_order.specs.Told.{trace_in}
 use Rattle.race_order.proofs.OrderedRuns.{follows, trace-is, trace-long, trace-snoc}
 use Rattle.race_check.specs.declared.access.Access.{Access}
-use Rattle.race_check.specs.Races.{access_of, accesses_in}
+use Rattle.race_check.specs.Races.{access_of, accesses_on}
+use Rattle.race_check.specs.Walks.{IsOrdered, accesses_in}
 use Rattle.race_check.proofs.Agree.{accesses_of}
 
 there : {X : Type 0} (o : Option X) → IsSome o → (x : X) × (o ≡ Some x)
@@ -111,23 +113,38 @@ ordered_trans : (trace : Trace) (i m j : ℕ) → Ordered Rule trace i m → Ord
 ordered_trans trace i m j o (One e) = Then o e
 ordered_trans trace i m j o (Then {k = k} p e) = Then (ordered_trans trace i m k o p) e
 
+-- a run has one trace
+pub on_trace : (m : Ran) (i j : ℕ) (trace : Trace) → trace_of m ≡ Some trace → IsOrdered m i j → Ordered Rule trace i j
+unfolding IsOrdered
+on_trace m i j trace is o = subst (λ t. Ordered Rule t i j) (some_same o.trace trace (sym o.is ∙ is)) o.so
+
 pub is_ordered-trans : (m : Ran) (i k j : ℕ) → IsOrdered m i k → IsOrdered m k j → IsOrdered m i j
-is_ordered-trans m i k j a b = ordered_trans (trace_in m) i k j a b
+unfolding IsOrdered
+is_ordered-trans m i k j a b = record { trace = b.trace; is = b.is; so = ordered_trans b.trace i k j (on_trace m i k b.trace b.is a) b.so }
+
+-- what a test says of the trace it says of the run
+pub says-ordered : (m : Ran) (i j : ℕ) (b : Bool) → OnTrace m (λ trace. IsTrue b ↔ Ordered Rule trace i j) → IsTrue b ↔ IsOrdered m i j
+unfolding IsOrdered
+says-ordered m i j b o = (λ t. record { trace = o.trace; is = o.is; so = o.so.0 t }, λ x. o.so.1 (on_trace m i j o.trace o.is x))
 
 -- the run of its first n steps
 abbrev pub first_of : Ran → ℕ → Ran
 first_of m n = record m { steps = take n m.steps }
 
+trace-first : (m : Ran) (n : ℕ) → trace_of m ≡ Some (trace_in m) → trace_of (first_of m n) ≡ Some (take n (trace_in m))
+trace-first m n is = trace-take (opening m.setup) m.steps (trace_in m) n is
+
 pub trace_in-first : (m : Ran) (n : ℕ) → trace_of m ≡ Some (trace_in m) → trace_in (first_of m n) ≡ take n (trace_in m)
-trace_in-first m n is = trace-is (first_of m n) (take n (trace_in m)) (trace-take (opening m.setup) m.steps (trace_in m) n is)
+trace_in-first m n is = trace-is (first_of m n) (take n (trace_in m)) (trace-first m n is)
 
 pub accesses_in-first : (m : Ran) (n : ℕ) → trace_of m ≡ Some (trace_in m) → accesses_in (first_of m n) ≡ take n (accesses_in m)
 accesses_in-first m n is = ap (map (λ e. access_of e.effect)) (trace_in-first m n is) ∙ sym (take-map (λ e. access_of e.effect) n (trace_in m))
 
 pub ordered-first : (m : Ran) (n i j : ℕ) → trace_of m ≡ Some (trace_in m) → j < n → IsOrdered (first_of m n) i j ↔ IsOrdered m i j
+unfolding IsOrdered
 ordered-first m n i j is low = (
-  λ o. whole (trace_in m) n i j low (subst (λ t. Ordered Rule t i j) (trace_in-first m n is) o),
-  λ o. subst (λ t. Ordered Rule t i j) (sym (trace_in-first m n is)) (front (trace_in m) n i j low o),
+  λ o. record { trace = trace_in m; is = is; so = whole (trace_in m) n i j low (on_trace (first_of m n) i j (take n (trace_in m)) (trace-first m n is) o) },
+  λ o. record { trace = take n (trace_in m); is = trace-first m n is; so = front (trace_in m) n i j low (on_trace m i j (trace_in m) is o) },
 )
 
 -- a step more is an access more
@@ -156,6 +173,14 @@ made-first m j s before after access made =
 -- a run has an access for each step
 pub accesses-long : (m : Ran) → trace_of m ≡ Some (trace_in m) → length (accesses_in m) ≡ length m.steps
 accesses-long m is = length-map (trace_in m) (λ e. access_of e.effect) ∙ trace-long (opening m.setup) m.steps (trace_in m) is
+
+-- an access is of one of its steps
+pub access-within : (m : Ran) (trace : Trace) → trace_of m ≡ Some trace → (j : ℕ) (a : Access) → slice_get (accesses_on trace) j ≡ Some a → j < length m.steps
+access-within m trace is j a at =
+    let low : j < length (accesses_on trace) = slice_get_within (accesses_on trace) j a at in
+    let many : length (accesses_on trace) ≡ length trace = length-map trace (λ e. access_of e.effect) in
+    let long : length trace ≡ length m.steps = trace-long (opening m.setup) m.steps trace is in
+    omega arith
 
 pub made-access : (m : Ran) (j : ℕ) (s : Step) (before after : Ran) (access : Access) → trace_of m ≡ Some (trace_in m) → Made m j s before after access → slice_get (accesses_in after) j ≡ Some access
 made-access m j s before after access is made =

@@ -5,7 +5,9 @@ use Rattle.cell_machine.specs.declared.effect.Span.{Span}
 use Rattle.cell_machine.specs.declared.effect.Effect.{Effect}
 use Rattle.cell_machine.specs.Run.{Ran}
 use Rattle.cell_machine.specs.Sound.{covers}
-use Rattle.race_order.specs.OrderedRuns.{trace_in, IsOrdered}
+use Rattle.race_order.specs.Trace.{Trace}
+use Rattle.race_order.specs.Rules.{Rule, Ordered}
+use Rattle.race_order.specs.OrderedRuns.{OnTrace}
 use Rattle.race_check.specs.declared.access.Access.{Access}
 use Rattle.race_check.specs.declared.check.Verdict.{Verdict}
 use Rattle.race_check.specs.declared.check.Verdict.TheVariants.{Accepted, Race as Racing}
@@ -14,9 +16,9 @@ use Rattle.race_check.specs.declared.check.Verdict.TheVariants.{Accepted, Race a
 abbrev pub access_of : Effect → Access
 access_of e = record { fetch = e.fetch; reads = e.reads; writes = e.writes }
 
--- those of each step of a run
-abbrev pub accesses_in : Ran → List Access
-accesses_in m = map (λ e. access_of e.effect) (trace_in m)
+-- those of each step of a trace
+abbrev pub accesses_on : Trace → List Access
+accesses_on trace = map (λ e. access_of e.effect) trace
 
 -- a byte stands in both spans
 pub record Meet (a b : Span) : Type 0 where
@@ -47,9 +49,9 @@ pub record RaceBy (Before : ℕ → ℕ → Type 0) (accesses : List Access) (i 
   pub unordered : Before i j → ⊥
   pub conflict : ConflictAt accesses i j
 
--- the steps i and j of a run race
-abbrev pub Race : Ran → ℕ → ℕ → Type 0
-Race m = RaceBy (IsOrdered m) (accesses_in m)
+-- the steps i and j of a trace race
+abbrev pub Race : Trace → ℕ → ℕ → Type 0
+Race trace = RaceBy (Ordered Rule trace) (accesses_on trace)
 
 -- of the pairs in R the one with the least second place, and with that the least first
 pub record IsLeast (R : ℕ → ℕ → Type 0) (i j : ℕ) : Type 0 where
@@ -58,6 +60,10 @@ pub record IsLeast (R : ℕ → ℕ → Type 0) (i j : ℕ) : Type 0 where
   pub least_first : (k : ℕ) → R k j → i ≤ k
 
 -- accepted where no two steps race, else the least race
+abbrev pub IsVerdictOn : Verdict → Trace → Type 0
+IsVerdictOn Accepted trace = (i j : ℕ) → Race trace i j → ⊥
+IsVerdictOn (Racing first second) trace = IsLeast (Race trace) first second
+
+-- the verdict on a run is that on its trace
 abbrev pub IsVerdict : Ran → Verdict → Type 0
-IsVerdict m Accepted = (i j : ℕ) → Race m i j → ⊥
-IsVerdict m (Racing first second) = IsLeast (Race m) first second
+IsVerdict m v = OnTrace m (IsVerdictOn v)

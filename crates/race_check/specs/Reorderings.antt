@@ -5,7 +5,9 @@ use Rattle.cell_machine.specs.Opening.{opening}
 use Rattle.cell_machine.specs.Run.{Ran}
 use Rattle.cell_machine.specs.Sound.{byte_of}
 use Rattle.cell_machine.specs.ByteRuns.{Action, Bytes, byte_run, actions}
-use Rattle.race_order.specs.OrderedRuns.{IsOrdered}
+use Rattle.cell_machine.specs.Traces.{trace_of}
+use Rattle.race_order.specs.Trace.{Trace}
+use Rattle.race_order.specs.Rules.{Rule, Ordered}
 
 -- i stands before j in the list
 pub record ComesBefore (order : List ℕ) (i j : ℕ) : Type 0 where
@@ -20,9 +22,9 @@ pub record KeepsOrder (Before : ℕ → ℕ → Type 0) (n : ℕ) (order : List 
   pub each_once : IsPermutation (range_with_len 0 n) order
   pub kept : (i j : ℕ) → i < n → j < n → Before i j → ComesBefore order i j
 
--- all places of the record, each once, every step before those that it is ordered before
-abbrev pub IsReordering : Ran → List ℕ → Type 0
-IsReordering m order = KeepsOrder (IsOrdered m) (length m.steps) order
+-- all places of the trace, each once, every step before those that it is ordered before
+abbrev pub IsReordering : Trace → List ℕ → Type 0
+IsReordering trace order = KeepsOrder (Ordered Rule trace) (length trace) order
 
 -- the entries at these places, in this order
 abbrev pub at_places : {X : Type 0} → List X → List ℕ → List X
@@ -33,8 +35,10 @@ pub record Agrees (start : Bytes) (made : List Action) (order : List ℕ) : Type
   pub had : (byte_run start (at_places made order)).had ≡ at_places (byte_run start made).had order
   pub bytes : (byte_run start (at_places made order)).bytes ≡ (byte_run start made).bytes
 
--- so do the actions of the run in every reordering, on the bytes that the machine begins with
+-- so do the actions of the run in every reordering of its trace, on the bytes that the machine begins with
 pub record EveryReorderingAgrees (m : Ran) : Type 0 where
+  pub trace : Trace
+  pub is : trace_of m ≡ Some trace
   pub made : List Action
   pub are : actions (opening m.setup) m.steps ≡ Some made
-  pub agree : (order : List ℕ) → IsReordering m order → Agrees (byte_of (opening m.setup)) made order
+  pub agree : (order : List ℕ) → IsReordering trace order → Agrees (byte_of (opening m.setup)) made order

@@ -1,5 +1,5 @@
 -- What a shadow shows of the steps so far.
-use Rattle.std.specs.Prelude.{◌≡◌, ℕ, ◌+◌, ◌*◌, ◌/◌, ◌%◌, ◌<◌, ◌⊎◌, Bool, true, false, List, length, Some, slice_get}
+use Rattle.std.specs.Prelude.{◌≡◌, ℕ, ◌+◌, ◌-◌, ◌*◌, ◌/◌, ◌%◌, ◌<◌, ◌⊎◌, Bool, true, false, List, length, Some, slice_get}
 use Rattle.cell_machine.specs.declared.effect.Place.{Place}
 use Rattle.cell_machine.specs.declared.effect.Place.TheVariants.{Memory, Local}
 use Rattle.cell_machine.specs.declared.effect.Span.{Span}
@@ -14,7 +14,7 @@ use Rattle.race_check.specs.Lines.{InLine}
 
 -- which of n lists has what is kept of a line of a place
 abbrev pub slot_of : ℕ → Place → ℕ → ℕ
-slot_of n Memory line = (32768 + line) % n
+slot_of n Memory line = n - 1 - line % n
 slot_of n (Local q) line = (2048 * q + line) % n
 
 -- how a step touches a byte: it writes it, or at least reads it

@@ -1,11 +1,10 @@
 //! The least race of a run.
 
 ghost use Rattle.std.specs.Prelude.{◌≡◌, ℕ, ◌<◌, ◌↔◌, IsTrue, IfOk, length};
-ghost use Rattle.race_order.specs.OrderedRuns.{IsOrdered};
 ghost use Rattle.race_check.specs.Races.{IsVerdict, RaceBy};
 ghost use Rattle.race_check.specs.Reorderings.{EveryReorderingAgrees};
 ghost use Rattle.race_check.specs.Shows.{HasRace};
-ghost use Rattle.race_check.specs.Walks.{IsAt};
+ghost use Rattle.race_check.specs.Walks.{IsOrdered, IsAt};
 
 use crate::access::{Access, conflicts};
 use crate::error::RaceError;
@@ -62,7 +61,7 @@ pub fn check_races(alloc: Global, m: &Machine) -> Result<Verdict, RaceError>
     let steps = m.steps();
     let setup = m.setup();
     let mut walk = Walk::new(alloc, setup)?;
-    let mut shadow = Shadow::new(alloc, setup.lines())?;
+    let mut shadow = Shadow::new(alloc, setup.spes(), setup.lines())?;
     let mut accesses = Vec::with_capacity(alloc, steps.len())?;
     for (j, step) in steps.iter().enumerate() {
         let last = j as u32;

@@ -1,8 +1,7 @@
 //! The steps that touched the same bytes.
 
 ghost use Rattle.std.specs.Prelude.{◌≡◌, ℕ, ◌≤◌, ◌↔◌, ◌⊎◌, [], IsTrue, OnOk, Contains};
-ghost use Rattle.race_order.specs.OrderedRuns.{IsOrdered};
-ghost use Rattle.race_check.specs.Walks.{IsAt};
+ghost use Rattle.race_check.specs.Walks.{IsOrdered, IsAt};
 ghost use Rattle.race_check.specs.Entries.{HasSameBytes};
 ghost use Rattle.race_check.specs.Crowds.{HasStep, IsSafe, IsTaken, Replaces, StepsTell};
 

@@ -1,8 +1,7 @@
 //! What is kept of the accesses to one line of bytes.
 
 ghost use Rattle.std.specs.Prelude.{◌≡◌, [], true, false, IfOk};
-ghost use Rattle.race_order.specs.OrderedRuns.{IsOrdered};
-ghost use Rattle.race_check.specs.Walks.{IsAt};
+ghost use Rattle.race_check.specs.Walks.{IsOrdered, IsAt};
 ghost use Rattle.race_check.specs.Lines.{VisitTells};
 
 use crate::crowd::Crowd;

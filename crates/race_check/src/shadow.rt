@@ -4,8 +4,7 @@ ghost use Rattle.std.specs.Prelude.{◌≡◌, ℕ, ◌/◌, ◌^◌, ◌<◌, t
 ghost use Rattle.cell_machine.specs.declared.effect.Place.{Place};
 ghost use Rattle.cell_machine.specs.Sound.{covers};
 ghost use Rattle.race_check.specs.declared.line.Line.{Line as ALine};
-ghost use Rattle.race_order.specs.OrderedRuns.{IsOrdered};
-ghost use Rattle.race_check.specs.Walks.{IsAt};
+ghost use Rattle.race_check.specs.Walks.{IsOrdered, IsAt};
 ghost use Rattle.race_check.specs.Entries.{Holds};
 ghost use Rattle.race_check.specs.Shows.{EntryTells, SpanTells, StepTells, slot_of};
 
@@ -17,20 +16,20 @@ use crate::walk::Walk;
 use cell_machine::{Place, Span};
 use std::alloc::Global;
 
-/// The list, of `count` lists, that has the entries of a line of a place. The first sixteen local
-/// stores and main memory have lists of their own where there are enough; it is no harm where two
-/// lines share one.
+/// The list, of `count` lists, that has the entries of a line of a place: local stores have the first
+/// ones, and main memory the last ones, counted from the end. It is no harm where two lines share one.
 fn slot(count: usize, place: Place, line: u64) -> usize
     requires count { 0 < count }
     requires line { line < 2 ^ 40 }
     ensures within { result < count }
     ensures is { result ≡ slot_of count place line }
 {
+    let lists = count as u64;
     let number = match place {
-        Place::Memory => 32768 + line,
-        Place::Local(q) => 2048 * u64::from(q) + line,
+        Place::Memory => lists - 1 - line % lists,
+        Place::Local(q) => (2048 * u64::from(q) + line) % lists,
     };
-    (number % count as u64) as usize
+    number as usize
 }
 
 /// The bytes of the span in the line.
@@ -125,12 +124,12 @@ pub struct Shadow {
 }
 
 impl Shadow {
-    /// The shadow of no step, with main memory of `memory` lines.
-    pub fn new(alloc: Global, memory: u32) -> Result<Shadow, RaceError>
+    /// The shadow of no step, of so many processors, with main memory of `memory` lines: a list for each line, and one more.
+    pub fn new(alloc: Global, spes: u8, memory: u32) -> Result<Shadow, RaceError>
         ensures { IfOk result (λ shadow. (k : ℕ) (line : ALine) → slice_get shadow.lines.items k ≡ Some line → (line.writes.items ≡ []) × (line.reads.items ≡ [])) }
     {
         let mut lines = Vec::new(alloc);
-        for _ in 0..32768 + u64::from(memory) {
+        for _ in 0..2048 * u64::from(spes) + u64::from(memory) + 1 {
             lines.push(Line::new(alloc))?;
         }
         Ok(Shadow { alloc, lines })

@@ -2,9 +2,7 @@
 
 ghost use Rattle.std.specs.Prelude.{◌≡◌, ◌+◌, ◌-◌, ◌<◌, ◌↔◌, [], ◌∷◌, ◌++◌, length, IfOk, IsTrue, IsSome};
 ghost use Rattle.cell_machine.specs.Run.{Ran, next_of};
-ghost use Rattle.race_order.specs.OrderedRuns.{IsOrdered};
-ghost use Rattle.race_check.specs.Races.{accesses_in};
-ghost use Rattle.race_check.specs.Walks.{IsAt, Stands};
+ghost use Rattle.race_check.specs.Walks.{IsOrdered, IsAt, Stands, accesses_in};
 
 use crate::access::Access;
 use crate::error::RaceError;

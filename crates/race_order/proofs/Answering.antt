@@ -4,7 +4,8 @@ use Rattle.std.specs.Prelude.{slice_get}
 use Rattle.std.proofs.lemmas.Option.{slice_get_within}
 use Rattle.order_sets.specs.declared.facts.At.{At}
 use Rattle.race_order.specs.Trace.{Event, Trace}
-use Rattle.race_order.specs.Rules.{Rule, Plain, Edge, Ordered, One, Then}
+use Rattle.race_order.specs.Rules.{Plain, Edge, Ordered, One, Then}
+use Rattle.race_order.specs.StatusRules.{Rule}
 use Rattle.race_order.specs.Stamps.{stamp, IsStamp}
 use Rattle.race_order.specs.Orderly.{IsOrderly}
 use Rattle.race_order.specs.Pasts.{Past, Holds}

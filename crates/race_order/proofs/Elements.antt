@@ -11,7 +11,8 @@ use Rattle.race_order.specs.Trace.{Trace, IsStep, IsStepOf, is_of}
 use Rattle.race_order.specs.declared.progress.Progress.{Progress}
 use Rattle.race_order.specs.Status.{status, next_status, stepped, finished, with_element, after_element, is_transfer, is_last}
 use Rattle.race_order.specs.Queue.{Has, ReadsElement, IsStepOfElement}
-use Rattle.race_order.specs.Rules.{Rule, NextElement, Edge, Ordered, One}
+use Rattle.race_order.specs.Rules.{Edge, Ordered, One}
+use Rattle.race_order.specs.StatusRules.{Rule, NextElement}
 use Rattle.race_order.proofs.Places.{take_step}
 use Rattle.race_order.proofs.LookedAt.{step_here, same_step}
 use Rattle.race_order.proofs.Holding.{ordered_trans}
@@ -37,7 +38,7 @@ read_finished t = at (is_transfer t.command)
     at true = refl
     at false = refl
 
-read_element : (s : Progress) (note : Note) → (after_element s note).read ≡ s.read + 1
+pub read_element : (s : Progress) (note : Note) → (after_element s note).read ≡ s.read + 1
 read_element s (Element number parts flag) = at (parts == 0)
   where
     at : (b : Bool) → (if b then finished (with_element s parts flag) else with_element s parts flag).read ≡ s.read + 1

@@ -9,7 +9,7 @@ use Rattle.race_order.specs.Trace.{Trace, IsStep, is_of}
 use Rattle.race_order.specs.declared.progress.Progress.{Progress}
 use Rattle.race_order.specs.Status.{elements_done}
 use Rattle.race_order.specs.Queue.{Has, ReadsElement, IsStepOfElement, IsStalled, Resumes}
-use Rattle.race_order.specs.Rules.{Rule}
+use Rattle.race_order.specs.StatusRules.{Rule}
 use Rattle.race_order.specs.Stamps.{elem_of}
 use Rattle.race_order.specs.Orderly.{IsOrderly}
 use Rattle.race_order.specs.Pasts.{Past}

@@ -16,7 +16,8 @@ use Rattle.race_order.specs.Trace.{Event, Trace, IsStepOf, is_of}
 use Rattle.race_order.specs.declared.progress.Progress.{Progress}
 use Rattle.race_order.specs.Status.{status, next_status, first_status, issued_as, begun, stepped, elements_done}
 use Rattle.race_order.specs.Queue.{Has, Before, Resumes}
-use Rattle.race_order.specs.Rules.{Rule, Edge, Ordered, One, Then}
+use Rattle.race_order.specs.Rules.{Edge, Ordered, One, Then}
+use Rattle.race_order.specs.StatusRules.{Rule}
 use Rattle.race_order.specs.declared.roles.Role.{Role}
 use Rattle.race_order.specs.Stamps.{stamp, IsStamp, chain_of, cmd_of, elem_of}
 use Rattle.race_order.specs.Roles.{Source, read_roles}

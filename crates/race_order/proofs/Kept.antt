@@ -13,7 +13,7 @@ use Rattle.race_order.specs.Trace.{Event, Trace, is_of}
 use Rattle.race_order.specs.declared.progress.Progress.{Progress}
 use Rattle.race_order.specs.Status.{stepped, elements_done}
 use Rattle.race_order.specs.Queue.{Has, IsStepOfElement, IsStalled, Resumes}
-use Rattle.race_order.specs.Rules.{Rule}
+use Rattle.race_order.specs.StatusRules.{Rule}
 use Rattle.race_order.specs.declared.roles.Role.{Role}
 use Rattle.race_order.specs.Stamps.{IsStamp}
 use Rattle.race_order.specs.Roles.{Source}

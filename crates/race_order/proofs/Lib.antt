@@ -15,6 +15,9 @@ pub mod Stands
 pub mod Statuses
 pub mod Histories
 pub mod Elements
+pub mod Changes
+pub mod Tallies
+pub mod CountedRules
 pub mod Queues
 pub mod PastLaws
 pub mod Answering
@@ -24,6 +27,7 @@ pub mod Kept
 pub mod Halts
 pub mod Locals
 pub mod SameRoles
+pub mod Rows
 pub mod HasIn
 pub mod Passed
 pub mod Causes

@@ -18,7 +18,8 @@ use Rattle.race_order.specs.Orderly.{MayCome}
 use Rattle.race_order.specs.Premises.{QueueMay}
 use Rattle.race_order.specs.Stamps.{event_of}
 use Rattle.race_order.specs.Standing.{StandsFor}
-use Rattle.race_order.specs.OrderedRuns.{trace_in, StandsForRun}
+use Rattle.race_order.specs.OrderedRuns.{OnTrace, StandsForRun}
+use Rattle.race_order.specs.Told.{trace_in}
 use Rattle.race_order.specs.declared.orderer.Orderer.{Orderer}
 use Rattle.race_order.proofs.Runs.{may-follow}
 
@@ -78,13 +79,23 @@ pub trace-is : (m : Ran) (trace : Trace) → trace_of m ≡ Some trace → trace
 unfolding trace_in
 trace-is m trace h = rw h refl
 
+-- what is so of its trace is so of this one
+pub of-trace : (m : Ran) (P : Trace → Type 0) → OnTrace m P → (trace_of m ≡ Some (trace_in m)) × P (trace_in m)
+of-trace m P t = let same = trace-is m t.trace t.is in (t.is ∙ ap Some (sym same), subst P (sym same) t.so)
+
+pub run-told : (o : Orderer) (m : Ran) → StandsForRun o m → trace_of m ≡ Some (trace_in m)
+run-told o m st = (of-trace m (StandsFor o) st.stands).0
+
+pub run-stands : (o : Orderer) (m : Ran) → StandsForRun o m → StandsFor o (trace_in m)
+run-stands o m st = (of-trace m (StandsFor o) st.stands).1
+
 pub run-long : (o : Orderer) (m : Ran) → StandsForRun o m → length (trace_in m) ≡ length m.steps
-run-long o m st = trace-long (opening m.setup) m.steps (trace_in m) st.run
+run-long o m st = trace-long (opening m.setup) m.steps (trace_in m) (run-told o m st)
 
 pub stands-first : (o : Orderer) (m : Ran) → m.steps ≡ [] → m.setup.budget ≤ 1000000 → StandsFor o [] → o.spes ≡ length m.setup.entries → StandsForRun o m
 stands-first o m none few st spes =
     let empty : trace_of m ≡ Some [] = ap (trace_from (opening m.setup)) none in
-    record { run = empty ∙ ap Some (sym (trace-is m [] empty)); budget = few; spes = spes; stands = subst (StandsFor o) (sym (trace-is m [] empty)) st }
+    record { budget = few; spes = spes; stands = record { trace = []; is = empty; so = st } }
 
 -- what is asked of the next event
 pub record Next (o : Orderer) (m : Ran) (s : Step) (e : Effect) : Type 0 where
@@ -96,7 +107,7 @@ pub next-may : (o : Orderer) (m : Ran) (s : Step) (e : Effect) → StandsForRun 
 next-may o m s e st h =
     let f = follows m s e h in
     let to = leads f.state s e f.effect in
-    let comes = may-follow m (trace_in m) f.state to.0 s e st.run f.at to.1 f.effect in
+    let comes = may-follow m (trace_in m) f.state to.0 s e (run-told o m st) f.at to.1 f.effect in
     let long = run-long o m st in
     let few = st.budget in
     let low = f.within in
@@ -107,5 +118,5 @@ pub stands-next : (o after : Orderer) (m : Ran) (s : Step) (e : Effect) → Stan
 stands-next o after m s e st h made spes =
     let f = follows m s e h in
     let more : Ran = record m { steps = m.steps ++ s ∷ [] } in
-    let run : trace_of more ≡ Some (trace_in m ++ event_of s e ∷ []) = trace-snoc (opening m.setup) f.state m.steps (trace_in m) s e st.run f.at f.effect in
-    record { run = run ∙ ap Some (sym (trace-is more _ run)); budget = st.budget; spes = spes ∙ st.spes; stands = subst (StandsFor after) (sym (trace-is more _ run)) made }
+    let run : trace_of more ≡ Some (trace_in m ++ event_of s e ∷ []) = trace-snoc (opening m.setup) f.state m.steps (trace_in m) s e (run-told o m st) f.at f.effect in
+    record { budget = st.budget; spes = spes ∙ st.spes; stands = record { trace = trace_in m ++ event_of s e ∷ []; is = run; so = made } }

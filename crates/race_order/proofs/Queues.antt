@@ -13,7 +13,8 @@ use Rattle.race_order.specs.Trace.{Event, Trace, IsStep, IsStepOf, is_of}
 use Rattle.race_order.specs.declared.progress.Progress.{Progress}
 use Rattle.race_order.specs.Status.{status, next_status, stepped, is_transfer, elements_done}
 use Rattle.race_order.specs.Queue.{Has, Before, ReadsElement, IsStepOfElement, Resumes}
-use Rattle.race_order.specs.Rules.{Rule, Program, Issued, Queued, Queue, ElementPiece, NextElement, StallSeen, Resumed, ResumedEarlier, TagSeen, Ordered, One}
+use Rattle.race_order.specs.Rules.{Program, Issued, Ordered, One}
+use Rattle.race_order.specs.StatusRules.{Rule, Queued, Queue, ElementPiece, NextElement, StallSeen, Resumed, ResumedEarlier, TagSeen}
 use Rattle.race_order.specs.declared.roles.Role.{Role}
 use Rattle.race_order.specs.Stamps.{elem_of}
 use Rattle.race_order.specs.Roles.{Source, Joins, read_roles}

@@ -15,7 +15,8 @@ use Rattle.race_order.specs.declared.orderer.Orderer.{Orderer}
 use Rattle.race_order.specs.Standing.{StandsFor, Keep, IsLast, with_issued}
 use Rattle.std.proofs.Math.Path.{fun_ext}
 use Rattle.std.specs.List.{list_any}
-use Rattle.race_order.specs.Rules.{Rule, Ordered}
+use Rattle.race_order.specs.Rules.{Ordered}
+use Rattle.race_order.specs.StatusRules.{Rule}
 use Rattle.race_order.specs.Orderly.{IsOrderly, IsWithin}
 use Rattle.race_order.proofs.Places.{longer, place_of, take_front, take_before}
 use Rattle.race_order.proofs.Advance.{Answers}
@@ -47,11 +48,11 @@ name_is o trace i a stands low is =
     let g : slice_get o.names.items i ≡ Some (stamp o.spes i h.0) = stands.names.named i h.0 h.1 in
     record { event = h.0; at = h.1; is = is ∙ get_or_from_slice_get o.names.items i (stamp o.spes i h.0) a g }
 
-pub name_within : (o : Orderer) (trace : Trace) (i : ℕ) (a : At) → StandsFor o trace → IsStamp o.spes trace i a → a.chain < length o.last.ends.items
+pub name_within : (o : Orderer) (trace : Trace) (i : ℕ) (a : At) → StandsFor o trace → IsStamp o.spes trace i a → a.chain < o.last.chains
 name_within o trace i a stands st =
     let w : chain_of o.spes st.event.step < 3 * o.spes + 1 = chain_low o.spes st.event.step (stands.orderly i st.event st.at).within in
     let e : a.chain ≡ chain_of o.spes st.event.step = ap (λ (x : At). x.chain) st.is in
-    let l : length o.last.ends.items ≡ 3 * o.spes + 1 = stands.last_chains in
+    let l : o.last.chains ≡ 3 * o.spes + 1 = stands.last_chains in
     omega arith
 
 none_over : (next : List Live) → list_any (λ (l : Live). false) next ≡ false

@@ -142,10 +142,10 @@ chain_low n (Atomic p) w = omega arith
 chain_low n Host w = omega arith
 
 -- what names a step in a set is of one of the chains
-pub fact_fits : (n : ℕ) (a : At) (s : Step) → IsWithin n s → a.place + 1 < 2 ^ 32 → FitsChains (3 * n + 1) (fact_by n a s)
-fact_fits n a (Exec p) w room = (omega arith, room)
-fact_fits n a (Piece p c x k) w room = tt
-fact_fits n a (Elem p c) w room = tt
-fact_fits n a (Retire p c) w room = tt
-fact_fits n a (Atomic p) w room = (omega arith, room)
-fact_fits n a Host w room = (omega arith, room)
+pub fact_fits : (n : ℕ) (a : At) (s : Step) → IsWithin n s → FitsChains (3 * n + 1) (fact_by n a s)
+fact_fits n a (Exec p) w = omega arith
+fact_fits n a (Piece p c x k) w = tt
+fact_fits n a (Elem p c) w = tt
+fact_fits n a (Retire p c) w = tt
+fact_fits n a (Atomic p) w = omega arith
+fact_fits n a Host w = omega arith

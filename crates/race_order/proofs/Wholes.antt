@@ -11,7 +11,8 @@ use Rattle.race_order.specs.Trace.{Trace, IsStep, IsStepOf, IssuesAt}
 use Rattle.race_order.specs.declared.progress.Progress.{Progress}
 use Rattle.race_order.specs.Status.{status, elements_done}
 use Rattle.race_order.specs.Queue.{Has, Before}
-use Rattle.race_order.specs.Rules.{Rule, Ordered}
+use Rattle.race_order.specs.Rules.{Ordered}
+use Rattle.race_order.specs.StatusRules.{Rule}
 use Rattle.race_order.specs.Stamps.{elem_of}
 use Rattle.race_order.specs.Orderly.{IsOrderly}
 use Rattle.race_order.specs.Pasts.{Past}

@@ -26,7 +26,7 @@ has_brought b at = has_at b.known.now at || covers b.fact at
 pub record IsOfChains (b : Brought) : Type 0 where
   pub some : 1 ≤ b.spes
   pub spes : b.spes ≤ 16
-  pub known : length b.known.now.ends.items ≡ 3 * b.spes + 1
+  pub known : b.known.now.chains ≡ 3 * b.spes + 1
   pub fact : FitsChains (3 * b.spes + 1) b.fact
 
 -- the sets that a step looks at

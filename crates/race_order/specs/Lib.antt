@@ -1,7 +1,9 @@
 pub mod Trace
 pub mod Status
-pub mod Queue
+pub mod Commands
 pub mod Rules
+pub mod Queue
+pub mod StatusRules
 pub mod Stamps
 pub mod Roles
 pub mod Orderly
@@ -18,4 +20,5 @@ pub mod Bringing
 pub mod Standing
 pub mod Stages
 pub mod RunLaws
+pub mod Told
 pub mod OrderedRuns

@@ -1,4 +1,4 @@
--- What the order of steps looks at of the queue of commands.
+-- The queue of commands by how far each has come (`Status`), for proofs and laws; the rules that callers see count in the trace (`Commands`).
 use Rattle.std.specs.Prelude.{◌≡◌, ℕ, ◌+◌, ◌<◌, ◌⊎◌, true, Some, take}
 use Rattle.cell_base.specs.declared.steps.Step.TheVariants.{Exec, Piece, Elem}
 use Rattle.mfc_command.specs.Order.{precedes}

@@ -1,10 +1,9 @@
 -- Which steps are ordered directly.
-use Rattle.std.specs.Prelude.{ℕ, ◌+◌, ◌<◌, ◌≤◌, ◌⊎◌, IsBitSet, take}
+use Rattle.std.specs.Prelude.{ℕ, ◌+◌, ◌<◌, ◌⊎◌, IsBitSet, take}
 use Rattle.cell_base.specs.declared.steps.Step.TheVariants.{Exec, Piece, Atomic, Elem, Host}
 use Rattle.mfc_command.specs.declared.command.Command.{Command}
 use Rattle.cell_machine.specs.declared.effect.Note.TheVariants.{AtomicIssue, TagRead, StallRead, AtomicRead, Ended, Awaited}
-use Rattle.race_order.specs.declared.progress.Progress.{Progress}
-use Rattle.race_order.specs.Queue.{Has, Before, ReadsElement, IsStepOfElement, IsStalled, Resumes}
+use Rattle.race_order.specs.Commands.{IsIssued, Before, ReadsElement, IsStepOfElement, IsFlagDone, Resumes}
 use Rattle.race_order.specs.Trace.{Trace, IsStep, Notes, IssuesAt, IsStepOf, PutsNth, TakesNth, mailbox_size, OnLine}
 
 -- the step at i is ordered before the later one at j by a rule that looks at no queue
@@ -38,14 +37,14 @@ pub data Queued (trace : Trace) (i j : ℕ) : Type 0 where
   ElementPiece : (p c n part : ℕ) → ReadsElement trace i p c n → IsStep trace j (Piece p c n part) → Queued trace i j
   -- the steps of an element before the next one is read
   NextElement : (p c n : ℕ) → IsStepOfElement trace i p c n → ReadsElement trace j p c (n + 1) → Queued trace i j
-  -- the steps of an element behind which a list has stalled before a stall status that shows its tag
-  StallSeen : (p c n m groups : ℕ) → IsStepOfElement trace i p c n → m ≤ j → (stall : IsStalled trace m p c n) → Notes trace j (Exec p) (StallRead groups) → IsBitSet groups stall.progress.command.tag → Queued trace i j
+  -- the steps of a flagged element that is done before a stall status that shows the tag of its list
+  StallSeen : (p c n groups : ℕ) (command : Command) → IsStepOfElement trace i p c n → IsFlagDone (take j trace) p c n → IsIssued trace p c command → Notes trace j (Exec p) (StallRead groups) → IsBitSet groups command.tag → Queued trace i j
   -- an acknowledgement before the later steps of a list that it resumes
   Resumed : (p c : ℕ) → Resumes trace i p c → IsStepOf trace j p c → Queued trace i j
   -- and before those of the commands that the list goes before
   ResumedEarlier : (p c d : ℕ) → Resumes trace i p c → IsStepOf trace j p d → Before trace p c d → Queued trace i j
   -- the steps of a command before a tag status that shows its group and was fixed after its issue
-  TagSeen : (p c groups issued : ℕ) (s : Progress) → IsStepOf trace i p c → Has trace p c s → Notes trace j (Exec p) (TagRead groups issued) → IsBitSet groups s.command.tag → c < issued → Queued trace i j
+  TagSeen : (p c groups issued : ℕ) (command : Command) → IsStepOf trace i p c → IsIssued trace p c command → Notes trace j (Exec p) (TagRead groups issued) → IsBitSet groups command.tag → c < issued → Queued trace i j
 
 abbrev pub Rule : Trace → ℕ → ℕ → Type 0
 Rule trace i j = Plain trace i j ⊎ Queued trace i j

@@ -4,7 +4,8 @@ use Rattle.order_sets.specs.declared.facts.At.{At}
 use Rattle.order_sets.specs.Stands.{has_at}
 use Rattle.race_order.specs.Trace.{Event, Trace}
 use Rattle.race_order.specs.Status.{begun}
-use Rattle.race_order.specs.Rules.{Rule, Ordered}
+use Rattle.race_order.specs.Rules.{Ordered}
+use Rattle.race_order.specs.StatusRules.{Rule}
 use Rattle.race_order.specs.Stamps.{stamp, IsStamp}
 use Rattle.race_order.specs.Counted.{Shows}
 use Rattle.race_order.specs.Orderly.{IsOrderly}
@@ -42,8 +43,8 @@ pub record StandsFor (o : Orderer) (trace : Trace) : Type 0 where
   pub orderly : IsOrderly o.spes trace
   pub queued : IsQueued trace
   pub chains : AreOf (3 * o.spes + 1) o.sets
-  pub last_chains : length o.last.ends.items ≡ 3 * o.spes + 1
-  pub spare_chains : length o.spare.ends.items ≡ 3 * o.spes + 1
+  pub last_chains : o.last.chains ≡ 3 * o.spes + 1
+  pub spare_chains : o.spare.chains ≡ 3 * o.spes + 1
   pub counts : Shows o.spes o.boxes trace
   pub names : AreNamed o.spes trace o.names.items
   pub lives_long : length o.lives.items ≡ o.spes

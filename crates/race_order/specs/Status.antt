@@ -1,4 +1,4 @@
--- How far a queued command has come after some steps.
+-- How far a queued command has come after some steps, for proofs and laws.
 use Rattle.std.specs.Prelude.{ℕ, ◌+◌, ◌-◌, ◌*◌, ◌==◌, Bool, true, false, ◌&&◌, not, Option, Some, None, if◌then◌else◌}
 use Rattle.std.specs.List.{fold}
 use Rattle.cell_base.specs.declared.steps.Step.{Step}

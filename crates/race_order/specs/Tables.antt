@@ -72,7 +72,7 @@ number (Stalled p g) = 256 * p + 128 + g
 
 -- the fact is of one of so many chains
 abbrev pub FitsChains : ℕ → Fact → Type 0
-FitsChains chains (Upto chain place) = (chain < chains) × (place + 1 < 2 ^ 32)
+FitsChains chains (Upto chain place) = chain < chains
 FitsChains chains _ = ⊤
 
 -- the set of the role
@@ -80,7 +80,7 @@ abbrev pub sets_have : Sets → QueueRole → At → Bool
 sets_have sets r at = has_in sets.buckets.items (number r) r at
 
 abbrev pub AreRowsOf : ℕ → List Row → Type 0
-AreRowsOf chains rows = Each (λ row. length row.known.ends.items ≡ chains) rows
+AreRowsOf chains rows = Each (λ row. row.known.chains ≡ chains) rows
 
 -- they are of 1 to 16 processors, and each has that many chains
 abbrev pub AreOf : ℕ → Sets → Type 0

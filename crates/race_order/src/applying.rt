@@ -28,10 +28,10 @@ use order_sets::Known;
 
 /// What goes before a command goes into its set, where the step issues one.
 fn pass_issue(sets: &mut Sets, spare: &mut Known, step: Step, note: Note) -> Result<(), OrderError>
-    requires { AreOf (length spare.old.ends.items) sets.old }
+    requires { AreOf (spare.old.chains) sets.old }
     ensures has { OnOk result (AreMoved (λ g. list_any g (issue_list (issued_in step note))) (sets_have sets.old) (sets_have sets.new)) }
-    ensures chains { OnOk result (AreOf (length spare.old.ends.items) sets.new) }
-    ensures spare { length spare.new.ends.items ≡ length spare.old.ends.items }
+    ensures chains { OnOk result (AreOf (spare.old.chains) sets.new) }
+    ensures spare { spare.new.chains ≡ spare.old.chains }
 {
     match find_issue(step, note) {
         Some(issued) => pass_issued(sets, spare, &issued),
@@ -53,12 +53,12 @@ fn apply(
     requires within { AreWithin brought.now.spes lives.old }
     requires brought { IsOfChains brought.now }
     requires sets { AreOf (3 * brought.now.spes + 1) sets.old }
-    requires spare { length spare.old.ends.items ≡ 3 * brought.now.spes + 1 }
+    requires spare { spare.old.chains ≡ 3 * brought.now.spes + 1 }
     ensures stepped { OnOk result (AreStepped brought.now.spes brought.now.step brought.now.effect.now (has_brought brought.now) lives.old (entered boxes.now brought.now) (sets_have sets.old) (sets_have sets.new)) }
     ensures next { OnOk result (lives.new ≡ nexts brought.now.step brought.now.effect.now lives.old) }
     ensures done { IfOk result (λ done. done ≡ list_any (λ l. l.progress.done) lives.new) }
     ensures chains { OnOk result (AreOf (3 * brought.now.spes + 1) sets.new) }
-    ensures spare { length spare.new.ends.items ≡ length spare.old.ends.items }
+    ensures spare { spare.new.chains ≡ spare.old.chains }
 {
     let (step, note) = (brought.step, brought.effect.note);
     enter_all(sets, boxes, brought)?;
@@ -111,11 +111,11 @@ fn take_own(
     requires within { AreWithin brought.now.spes lives.old.items }
     requires brought { IsOfChains brought.now }
     requires sets { AreOf (3 * brought.now.spes + 1) sets.old }
-    requires spare { length spare.old.ends.items ≡ 3 * brought.now.spes + 1 }
+    requires spare { spare.old.chains ≡ 3 * brought.now.spes + 1 }
     ensures stepped { OnOk result (AreKept brought.now.spes brought.now.step brought.now.effect.now (has_brought brought.now) lives.old.items (entered boxes.now brought.now) (sets_have sets.old) (sets_have sets.new)) }
     ensures lives { OnOk result (lives.new.items ≡ with_issued (issued_in brought.now.step brought.now.effect.now.note) (filter (λ l. not l.progress.done) (nexts brought.now.step brought.now.effect.now lives.old.items))) }
     ensures chains { OnOk result (AreOf (3 * brought.now.spes + 1) sets.new) }
-    ensures spare { length spare.new.ends.items ≡ length spare.old.ends.items }
+    ensures spare { spare.new.chains ≡ spare.old.chains }
 {
     let done = apply(sets, spare, lives.as_mut_slice(), boxes, brought)?;
     drop_done(sets, lives, done);
@@ -133,10 +133,10 @@ fn take_host(
     requires fits { Fits boxes.now brought.now.effect.now.note }
     requires brought { IsOfChains brought.now }
     requires sets { AreOf (3 * brought.now.spes + 1) sets.old }
-    requires spare { length spare.old.ends.items ≡ 3 * brought.now.spes + 1 }
+    requires spare { spare.old.chains ≡ 3 * brought.now.spes + 1 }
     ensures stepped { OnOk result (AreKept brought.now.spes brought.now.step brought.now.effect.now (has_brought brought.now) [] (entered boxes.now brought.now) (sets_have sets.old) (sets_have sets.new)) }
     ensures chains { OnOk result (AreOf (3 * brought.now.spes + 1) sets.new) }
-    ensures spare { length spare.new.ends.items ≡ length spare.old.ends.items }
+    ensures spare { spare.new.chains ≡ spare.old.chains }
 {
     apply(sets, spare, &mut [], boxes, brought)?;
     Ok(())
@@ -157,13 +157,13 @@ pub(crate) fn take_in(
     requires within { AreWithin brought.now.spes (near lives.old.items (spe_in brought.now.step)) }
     requires brought { IsOfChains brought.now }
     requires sets { AreOf (3 * brought.now.spes + 1) sets.old }
-    requires spare { length spare.old.ends.items ≡ 3 * brought.now.spes + 1 }
+    requires spare { spare.old.chains ≡ 3 * brought.now.spes + 1 }
     ensures stepped { OnOk result (AreKept brought.now.spes brought.now.step brought.now.effect.now (has_brought brought.now) (near lives.old.items (spe_in brought.now.step)) (entered boxes.now brought.now) (sets_have sets.old) (sets_have sets.new)) }
     ensures own { OnOk result ((p : ℕ) → spe_in brought.now.step ≡ Some p → lives_of lives.new.items p ≡ with_issued (issued_in brought.now.step brought.now.effect.now.note) (filter (λ l. not l.progress.done) (nexts brought.now.step brought.now.effect.now (lives_of lives.old.items p)))) }
     ensures others { OnOk result ((p : ℕ) → spe_in brought.now.step ≢ Some p → lives_of lives.new.items p ≡ lives_of lives.old.items p) }
     ensures long { OnOk result (length lives.new.items ≡ length lives.old.items) }
     ensures chains { OnOk result (AreOf (3 * brought.now.spes + 1) sets.new) }
-    ensures spare { length spare.new.ends.items ≡ length spare.old.ends.items }
+    ensures spare { spare.new.chains ≡ spare.old.chains }
 {
     match spe_of(brought.step) {
         Some(spe) => {

@@ -46,9 +46,9 @@ fn is_over(role: QueueRole, next: &[Live]) -> bool
 
 /// Adds to the known steps what the row has, where it is the role's.
 fn gather_row(row: &Row, role: QueueRole, known: &mut Known) -> Result<(), OrderError>
-    requires { length row.now.known.ends.items ≡ length known.old.ends.items }
+    requires { row.now.known.chains ≡ known.old.chains }
     ensures has { OnOk result ((at : At) → has_at known.new at ≡ (has_at known.old at || row_has role at row.now)) }
-    ensures chains { length known.new.ends.items ≡ length known.old.ends.items }
+    ensures chains { known.new.chains ≡ known.old.chains }
 {
     if is_role(row.role, role) {
         known.join(&row.known)?;
@@ -61,7 +61,7 @@ fn add_row(row: &mut Row, role: QueueRole, fact: Fact) -> Result<(), OrderError>
     requires role { same_role row.old.role role ≡ true }
     requires fits { Fits row.old.known fact }
     ensures has { OnOk result ((r : ARole) (at : At) → row_has r at row.new ≡ (row_has r at row.old || (same_role role r && covers fact at))) }
-    ensures chains { length row.new.known.ends.items ≡ length row.old.known.ends.items }
+    ensures chains { row.new.known.chains ≡ row.old.known.chains }
 {
     row.known.add(fact)?;
     Ok(())
@@ -70,9 +70,9 @@ fn add_row(row: &mut Row, role: QueueRole, fact: Fact) -> Result<(), OrderError>
 /// Adds the known steps to the row, which is the role's.
 fn put_row(row: &mut Row, role: QueueRole, known: &Known) -> Result<(), OrderError>
     requires role { same_role row.old.role role ≡ true }
-    requires chains { length row.old.known.ends.items ≡ length known.now.ends.items }
+    requires chains { row.old.known.chains ≡ known.now.chains }
     ensures has { OnOk result ((r : ARole) (at : At) → row_has r at row.new ≡ (row_has r at row.old || (same_role role r && has_at known.now at))) }
-    ensures chains { length row.new.known.ends.items ≡ length row.old.known.ends.items }
+    ensures chains { row.new.known.chains ≡ row.old.known.chains }
 {
     row.known.join(known)?;
     Ok(())
@@ -96,9 +96,9 @@ impl Bucket {
 
     /// Adds to the known steps what the role's set has.
     pub(crate) fn gather(&self, role: QueueRole, known: &mut Known) -> Result<(), OrderError>
-        requires { AreRowsOf (length known.old.ends.items) self.now.rows.items }
+        requires { AreRowsOf (known.old.chains) self.now.rows.items }
         ensures has { OnOk result ((at : At) → has_at known.new at ≡ (has_at known.old at || bucket_has role at self.now)) }
-        ensures chains { length known.new.ends.items ≡ length known.old.ends.items }
+        ensures chains { known.new.chains ≡ known.old.chains }
     {
         for row in &self.rows {
             gather_row(row, role, known)?;
@@ -136,7 +136,7 @@ impl Bucket {
     ) -> Result<(), OrderError>
         requires some { 1 ≤ spes }
         requires spes { spes ≤ 16 }
-        requires known { length known.now.ends.items ≡ 3 * spes + 1 }
+        requires known { known.now.chains ≡ 3 * spes + 1 }
         requires rows { AreRowsOf (3 * spes + 1) self.old.rows.items }
         ensures has { OnOk result ((r : ARole) (at : At) → bucket_has r at self.new ≡ (bucket_has r at self.old || (same_role role r && has_at known.now at))) }
         ensures rows { OnOk result (AreRowsOf (3 * spes + 1) self.new.rows.items) }

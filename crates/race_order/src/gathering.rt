@@ -24,9 +24,9 @@ use order_sets::Known;
 
 /// Adds what the set of a plain role has, if there is one.
 fn gather_some(sets: &Sets, role: Option<Role>, known: &mut Known) -> Result<(), OrderError>
-    requires { AreOf (length known.old.ends.items) sets.now }
+    requires { AreOf (known.old.chains) sets.now }
     ensures has { OnOk result ((at : At) → has_at known.new at ≡ (has_at known.old at || list_any (λ r. sets_have sets.now (Base r) at) (listed role))) }
-    ensures chains { length known.new.ends.items ≡ length known.old.ends.items }
+    ensures chains { known.new.chains ≡ known.old.chains }
 {
     if let Some(role) = role {
         sets.gather(QueueRole::Base { role }, known)?;
@@ -40,9 +40,9 @@ fn gather_lines(
     effect: &Effect,
     known: &mut Known,
 ) -> Result<(), OrderError>
-    requires { AreOf (length known.old.ends.items) sets.now }
+    requires { AreOf (known.old.chains) sets.now }
     ensures has { OnOk result ((at : At) → has_at known.new at ≡ (has_at known.old at || list_any (λ r. sets_have sets.now (Base r) at) (line_roles step effect.now))) }
-    ensures chains { length known.new.ends.items ≡ length known.old.ends.items }
+    ensures chains { known.new.chains ≡ known.old.chains }
 {
     let (first, second) = lines(step, effect);
     gather_some(sets, first, known)?;
@@ -59,9 +59,9 @@ fn gather_plain(
     known: &mut Known,
 ) -> Result<(), OrderError>
     requires fits { Fits boxes.now effect.now.note }
-    requires sets { AreOf (length known.old.ends.items) sets.now }
+    requires sets { AreOf (known.old.chains) sets.now }
     ensures has { OnOk result ((at : At) → has_at known.new at ≡ (has_at known.old at || list_any (λ r. sets_have sets.now (Base r) at) (read_roles_by boxes.now.puts.items boxes.now.takes.items (event_of step effect.now)))) }
-    ensures chains { length known.new.ends.items ≡ length known.old.ends.items }
+    ensures chains { known.new.chains ≡ known.old.chains }
 {
     gather_some(sets, step_read(step), known)?;
     gather_some(sets, note_read(boxes, step, effect.note), known)?;
@@ -71,9 +71,9 @@ fn gather_plain(
 
 /// Adds what the set of the step's own command has.
 fn gather_own(sets: &Sets, step: Step, known: &mut Known) -> Result<(), OrderError>
-    requires { AreOf (length known.old.ends.items) sets.now }
+    requires { AreOf (known.old.chains) sets.now }
     ensures has { OnOk result ((at : At) → has_at known.new at ≡ (has_at known.old at || list_any (λ r. sets_have sets.now r at) (own_waits step))) }
-    ensures chains { length known.new.ends.items ≡ length known.old.ends.items }
+    ensures chains { known.new.chains ≡ known.old.chains }
 {
     match step {
         Step::Piece { spe, cmd, .. } => sets.gather(QueueRole::Waits { spe, cmd }, known),
@@ -99,9 +99,9 @@ fn gather_bit(
     known: &mut Known,
 ) -> Result<(), OrderError>
     requires tag { tag < 32 }
-    requires sets { AreOf (length known.old.ends.items) sets.now }
+    requires sets { AreOf (known.old.chains) sets.now }
     ensures has { OnOk result ((at : At) → has_at known.new at ≡ (has_at known.old at || (has_bit groups tag && sets_have sets.now role at))) }
-    ensures chains { length known.new.ends.items ≡ length known.old.ends.items }
+    ensures chains { known.new.chains ≡ known.old.chains }
 {
     if bit(groups, tag) {
         sets.gather(role, known)?;
@@ -111,9 +111,9 @@ fn gather_bit(
 
 /// Adds what the groups' commands had done when a status was fixed.
 fn gather_fixed(sets: &Sets, spe: u8, groups: u32, known: &mut Known) -> Result<(), OrderError>
-    requires { AreOf (length known.old.ends.items) sets.now }
+    requires { AreOf (known.old.chains) sets.now }
     ensures has { OnOk result ((at : At) → has_at known.new at ≡ (has_at known.old at || list_any (λ r. sets_have sets.now r at) (map (Fixed spe) (tags_in groups)))) }
-    ensures chains { length known.new.ends.items ≡ length known.old.ends.items }
+    ensures chains { known.new.chains ≡ known.old.chains }
 {
     for tag in 0..32u8 {
         gather_bit(sets, groups, tag, QueueRole::Fixed { spe, tag }, known)?;
@@ -123,9 +123,9 @@ fn gather_fixed(sets: &Sets, spe: u8, groups: u32, known: &mut Known) -> Result<
 
 /// Adds the elements behind which the groups' lists have stalled.
 fn gather_stalled(sets: &Sets, spe: u8, groups: u32, known: &mut Known) -> Result<(), OrderError>
-    requires { AreOf (length known.old.ends.items) sets.now }
+    requires { AreOf (known.old.chains) sets.now }
     ensures has { OnOk result ((at : At) → has_at known.new at ≡ (has_at known.old at || list_any (λ r. sets_have sets.now r at) (map (Stalled spe) (tags_in groups)))) }
-    ensures chains { length known.new.ends.items ≡ length known.old.ends.items }
+    ensures chains { known.new.chains ≡ known.old.chains }
 {
     for tag in 0..32u8 {
         gather_bit(sets, groups, tag, QueueRole::Stalled { spe, tag }, known)?;
@@ -135,9 +135,9 @@ fn gather_stalled(sets: &Sets, spe: u8, groups: u32, known: &mut Known) -> Resul
 
 /// Adds what the status shows that the step reads.
 fn gather_seen(sets: &Sets, step: Step, note: Note, known: &mut Known) -> Result<(), OrderError>
-    requires { AreOf (length known.old.ends.items) sets.now }
+    requires { AreOf (known.old.chains) sets.now }
     ensures has { OnOk result ((at : At) → has_at known.new at ≡ (has_at known.old at || list_any (λ r. sets_have sets.now r at) (seen_in step note))) }
-    ensures chains { length known.new.ends.items ≡ length known.old.ends.items }
+    ensures chains { known.new.chains ≡ known.old.chains }
 {
     match step {
         Step::Exec { spe } => match note {
@@ -158,9 +158,9 @@ pub(crate) fn fill(
     effect: &Effect,
 ) -> Result<(), OrderError>
     requires fits { Fits boxes.now effect.now.note }
-    requires sets { AreOf (length known.old.ends.items) sets.now }
+    requires sets { AreOf (known.old.chains) sets.now }
     ensures has { OnOk result ((at : At) → has_at known.new at ≡ list_any (λ r. sets_have sets.now r at) (looked boxes.now step effect.now)) }
-    ensures chains { length known.new.ends.items ≡ length known.old.ends.items }
+    ensures chains { known.new.chains ≡ known.old.chains }
 {
     known.clear();
     gather_plain(sets, boxes, step, effect, known)?;

@@ -21,10 +21,10 @@ fn pass_stall(
     live: &Live,
     next: &Live,
 ) -> Result<(), OrderError>
-    requires { AreOf (length spare.old.ends.items) sets.old }
+    requires { AreOf (spare.old.chains) sets.old }
     ensures has { OnOk result (AreMoved (λ g. (not live.now.progress.stalled && next.now.progress.stalled) && g (into_stalled live.now)) (sets_have sets.old) (sets_have sets.new)) }
-    ensures chains { OnOk result (AreOf (length spare.old.ends.items) sets.new) }
-    ensures spare { length spare.new.ends.items ≡ length spare.old.ends.items }
+    ensures chains { OnOk result (AreOf (spare.old.chains) sets.new) }
+    ensures spare { spare.new.chains ≡ spare.old.chains }
 {
     if live.progress.stalled || !next.progress.stalled {
         return Ok(());
@@ -52,11 +52,11 @@ fn go_on(
 ) -> Result<bool, OrderError>
     requires room { live.old.progress.read + 1 < 2 ^ 16 }
     requires live { live.old.progress.done ≡ false }
-    requires sets { AreOf (length spare.old.ends.items) sets.old }
+    requires sets { AreOf (spare.old.chains) sets.old }
     ensures next { OnOk result (live.new ≡ moved live.old brought.now.step brought.now.effect.now.note) }
     ensures has { OnOk result (AreMoved (λ g. stall_any g brought.now.step brought.now.effect.now.note live.old) (sets_have sets.old) (sets_have sets.new)) }
-    ensures chains { OnOk result (AreOf (length spare.old.ends.items) sets.new) }
-    ensures spare { length spare.new.ends.items ≡ length spare.old.ends.items }
+    ensures chains { OnOk result (AreOf (spare.old.chains) sets.new) }
+    ensures spare { spare.new.chains ≡ spare.old.chains }
     ensures done { IfOk result (λ done. done ≡ live.new.progress.done) }
 {
     if !touches(live, &brought.step, &brought.effect.note) {
@@ -77,11 +77,11 @@ pub(crate) fn go_on_all(
 ) -> Result<bool, OrderError>
     requires room { HaveRoom lives.old }
     requires live { AreOutstanding lives.old }
-    requires sets { AreOf (length spare.old.ends.items) sets.old }
+    requires sets { AreOf (spare.old.chains) sets.old }
     ensures next { OnOk result (lives.new ≡ map (λ l. moved l brought.now.step brought.now.effect.now.note) lives.old) }
     ensures has { OnOk result (AreMoved (λ g. list_any (stall_any g brought.now.step brought.now.effect.now.note) lives.old) (sets_have sets.old) (sets_have sets.new)) }
-    ensures chains { OnOk result (AreOf (length spare.old.ends.items) sets.new) }
-    ensures spare { length spare.new.ends.items ≡ length spare.old.ends.items }
+    ensures chains { OnOk result (AreOf (spare.old.chains) sets.new) }
+    ensures spare { spare.new.chains ≡ spare.old.chains }
     ensures done { IfOk result (λ done. done ≡ list_any (λ l. l.progress.done) lives.new) }
 {
     if !may_touch(brought.step, brought.effect.note) {

@@ -19,10 +19,10 @@ pub(crate) struct Move {
 
 /// Makes the move, by way of a set to spare.
 pub(crate) fn make(sets: &mut Sets, spare: &mut Known, m: Move) -> Result<(), OrderError>
-    requires { AreOf (length spare.old.ends.items) sets.old }
+    requires { AreOf (spare.old.chains) sets.old }
     ensures has { OnOk result ((r : ARole) (at : At) → sets_have sets.new r at ≡ (sets_have sets.old r at || moves_to sets.old r at m)) }
-    ensures chains { OnOk result (AreOf (length spare.old.ends.items) sets.new) }
-    ensures spare { length spare.new.ends.items ≡ length spare.old.ends.items }
+    ensures chains { OnOk result (AreOf (spare.old.chains) sets.new) }
+    ensures spare { spare.new.chains ≡ spare.old.chains }
 {
     if !sets.holds(m.from) {
         return Ok(());

@@ -3,11 +3,12 @@
 ghost use Rattle.std.specs.Prelude.{Some, ◌≡◌, ◌+◌, ◌-◌, ◌<◌, ◌≤◌, ◌^◌, ◌↔◌, ◌++◌, ◌∷◌, [], IfOk, IsTrue, length};
 ghost use Rattle.race_order.specs.Trace.{Trace};
 ghost use Rattle.race_order.specs.Rules.{Rule, Ordered};
+ghost use Rattle.race_order.specs.StatusRules.{Rule as RuleByStatus};
 ghost use Rattle.race_order.specs.Stamps.{event_of};
 ghost use Rattle.race_order.specs.Orderly.{MayCome};
 ghost use Rattle.race_order.specs.Premises.{QueueMay};
 ghost use Rattle.race_order.specs.Standing.{StandsFor};
-ghost use Rattle.race_order.specs.OrderedRuns.{StandsForRun, IsOrdered};
+ghost use Rattle.race_order.specs.OrderedRuns.{OnTrace, StandsForRun};
 ghost use Rattle.race_order.specs.RunLaws.{TracesTell, TracesAreOrderly};
 ghost use Rattle.cell_machine.specs.Run.{Ran};
 ghost use Rattle.cell_machine.specs.Effects.{effect_in};
@@ -95,7 +96,7 @@ impl Orderer {
         ghost trace: { Trace }
         requires stands { StandsFor self.now trace }
         requires below { i + 1 < length trace }
-        ensures { IsTrue result ↔ Ordered Rule trace i (length trace - 1) }
+        ensures { IsTrue result ↔ Ordered RuleByStatus trace i (length trace - 1) }
     {
         self.last.has(self.names[i as usize])
     }
@@ -132,7 +133,7 @@ impl Orderer {
         ghost m: { Ran }
         requires stands { StandsForRun self.now m }
         requires below { i + 1 < length m.steps }
-        ensures ordered { IsTrue result ↔ IsOrdered m i (length m.steps - 1) }
+        ensures ordered { OnTrace m (λ trace. IsTrue result ↔ Ordered Rule trace i (length m.steps - 1)) }
     {
         self.is_before(i)
     }

@@ -67,10 +67,10 @@ fn pass_when(
     issued: &Issued,
     class: Class,
 ) -> Result<(), OrderError>
-    requires { AreOf (length spare.old.ends.items) sets.old }
+    requires { AreOf (spare.old.chains) sets.old }
     ensures has { OnOk result (AreMoved (λ g. list_any g (map (from_class issued.now.spe issued.now.cmd) (when holds class))) (sets_have sets.old) (sets_have sets.new)) }
-    ensures chains { OnOk result (AreOf (length spare.old.ends.items) sets.new) }
-    ensures spare { length spare.new.ends.items ≡ length spare.old.ends.items }
+    ensures chains { OnOk result (AreOf (spare.old.chains) sets.new) }
+    ensures spare { spare.new.chains ≡ spare.old.chains }
 {
     if !holds {
         return Ok(());
@@ -95,10 +95,10 @@ pub(crate) fn pass_issued(
     spare: &mut Known,
     issued: &Issued,
 ) -> Result<(), OrderError>
-    requires { AreOf (length spare.old.ends.items) sets.old }
+    requires { AreOf (spare.old.chains) sets.old }
     ensures has { OnOk result (AreMoved (λ g. list_any g (issue_list (Some issued.now))) (sets_have sets.old) (sets_have sets.new)) }
-    ensures chains { OnOk result (AreOf (length spare.old.ends.items) sets.new) }
-    ensures spare { length spare.new.ends.items ≡ length spare.old.ends.items }
+    ensures chains { OnOk result (AreOf (spare.old.chains) sets.new) }
+    ensures spare { spare.new.chains ≡ spare.old.chains }
 {
     let command = issued.command;
     let tag = command.tag;
@@ -123,9 +123,9 @@ fn put_when(
     class: Class,
     known: &Known,
 ) -> Result<(), OrderError>
-    requires { AreOf (length known.now.ends.items) sets.old }
+    requires { AreOf (known.now.chains) sets.old }
     ensures has { OnOk result ((r : ARole) (at : At) → sets_have sets.new r at ≡ (sets_have sets.old r at || list_any (λ x. same_role (Complete spe x) r && has_at known.now at) (when holds class))) }
-    ensures chains { OnOk result (AreOf (length known.now.ends.items) sets.new) }
+    ensures chains { OnOk result (AreOf (known.now.chains) sets.new) }
 {
     if holds {
         sets.put(QueueRole::Complete { spe, class }, known)?;
@@ -135,9 +135,9 @@ fn put_when(
 
 /// Adds the known steps to the sets of the command's classes.
 fn put_classes(sets: &mut Sets, spe: u8, command: &Command, known: &Known) -> Result<(), OrderError>
-    requires { AreOf (length known.now.ends.items) sets.old }
+    requires { AreOf (known.now.chains) sets.old }
     ensures has { OnOk result ((r : ARole) (at : At) → sets_have sets.new r at ≡ (sets_have sets.old r at || list_any (λ x. same_role (Complete spe x) r && has_at known.now at) (classes_of command.now))) }
-    ensures chains { OnOk result (AreOf (length known.now.ends.items) sets.new) }
+    ensures chains { OnOk result (AreOf (known.now.chains) sets.new) }
 {
     let tag = command.tag;
     put_when(sets, true, spe, Class::All, known)?;
@@ -155,9 +155,9 @@ fn put_classes(sets: &mut Sets, spe: u8, command: &Command, known: &Known) -> Re
 
 /// Adds the known steps to the set of a command that waits for the first one.
 fn put_ahead(sets: &mut Sets, c: &Live, d: &Live, known: &Known) -> Result<(), OrderError>
-    requires { AreOf (length known.now.ends.items) sets.old }
+    requires { AreOf (known.now.chains) sets.old }
     ensures has { OnOk result ((r : ARole) (at : At) → sets_have sets.new r at ≡ (sets_have sets.old r at || (is_ahead c.now d.now && (same_role (Waits d.now.spe d.now.cmd) r && has_at known.now at)))) }
-    ensures chains { OnOk result (AreOf (length known.now.ends.items) sets.new) }
+    ensures chains { OnOk result (AreOf (known.now.chains) sets.new) }
 {
     if !ahead(c, d) {
         return Ok(());
@@ -173,9 +173,9 @@ fn put_ahead(sets: &mut Sets, c: &Live, d: &Live, known: &Known) -> Result<(), O
 }
 
 fn put_waits(sets: &mut Sets, c: &Live, next: &[Live], known: &Known) -> Result<(), OrderError>
-    requires { AreOf (length known.now.ends.items) sets.old }
+    requires { AreOf (known.now.chains) sets.old }
     ensures has { OnOk result ((r : ARole) (at : At) → sets_have sets.new r at ≡ (sets_have sets.old r at || list_any (λ d. is_ahead c.now d && (same_role (Waits d.spe d.cmd) r && has_at known.now at)) next.now)) }
-    ensures chains { OnOk result (AreOf (length known.now.ends.items) sets.new) }
+    ensures chains { OnOk result (AreOf (known.now.chains) sets.new) }
 {
     for d in next {
         put_ahead(sets, c, d, known)?;
@@ -190,10 +190,10 @@ fn pass_complete(
     c: &Live,
     next: &[Live],
 ) -> Result<(), OrderError>
-    requires { AreOf (length spare.old.ends.items) sets.old }
+    requires { AreOf (spare.old.chains) sets.old }
     ensures has { OnOk result (AreMoved (λ g. done_any g next.now c.now) (sets_have sets.old) (sets_have sets.new)) }
-    ensures chains { OnOk result (AreOf (length spare.old.ends.items) sets.new) }
-    ensures spare { length spare.new.ends.items ≡ length spare.old.ends.items }
+    ensures chains { OnOk result (AreOf (spare.old.chains) sets.new) }
+    ensures spare { spare.new.chains ≡ spare.old.chains }
 {
     if !c.progress.done {
         return Ok(());
@@ -219,10 +219,10 @@ pub(crate) fn pass_done(
     done: bool,
 ) -> Result<(), OrderError>
     requires done { done ≡ list_any (λ l. l.progress.done) next.now }
-    requires sets { AreOf (length spare.old.ends.items) sets.old }
+    requires sets { AreOf (spare.old.chains) sets.old }
     ensures has { OnOk result (AreMoved (λ g. list_any (done_any g next.now) next.now) (sets_have sets.old) (sets_have sets.new)) }
-    ensures chains { OnOk result (AreOf (length spare.old.ends.items) sets.new) }
-    ensures spare { length spare.new.ends.items ≡ length spare.old.ends.items }
+    ensures chains { OnOk result (AreOf (spare.old.chains) sets.new) }
+    ensures spare { spare.new.chains ≡ spare.old.chains }
 {
     if !done {
         return Ok(());
@@ -235,10 +235,10 @@ pub(crate) fn pass_done(
 
 /// Where a status of the processor is fixed: what is complete of the tag goes into its set.
 fn pass_tag(sets: &mut Sets, spare: &mut Known, spe: u8, tag: u8) -> Result<(), OrderError>
-    requires { AreOf (length spare.old.ends.items) sets.old }
+    requires { AreOf (spare.old.chains) sets.old }
     ensures has { OnOk result (AreMoved (λ g. g (fix_move spe tag)) (sets_have sets.old) (sets_have sets.new)) }
-    ensures chains { OnOk result (AreOf (length spare.old.ends.items) sets.new) }
-    ensures spare { length spare.new.ends.items ≡ length spare.old.ends.items }
+    ensures chains { OnOk result (AreOf (spare.old.chains) sets.new) }
+    ensures spare { spare.new.chains ≡ spare.old.chains }
 {
     let m = Move {
         from: QueueRole::Complete {
@@ -252,10 +252,10 @@ fn pass_tag(sets: &mut Sets, spare: &mut Known, spe: u8, tag: u8) -> Result<(), 
 }
 
 fn pass_tags(sets: &mut Sets, spare: &mut Known, spe: u8) -> Result<(), OrderError>
-    requires { AreOf (length spare.old.ends.items) sets.old }
+    requires { AreOf (spare.old.chains) sets.old }
     ensures has { OnOk result (AreMoved (λ g. list_any g (map (fix_move spe) (below 32))) (sets_have sets.old) (sets_have sets.new)) }
-    ensures chains { OnOk result (AreOf (length spare.old.ends.items) sets.new) }
-    ensures spare { length spare.new.ends.items ≡ length spare.old.ends.items }
+    ensures chains { OnOk result (AreOf (spare.old.chains) sets.new) }
+    ensures spare { spare.new.chains ≡ spare.old.chains }
 {
     for tag in 0..32u8 {
         pass_tag(sets, spare, spe, tag)?;
@@ -270,10 +270,10 @@ pub(crate) fn pass_fixed(
     step: Step,
     fixed: bool,
 ) -> Result<(), OrderError>
-    requires { AreOf (length spare.old.ends.items) sets.old }
+    requires { AreOf (spare.old.chains) sets.old }
     ensures has { OnOk result (AreMoved (λ g. list_any g (fix_list fixed (spe_in step))) (sets_have sets.old) (sets_have sets.new)) }
-    ensures chains { OnOk result (AreOf (length spare.old.ends.items) sets.new) }
-    ensures spare { length spare.new.ends.items ≡ length spare.old.ends.items }
+    ensures chains { OnOk result (AreOf (spare.old.chains) sets.new) }
+    ensures spare { spare.new.chains ≡ spare.old.chains }
 {
     if !fixed {
         return Ok(());

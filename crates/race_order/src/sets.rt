@@ -62,9 +62,9 @@ impl Sets {
 
     /// Adds to the known steps what the role's set has.
     pub(crate) fn gather(&self, role: QueueRole, known: &mut Known) -> Result<(), OrderError>
-        requires { AreOf (length known.old.ends.items) self.now }
+        requires { AreOf (known.old.chains) self.now }
         ensures has { OnOk result ((at : At) → has_at known.new at ≡ (has_at known.old at || sets_have self.now role at)) }
-        ensures chains { length known.new.ends.items ≡ length known.old.ends.items }
+        ensures chains { known.new.chains ≡ known.old.chains }
     {
         let k = number(role) as usize;
         if k < self.buckets.len() {
@@ -88,9 +88,9 @@ impl Sets {
 
     /// Adds the known steps to the role's set.
     pub(crate) fn put(&mut self, role: QueueRole, known: &Known) -> Result<(), OrderError>
-        requires { AreOf (length known.now.ends.items) self.old }
+        requires { AreOf (known.now.chains) self.old }
         ensures has { OnOk result ((r : ARole) (at : At) → sets_have self.new r at ≡ (sets_have self.old r at || (same_role role r && has_at known.now at))) }
-        ensures chains { OnOk result (AreOf (length known.now.ends.items) self.new) }
+        ensures chains { OnOk result (AreOf (known.now.chains) self.new) }
     {
         let k = self.bucket(role)?;
         let (alloc, spes) = (self.alloc, self.spes);

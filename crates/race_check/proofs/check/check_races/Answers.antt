@@ -4,10 +4,10 @@ use Rattle.std.proofs.lemmas.Option.{slice_get-get_or, slice_get_within}
 use Rattle.cell_base.specs.declared.steps.Step.TheVariants.{Exec}
 use Rattle.cell_machine.specs.Opening.{Opening}
 use Rattle.cell_machine.specs.Run.{Ran}
-use Rattle.race_order.specs.OrderedRuns.{IsOrdered}
-use Rattle.race_check.specs.Races.{accesses_in, RaceBy}
+use Rattle.race_check.specs.Races.{RaceBy}
 use Rattle.race_check.specs.Shows.{HasRace, Shows, StepTells}
-use Rattle.race_check.proofs.Accepted.{every-reordering-agrees, none-of-all}
+use Rattle.race_check.specs.Walks.{IsOrdered, accesses_in}
+use Rattle.race_check.proofs.Accepted.{accepted, every-reordering-agrees, none-of-all, raced}
 use Rattle.race_check.proofs.Checks.{least_made, none_made, shows_made, shows_none, shows_whole}
 use Rattle.race_check.proofs.Prefixes.{accesses_in-first, first_of, made-access, made-first, may-make, run-told, Made}
 use Rattle.race_check.proofs.check.check_races.Goals as goal
@@ -72,9 +72,11 @@ pub returns-then-branch-clause-verdict : goal.returns-then-branch-clause-verdict
 returns-then-branch-clause-verdict c =
     let v = (goal.at.returns-then-branch-clause-verdict c).In_ok-visit in
     let same = c.as_slice.ensures.value ∙ kept v in
-    least_made c.args.m.now (run-told c.args.m.now c.steps-steps.ensures.run) c.loop-j.j c.advance.new.self.machine (first v) c.first_race.result c.loop-j.invariant.none
+    let told = run-told c.args.m.now c.steps-steps.ensures.run in
+    raced c.args.m.now told c.first_race.result c.loop-j.j
+    (least_made c.args.m.now told c.loop-j.j c.advance.new.self.machine (first v) c.first_race.result c.loop-j.invariant.none
     (subst (λ accesses. RaceBy (IsOrdered c.advance.new.self.machine) accesses c.first_race.result c.loop-j.j) same c.first_race.ensures.race)
-    (subst (λ accesses. (k : ℕ) → k < c.first_race.result → RaceBy (IsOrdered c.advance.new.self.machine) accesses k c.loop-j.j → ⊥) same c.first_race.ensures.first)
+    (subst (λ accesses. (k : ℕ) → k < c.first_race.result → RaceBy (IsOrdered c.advance.new.self.machine) accesses k c.loop-j.j → ⊥) same c.first_race.ensures.first))
 
 pub loop-j-preserved : goal.loop-j-preserved
 loop-j-preserved c =
@@ -91,7 +93,8 @@ loop-j-preserved c =
 
 pub returns-clause-verdict : goal.returns-clause-verdict
 returns-clause-verdict c =
-    none-of-all c.args.m.now (run-told c.args.m.now c.steps-steps.ensures.run) c.loop-j.j (subst (λ steps. length steps ≤ c.loop-j.j) c.steps-steps.ensures.steps c.loop-j-test.false) c.loop-j.invariant.none
+    let told = run-told c.args.m.now c.steps-steps.ensures.run in
+    accepted c.args.m.now told (none-of-all c.args.m.now told c.loop-j.j (subst (λ steps. length steps ≤ c.loop-j.j) c.steps-steps.ensures.steps c.loop-j-test.false) c.loop-j.invariant.none)
 
 pub returns-clause-agree : goal.returns-clause-agree
 returns-clause-agree c accepted =

@@ -1,8 +1,6 @@
 use Rattle.std.proofs.Common.{◌≡◌, ℕ, ◌<◌}
-use Rattle.race_order.specs.OrderedRuns.{IsOrdered}
-use Rattle.race_check.specs.Races.{accesses_in, Race}
 use Rattle.race_check.specs.Shows.{Shows}
-use Rattle.race_check.specs.Walks.{Stands}
+use Rattle.race_check.specs.Walks.{IsOrdered, accesses_in, RaceIn, Stands}
 use Rattle.race_check.proofs.Prefixes.{first_of}
 use Rattle.race_check.proofs.check.check_races.Given as goal
 
@@ -17,5 +15,5 @@ invariant-loop-j l =
       stands : Stands l.walk;
       accesses : l.accesses.items ≡ accesses_in l.walk.machine;
       shows : Shows (IsOrdered l.m) (accesses_in l.m) l.shadow.lines.items l.j;
-      none : (i k : ℕ) → k < l.j → Race l.m i k → ⊥;
+      none : (i k : ℕ) → k < l.j → RaceIn l.m i k → ⊥;
     }

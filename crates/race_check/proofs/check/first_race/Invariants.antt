@@ -1,5 +1,5 @@
 use Rattle.std.proofs.Common.{ℕ, ◌<◌}
-use Rattle.race_order.specs.OrderedRuns.{IsOrdered}
+use Rattle.race_check.specs.Walks.{IsOrdered}
 use Rattle.race_check.specs.Races.{RaceBy}
 use Rattle.race_check.proofs.check.first_race.Given as goal
 

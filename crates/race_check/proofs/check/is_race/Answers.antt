@@ -1,5 +1,5 @@
 use Rattle.std.proofs.lemmas.Bool.{both_ways}
-use Rattle.race_order.specs.OrderedRuns.{IsOrdered}
+use Rattle.race_check.specs.Walks.{IsOrdered}
 use Rattle.race_check.proofs.Checks.{race_if, no_conflict}
 use Rattle.race_check.proofs.check.is_race.Goals as goal
 

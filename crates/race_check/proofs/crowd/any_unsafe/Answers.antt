@@ -1,4 +1,4 @@
-use Rattle.race_order.specs.OrderedRuns.{IsOrdered}
+use Rattle.race_check.specs.Walks.{IsOrdered}
 use Rattle.race_check.proofs.CrowdLaws.{safe_all}
 use Rattle.race_check.proofs.crowd.any_unsafe.Goals as goal
 

@@ -1,6 +1,6 @@
 use Rattle.std.proofs.Common.{take}
 use Rattle.std.specs.Prelude.{All}
-use Rattle.race_order.specs.OrderedRuns.{IsOrdered}
+use Rattle.race_check.specs.Walks.{IsOrdered}
 use Rattle.race_check.specs.Crowds.{IsSafe}
 use Rattle.race_check.proofs.crowd.any_unsafe.Given as goal
 

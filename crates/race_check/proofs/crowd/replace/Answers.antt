@@ -1,6 +1,6 @@
 use Rattle.std.proofs.Common.{◌<◌, get_or, length, set, subst, arith}
 use Rattle.std.proofs.lemmas.List.{get_or_default}
-use Rattle.race_order.specs.OrderedRuns.{IsOrdered}
+use Rattle.race_check.specs.Walks.{IsOrdered}
 use Rattle.race_check.specs.Crowds.{IsReplaced}
 use Rattle.race_check.proofs.CrowdLaws.{replaced}
 use Rattle.race_check.proofs.crowd.replace.Goals as goal

@@ -1,5 +1,5 @@
 use Rattle.std.proofs.Common.{subst}
-use Rattle.race_order.specs.OrderedRuns.{IsOrdered}
+use Rattle.race_check.specs.Walks.{IsOrdered}
 use Rattle.race_check.specs.Crowds.{CrowdTells}
 use Rattle.race_check.proofs.CrowdLaws.{clash_here, clear_all, clear_more, clear_none}
 use Rattle.race_check.proofs.crowds.any_clashes.Goals as goal

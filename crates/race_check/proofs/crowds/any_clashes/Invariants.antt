@@ -1,5 +1,5 @@
 use Rattle.std.proofs.Common.{take, false}
-use Rattle.race_order.specs.OrderedRuns.{IsOrdered}
+use Rattle.race_check.specs.Walks.{IsOrdered}
 use Rattle.race_check.specs.Crowds.{Tells}
 use Rattle.race_check.proofs.crowds.any_clashes.Given as goal
 

@@ -1,5 +1,5 @@
 use Rattle.std.proofs.Common.{◌≡◌, ◌<◌, [], length, get_or, arith, ap, sym, subst, ◌∙◌}
-use Rattle.race_order.specs.OrderedRuns.{IsOrdered}
+use Rattle.race_check.specs.Walks.{IsOrdered}
 use Rattle.std.proofs.lemmas.List.{get_or_default}
 use Rattle.race_check.specs.Entries.{HasSameBytes}
 use Rattle.race_check.specs.Crowds.{IsJoined, IsPut}

@@ -1,5 +1,5 @@
 use Rattle.std.proofs.Common.{subst, false}
-use Rattle.race_order.specs.OrderedRuns.{IsOrdered}
+use Rattle.race_check.specs.Walks.{IsOrdered}
 use Rattle.race_check.specs.Shows.{SpanTells}
 use Rattle.race_check.proofs.Steps.{fetch_races, reads_races, step_tells}
 use Rattle.race_check.proofs.shadow.visit_access.Goals as goal

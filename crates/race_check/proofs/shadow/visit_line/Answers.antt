@@ -1,5 +1,5 @@
 use Rattle.std.proofs.lemmas.Option.{slice_get-get_or}
-use Rattle.race_order.specs.OrderedRuns.{IsOrdered}
+use Rattle.race_check.specs.Walks.{IsOrdered}
 use Rattle.race_check.proofs.Prefixes.{is_ordered-trans}
 use Rattle.race_check.proofs.Visits.{entry_tells}
 use Rattle.race_check.proofs.shadow.visit_line.Goals as goal

@@ -1,5 +1,5 @@
 use Rattle.std.proofs.Common.{◌<◌, ◌+◌, subst, arith}
-use Rattle.race_order.specs.OrderedRuns.{IsOrdered}
+use Rattle.race_check.specs.Walks.{IsOrdered}
 use Rattle.race_check.specs.Shows.{EntryTells}
 use Rattle.race_check.proofs.Spans.{all_below, below_end, found_more, takes_more}
 use Rattle.race_check.proofs.shadow.visit_span.Goals as goal

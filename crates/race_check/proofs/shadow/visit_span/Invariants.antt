@@ -1,4 +1,4 @@
-use Rattle.race_order.specs.OrderedRuns.{IsOrdered}
+use Rattle.race_check.specs.Walks.{IsOrdered}
 use Rattle.race_check.proofs.Spans.{TakesBelow}
 use Rattle.race_check.proofs.shadow.visit_span.Given as goal
 

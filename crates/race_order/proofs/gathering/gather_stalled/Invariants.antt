@@ -10,5 +10,5 @@ use Rattle.race_order.proofs.gathering.gather_stalled.Given as goal
 abbrev pub invariant-loop-tag : goal.invariant-loop-tag
 invariant-loop-tag l = record {
   has : (at : At) → has_at l.known at ≡ (has_at l.fn.known at || list_any (λ r. sets_have l.sets r at) (map (Stalled l.spe) (filter (has_bit l.groups) (below l.tag))));
-  chains : length l.known.ends.items ≡ length l.fn.known.ends.items;
+  chains : l.known.chains ≡ l.fn.known.chains;
 }

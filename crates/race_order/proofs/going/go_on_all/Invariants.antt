@@ -9,7 +9,7 @@ abbrev pub invariant-loop-i : goal.invariant-loop-i
 invariant-loop-i l = record {
   next : l.lives ≡ map (λ x. moved x l.brought.step l.brought.effect.now.note) (take l.i l.fn.lives) ++ drop l.i l.fn.lives;
   has : AreMoved (λ g. list_any (stall_any g l.brought.step l.brought.effect.now.note) (take l.i l.fn.lives)) (sets_have l.fn.sets) (sets_have l.sets);
-  chains : AreOf (length l.spare.ends.items) l.sets;
-  spare : length l.spare.ends.items ≡ length l.fn.spare.ends.items;
+  chains : AreOf (l.spare.chains) l.sets;
+  spare : l.spare.chains ≡ l.fn.spare.chains;
   done : l.done ≡ list_any (λ x. x.progress.done) (map (λ x. moved x l.brought.step l.brought.effect.now.note) (take l.i l.fn.lives));
 }

@@ -7,6 +7,6 @@ use Rattle.race_order.proofs.passes.pass_done.Given as goal
 abbrev pub invariant-loop-c : goal.invariant-loop-c
 invariant-loop-c l = record {
   has : AreMoved (λ g. list_any (done_any g l.next) (take l.c-index l.next)) (sets_have l.fn.sets) (sets_have l.sets);
-  chains : AreOf (length l.spare.ends.items) l.sets;
-  spare : length l.spare.ends.items ≡ length l.fn.spare.ends.items;
+  chains : AreOf (l.spare.chains) l.sets;
+  spare : l.spare.chains ≡ l.fn.spare.chains;
 }

@@ -8,6 +8,6 @@ use Rattle.race_order.proofs.passes.pass_tags.Given as goal
 abbrev pub invariant-loop-tag : goal.invariant-loop-tag
 invariant-loop-tag l = record {
   has : AreMoved (λ g. list_any g (map (fix_move l.spe) (below l.tag))) (sets_have l.fn.sets) (sets_have l.sets);
-  chains : AreOf (length l.spare.ends.items) l.sets;
-  spare : length l.spare.ends.items ≡ length l.fn.spare.ends.items;
+  chains : AreOf (l.spare.chains) l.sets;
+  spare : l.spare.chains ≡ l.fn.spare.chains;
 }

@@ -11,5 +11,5 @@ use Rattle.race_order.proofs.passes.put_waits.Given as goal
 abbrev pub invariant-loop-d : goal.invariant-loop-d
 invariant-loop-d l = record {
   has : (r : QueueRole) (at : At) → sets_have l.sets r at ≡ (sets_have l.fn.sets r at || list_any (λ d. is_ahead l.c d && (same_role (Waits d.spe d.cmd) r && has_at l.known at)) (take l.d-index l.next));
-  chains : AreOf (length l.known.ends.items) l.sets;
+  chains : AreOf (l.known.chains) l.sets;
 }

@@ -1,5 +1,5 @@
 use Rattle.std.proofs.Common.{◌≡◌, ◌∙◌, ◌++◌, ◌∷◌, [], ap, subst, refl}
-use Rattle.race_order.specs.OrderedRuns.{IsOrdered}
+use Rattle.race_check.specs.Walks.{IsOrdered}
 use Rattle.race_check.specs.Crowds.{Replaces}
 use Rattle.race_check.proofs.CrowdLaws.{taken_behind, taken_first, taken_other}
 use Rattle.race_check.proofs.crowd.Crowd.take.Goals as goal

@@ -1,5 +1,5 @@
 use Rattle.std.proofs.Common.{refl, subst, false}
-use Rattle.race_order.specs.OrderedRuns.{IsOrdered}
+use Rattle.race_check.specs.Walks.{IsOrdered}
 use Rattle.race_check.specs.declared.line.Line.{Line}
 use Rattle.race_check.specs.Crowds.{HasClash, Tells}
 use Rattle.race_check.proofs.LineVisits.{clash_with_writer, read}

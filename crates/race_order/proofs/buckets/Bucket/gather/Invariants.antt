@@ -8,5 +8,5 @@ use Rattle.race_order.proofs.buckets.Bucket.gather.Given as goal
 abbrev pub invariant-loop-row : goal.invariant-loop-row
 invariant-loop-row l = record {
   has : (at : At) → has_at l.known at ≡ (has_at l.fn.known at || list_any (row_has l.role at) (take l.row-index l.self.rows.items));
-  chains : length l.known.ends.items ≡ length l.fn.known.ends.items;
+  chains : l.known.chains ≡ l.fn.known.chains;
 }

@@ -1,5 +1,5 @@
 use Rattle.std.proofs.Common.{◌∙◌}
-use Rattle.race_order.proofs.OrderedRuns.{both, run-long, next-may, stands-next}
+use Rattle.race_order.proofs.OrderedRuns.{both, run-long, run-stands, next-may, stands-next}
 use Rattle.race_order.proofs.Runs.{keeps-status, is-orderly}
 use Rattle.race_order.proofs.orderer.Orderer.advance.Goals as goal
 
@@ -7,7 +7,7 @@ pub take-requires : goal.take-requires
 take-requires g c =
     let st = c.requires.0 in
     let next = next-may c.args.self.now g.m c.args.step c.args.effect st c.requires.1 in
-    (st.stands, (next.may, (next.queue, next.room)))
+    (run-stands c.args.self.now g.m st, (next.may, (next.queue, next.room)))
 
 pub returns-clause-stands : goal.returns-clause-stands
 returns-clause-stands g c =

@@ -1,4 +1,4 @@
-use Rattle.race_order.specs.OrderedRuns.{trace_in}
+use Rattle.race_order.specs.Told.{trace_in}
 use Rattle.race_order.proofs.orderer.Orderer.advance.Given as goal
 
 abbrev pub ghost-take : goal.ghost-take

@@ -1,4 +1,4 @@
-use Rattle.race_order.specs.OrderedRuns.{trace_in}
+use Rattle.race_order.specs.Told.{trace_in}
 use Rattle.race_order.proofs.orderer.Orderer.before.Given as goal
 
 abbrev pub ghost-is_before : goal.ghost-is_before

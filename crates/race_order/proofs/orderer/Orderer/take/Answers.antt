@@ -49,16 +49,13 @@ take_in-requires-clause-within g c =
 pub take_in-requires-clause-brought : goal.take_in-requires-clause-brought
 take_in-requires-clause-brought g c =
     let st : StandsFor c.args.self.now g.trace = c.requires.0 in
-    let place : c.len-place.result ≡ length g.trace = c.len-place.ensures ∙ search rules in
-    let at : c.name-at.result.place ≡ length g.trace = ap (λ (x : At). x.place) c.name-at.ensures ∙ place in
-    let room : length g.trace + 1 < 2 ^ 32 = c.requires.1.1.1 in
     record {
       some = st.some;
       spes = st.spes;
       known = c.in_ok-fill.ensures.chains ∙ st.last_chains;
       fact =
           subst (FitsChains (3 * c.args.self.now.spes + 1)) (sym c.fact.ensures)
-          (fact_fits c.args.self.now.spes c.name-at.result c.args.step c.requires.1.0.within (omega arith));
+          (fact_fits c.args.self.now.spes c.name-at.result c.args.step c.requires.1.0.within);
     }
 
 pub returns-clause-stands : goal.returns-clause-stands
