@@ -1,17 +1,29 @@
 -- What is promised follows from the cause of the answer.
-use Rattle.std.proofs.Common.{◌≡◌, ◌≤◌, ◌↔◌, refl, subst, le_refl}
+use Rattle.std.proofs.Common.{◌≡◌, ◌≤◌, ◌↔◌, ℕ, List, refl, subst, le_refl}
 use Rattle.std.specs.Prelude.{◌≢◌}
 use Rattle.std.specs.Option.{ForSome}
+use Rattle.cell_io.specs.Files.{File}
 use Rattle.cell_io.specs.Store.{Ledger, NoneFell}
 use Rattle.cell_cli.specs.declared.fault.Fault.TheVariants.{Usage}
 use Rattle.cell_cli.specs.declared.fault.Status.{Status}
 use Rattle.cell_cli.specs.declared.fault.Status.TheVariants.{Refused}
 use Rattle.cell_cli.specs.Answer.{Sinks, Answers, IsQuiet, ReadFails}
-use Rattle.cell_cli.specs.Words.{Spoken, no_form, task_of, FailsIn}
-use Rattle.cell_cli.specs.Promises.{Stores, Promises}
+use Rattle.cell_cli.specs.Words.{Spoken, gen, no_form, task_of, FailsIn}
+use Rattle.cell_cli.specs.Promises.{Stores, IsAnswer, Promises}
 use Rattle.cell_cli.proofs.Complete.{exact, complete}
 use Rattle.cell_cli.proofs.Judged.{judges}
 use Rattle.cell_cli.proofs.ReadBack.{read_back}
+use Rattle.cell_cli.proofs.Settled.{settles_one}
+
+-- all that an answer is with files follows from its cause alone
+pub of_cause : (files : List File) (spoken : Spoken) (old new : Ledger) (before after : Sinks) (status : Status) → Answers files (task_of spoken) old new before after status → IsAnswer files spoken old new before after status
+of_cause files spoken old new before after status a = record {
+  answer = a;
+  exactly = exact files (task_of spoken) old new before after status a;
+  complete = complete files (task_of spoken) old new before after status a;
+  judges = judges files spoken old new before after status a;
+  read_back = read_back files spoken old new before after status a;
+}
 
 -- the words are a form, and no answer says otherwise
 pub no_usage : (said : Spoken) (status : Status) → said ≢ no_form → status ≢ Refused Usage → (status ≡ Refused Usage) ↔ (said ≡ no_form)
@@ -21,28 +33,38 @@ none_fell : (l : Ledger) → NoneFell l l
 none_fell l = record { faults = le_refl l.faults; short = le_refl l.short }
 
 module _ (said spoken : Spoken) (is_said : said ≡ spoken) (store store_after : Stores) (sink sink_after : Sinks) (status : Status) where
-  pub promised : store_after.files ≡ store.files → NoneFell store.ledger store_after.ledger → sink.faults ≤ sink_after.faults
+  -- files are read, so the answer is one with those that are told
+  pub promised : ((n : ℕ) → said ≢ gen n) → store_after.files ≡ store.files → NoneFell store.ledger store_after.ledger → sink.faults ≤ sink_after.faults
       → ForSome store.files (λ told. Answers told (task_of said) store.ledger store_after.ledger sink sink_after status)
       → ReadFails (FailsIn said) store.ledger store_after.ledger status → IsQuiet sink sink_after status → ((status ≡ Refused Usage) ↔ (said ≡ no_form))
       → Promises spoken store store_after sink sink_after status
-  promised same store_count sink_count answer read_fault quiet usage = subst (λ s. Promises s store store_after sink sink_after status) is_said (record {
+  promised no_number same store_count sink_count answer read_fault quiet usage = subst (λ s. Promises s store store_after sink sink_after status) is_said (record {
     same = same;
     store_count = store_count;
     sink_count = sink_count;
-    answer = answer;
-    exactly = λ told is. exact told (task_of said) store.ledger store_after.ledger sink sink_after status (answer told is);
-    complete = λ told is. complete told (task_of said) store.ledger store_after.ledger sink sink_after status (answer told is);
-    judges = λ told is. judges told said store.ledger store_after.ledger sink sink_after status (answer told is);
-    read_back = λ told is. read_back told said store.ledger store_after.ledger sink sink_after status (answer told is);
+    settles = λ words files. settles_one files words;
+    told = λ files is. of_cause files said store.ledger store_after.ledger sink sink_after status (answer files is);
+    number = λ n is. absurd (no_number n is);
     read_fault = read_fault;
     quiet = quiet;
     usage = usage;
   })
 
--- the same where no file is read
+-- no file is read, so the answer is one with any
 pub promised_still : (said spoken : Spoken) (is_said : said ≡ spoken) (store : Stores) (sink sink_after : Sinks) (status : Status) → sink.faults ≤ sink_after.faults
-    → ForSome store.files (λ told. Answers told (task_of said) store.ledger store.ledger sink sink_after status)
+    → ((files : List File) → Answers files (task_of said) store.ledger store.ledger sink sink_after status)
     → ReadFails (FailsIn said) store.ledger store.ledger status → IsQuiet sink sink_after status → ((status ≡ Refused Usage) ↔ (said ≡ no_form))
     → Promises spoken store store sink sink_after status
 promised_still said spoken is_said store sink sink_after status sink_count answer read_fault quiet usage =
-    promised said spoken is_said store store sink sink_after status refl (none_fell store.ledger) sink_count answer read_fault quiet usage
+    let any : (files : List File) → IsAnswer files said store.ledger store.ledger sink sink_after status = λ files. of_cause files said store.ledger store.ledger sink sink_after status (answer files) in
+    subst (λ s. Promises s store store sink sink_after status) is_said (record {
+      same = refl;
+      store_count = none_fell store.ledger;
+      sink_count = sink_count;
+      settles = λ words files. settles_one files words;
+      told = λ files is. any files;
+      number = λ n is files. any files;
+      read_fault = read_fault;
+      quiet = quiet;
+      usage = usage;
+    })

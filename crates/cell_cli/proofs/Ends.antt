@@ -1,6 +1,6 @@
--- The end word is decided by the steps that can come to be made.
-use Rattle.std.proofs.Common.{◌≡◌, ℕ, zero, suc, ◌+◌, ◌<◌, ◌≤◌, Bool, true, false, not, ◌&&◌, List, [], ◌∷◌, ◌++◌, length, map, Option, Some, None, refl, sym, ap, subst, arith}
-use Rattle.std.specs.Prelude.{nat_lt, is_some, is_none, IsSome, slice_get, ◌≢◌, ◌==◌}
+-- The end word is decided by the steps that can come to be made: each state within its budget has one.
+use Rattle.std.proofs.Common.{◌≡◌, ℕ, zero, suc, ◌+◌, ◌<◌, ◌≤◌, Bool, true, false, not, ◌&&◌, List, [], ◌∷◌, ◌++◌, length, map, Option, Some, None, refl, sym, ap, subst, cond, arith}
+use Rattle.std.specs.Prelude.{if◌then◌else◌, nat_lt, is_some, is_none, IsSome, slice_get, ◌≢◌, ◌==◌}
 use Rattle.std.specs.Option.{option_map_or}
 use Rattle.std.specs.List.{flat_map, list_all, range_with_len}
 use Rattle.std.proofs.lemmas.Bool.Decides.{nat_tests}
@@ -13,13 +13,35 @@ use Rattle.cell_machine.specs.State.{State}
 use Rattle.cell_machine.specs.Moves.{present}
 use Rattle.cell_machine.specs.Next.{next}
 use Rattle.cell_machine.specs.Transfers.{may_piece, may_elem, may_retire, has_part, has_element, is_left}
-use Rattle.cell_machine.specs.Run.{IsEnd, HasEnded, CanGoOn, steps_of_number, steps_of_command, pieces_of}
+use Rattle.cell_machine.specs.Run.{IsEnd, HasEnded, CanGoOn, is_quiet, steps_of_number, steps_of_command, pieces_of}
 use Rattle.cell_machine.proofs.Bounds.{may-is}
 use Rattle.cell_machine.proofs.Choices.{next-piece, next-elem, next-retire}
 use Rattle.cell_machine.proofs.Elements.{part-is}
 use Rattle.cell_machine.proofs.Same.{get-within}
 use Rattle.cell_machine.proofs.SpeShown.{get-either}
-use Rattle.cell_cli.specs.Checks.{steps_of_commands, steps_of_spe, steps_in, can_go_on, end_of}
+
+-- the steps that the commands of processor p can come to make
+abbrev pub steps_of_commands : ℕ → Spe → List Step
+steps_of_commands p P = flat_map (steps_of_number p P) (range_with_len 0 (length P.moves.issued))
+
+-- the steps that a processor and its flow controller can come to make
+abbrev pub steps_of_spe : State → ℕ → List Step
+steps_of_spe M p = Exec p ∷ Atomic p ∷ option_map_or (steps_of_commands p) (slice_get M.spes p) []
+
+-- all that can come to be made
+abbrev pub steps_in : State → List Step
+steps_in M = Host ∷ flat_map (steps_of_spe M) (range_with_len 0 (length M.spes))
+
+-- whether a step is allowed
+abbrev pub can_go_on : State → Bool
+can_go_on M = not (list_all (λ s. is_none (next M s)) (steps_in M))
+
+-- the end word of a machine with this budget, None where it is open
+abbrev pub end_of : State → ℕ → Option End
+end_of M budget =
+    if can_go_on M then (if nat_lt (length M.steps) budget then None else Some Budget)
+    else if is_quiet M then Some AllStopped
+    else Some Stuck
 
 and_both : (a b : Bool) → (a && b) ≡ true → (a ≡ true) × (b ≡ true)
 and_both true true e = (refl, refl)
@@ -149,3 +171,29 @@ end-is M budget (Some Budget) is =
 end-is M budget None is =
     let room : nat_lt (length M.steps) budget ≡ true = let h = is.1 in grind (arith, nat_tests, h) in
     rw (goes_on M is.0, room) refl
+
+-- ---- and the decided one is an end word
+
+some-passes : (M : State) (xs : List Step) → list_all (λ s. is_none (next M s)) xs ≡ false → CanGoOn M
+some-passes M [] e = absurd cc
+some-passes M (x ∷ xs) e = on (next M x) refl e (λ h. some-passes M xs h)
+  where
+    on : (o : Option State) → next M x ≡ o → (is_none o && list_all (λ s. is_none (next M s)) xs) ≡ false → (list_all (λ s. is_none (next M s)) xs ≡ false → CanGoOn M) → CanGoOn M
+    on None is e later = later e
+    on (Some N) is e later = (x, ap is_some is)
+
+pub is-end : (M : State) (budget : ℕ) → length M.steps ≤ budget → IsEnd M budget (end_of M budget)
+is-end M budget within = on (list_all (λ s. is_none (next M s)) (steps_in M)) refl
+  where
+    open-end : CanGoOn M → (b : Bool) → nat_lt (length M.steps) budget ≡ b → IsEnd M budget (cond b None (Some Budget))
+    open-end go true is = (go, grind (arith, nat_tests, is))
+    open-end go false is = (go, grind (arith, nat_tests, is, within))
+
+    shut-end : HasEnded M → (b : Bool) → is_quiet M ≡ b → IsEnd M budget (cond b (Some AllStopped) (Some Stuck))
+    shut-end ended true is = (ended, is)
+    shut-end ended false is = (ended, is)
+
+    on : (b : Bool) → list_all (λ s. is_none (next M s)) (steps_in M) ≡ b
+        → IsEnd M budget (cond (not b) (cond (nat_lt (length M.steps) budget) None (Some Budget)) (cond (is_quiet M) (Some AllStopped) (Some Stuck)))
+    on true is = shut-end (ended M is) (is_quiet M) refl
+    on false is = open-end (some-passes M (steps_in M) is) (nat_lt (length M.steps) budget) refl

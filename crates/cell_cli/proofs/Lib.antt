@@ -1,4 +1,7 @@
+pub mod Differences
 pub mod Ends
+pub mod Checked
+pub mod Settled
 pub mod Checks
 pub mod Steps
 pub mod Puts

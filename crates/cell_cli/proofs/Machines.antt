@@ -1,5 +1,5 @@
 -- Two tasks that read one machine file.
-use Rattle.std.proofs.Common.{◌≡◌, ℕ, ◌+◌, List, [], ◌∷◌, ◌++◌, Result, Ok, Err, refl}
+use Rattle.std.proofs.Common.{ℕ, ◌+◌, List, [], ◌∷◌, ◌++◌, Result, Ok, Err}
 use Rattle.cell_io.specs.Files.{File}
 use Rattle.spu_asm.specs.Images.{Image}
 use Rattle.spu_asm.specs.Assembling.{assembled}
@@ -10,23 +10,28 @@ use Rattle.cell_load.specs.Order.{machine_at}
 use Rattle.cell_load.specs.Sources.{Named, sources_of}
 use Rattle.cell_load.specs.Loaded.{loaded, NoRow}
 use Rattle.cell_machine.specs.Opening.{Opening}
+use Rattle.cell_cli.specs.declared.fault.Fault.{Fault}
 use Rattle.cell_cli.specs.declared.fault.FileId.{FileId}
 use Rattle.cell_cli.specs.declared.fault.FileId.TheVariants.{Machine, Source}
 use Rattle.cell_cli.specs.Task.{Task, Work}
-use Rattle.cell_cli.specs.Course.{Given, nothing, too_long, whole, given, by_given, settled}
+use Rattle.cell_cli.specs.Course.{Given, nothing, too_long, whole, given, WithGiven, Settles}
 use Rattle.cell_cli.specs.Forms.{text_limit, with_image, sources_task, with_setup, with_plan, machine_task}
 
 module _ (files : List File) (work : Work) (next other : Opening → Task) where
+  -- work that is come to from a setup, while the second task goes on with the same setup
+  abbrev WithSetup : (Result Work Fault → Type 0) → Type 0
+  WithSetup Second = (setup : Opening) × Settles files (next setup) (Ok work) × ((result : Result Work Fault) → Settles files (other setup) result → Second result)
+
   -- where the first comes to work, it goes on with a setup, and the second goes on with the same
   abbrev GoesOn : Task → Task → Type 0
-  GoesOn first second = settled files first ≡ Ok work → (setup : Opening) × (settled files (next setup) ≡ Ok work) × (settled files second ≡ settled files (other setup))
+  GoesOn first second = Settles files first (Ok work) → WithSetup (Settles files second)
 
   loaded-on : (r : Result Opening NoRow) → GoesOn (with_setup r next) (with_setup r other)
   loaded-on (Err found) e = absurd cc
-  loaded-on (Ok S) e = (S, e, refl)
+  loaded-on (Ok S) e = (S, e, λ result s. s)
 
   pub given-on : (file : FileId) (g : Given) (first second : List ℕ → Task) → ((bytes : List ℕ) → GoesOn (first bytes) (second bytes))
-      → by_given file g (λ bytes. settled files (first bytes)) ≡ Ok work → (setup : Opening) × (settled files (next setup) ≡ Ok work) × (by_given file g (λ bytes. settled files (second bytes)) ≡ settled files (other setup))
+      → WithGiven file g (Ok work) (λ bytes. Settles files (first bytes) (Ok work)) → WithSetup (λ result. WithGiven file g result (λ bytes. Settles files (second bytes) result))
   given-on file nothing first second h e = absurd cc
   given-on file too_long first second h e = absurd cc
   given-on file (whole bytes) first second h e = h bytes e

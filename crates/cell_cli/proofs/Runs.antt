@@ -6,20 +6,10 @@ use Rattle.cell_base.specs.Records.{spelling, AreSteps}
 use Rattle.cell_machine.specs.declared.status.End.{End}
 use Rattle.cell_machine.specs.State.{State}
 use Rattle.cell_machine.specs.Run.{Ran, IsRun, state_of, IsEnd, HasEnd}
-use Rattle.cell_machine.specs.Order.{IsInOrder}
-use Rattle.cell_machine.specs.Lists.{ListsAreInOrder}
-use Rattle.cell_machine.specs.Locks.{AreLocksKept}
 use Rattle.cell_machine.proofs.Runs.{ends_once}
 use Rattle.cell_report.specs.States.{states_of}
-use Rattle.cell_cli.specs.Runs.{PrintsRun}
+use Rattle.cell_cli.specs.Runs.{KeepsLaws, PrintsRun}
 use Rattle.cell_cli.proofs.Lengths.{both-short}
-
--- the laws that its steps follow
-pub record FollowsLaws (m : Ran) : Type 0 where
-  pub order : IsInOrder m
-  pub lists : ListsAreInOrder m
-  pub locks : AreLocksKept m
-  pub recorded : AreSteps m.steps
 
 -- What holds of the last state and the end word of a run that has ended: from there Q is come to.
 module _ (m : Ran) (P : State → Option End → Type 0) (Q : Type 0) (go : (last : State) (end : End) → state_of m ≡ Some last → IsEnd last m.setup.budget (Some end) → P last (Some end) → Q) where
@@ -35,27 +25,25 @@ module _ (m : Ran) (P : State → Option End → Type 0) (Q : Type 0) (go : (las
   from_end ended is = with-state ended (state_of m) refl is
 
 -- the two texts of a machine that has ended
-pub prints_run : (m : Ran) (first second : List ℕ) → length m.steps ≤ m.setup.budget → FollowsLaws m → HasEnd m → length second ≤ 700000 → first ≡ spelling m.steps
+pub prints_run : (m : Ran) (first second : List ℕ) → length m.steps ≤ m.setup.budget → KeepsLaws m → AreSteps m.steps → HasEnd m → length second ≤ 700000 → first ≡ spelling m.steps
     → IsSomeAnd (state_of m) (λ M. (e : Option End) × IsEnd M m.setup.budget e × (second ≡ states_of M m.setup.shows e)) → PrintsRun m.setup (first ++ second)
-prints_run m first second within laws ended small a = from_end m (λ M e. second ≡ states_of M m.setup.shows e) (PrintsRun m.setup (first ++ second)) printed ended
+prints_run m first second within laws recorded ended small a = from_end m (λ M e. second ≡ states_of M m.setup.shows e) (PrintsRun m.setup (first ++ second)) printed ended
   where
     printed : (last : State) (end : End) → state_of m ≡ Some last → IsEnd last m.setup.budget (Some end) → second ≡ states_of last m.setup.shows (Some end) → PrintsRun m.setup (first ++ second)
     printed last end stands is b = record {
       run = record { steps = m.steps; last = last; end = end; replayed = stands; within = within; ended = is };
-      order = laws.order;
-      lists = laws.lists;
-      locks = laws.locks;
-      recorded = laws.recorded;
-      short = both-short m.steps first second laws.recorded a small;
+      laws = laws;
+      recorded = recorded;
+      short = both-short m.steps first second recorded a small;
       printed = ap (λ t. t ++ second) a ∙ ap (λ t. spelling m.steps ++ t) b;
     }
 
 -- what the code made of a machine that has ended
-pub prints_own : (m : Ran) (steps : List Step) (record_items states_items first second : List ℕ) → HasEnd m → steps ≡ m.steps → IsRun m.setup m.steps → FollowsLaws m
+pub prints_own : (m : Ran) (steps : List Step) (record_items states_items first second : List ℕ) → HasEnd m → steps ≡ m.steps → IsRun m.setup m.steps → KeepsLaws m → AreSteps m.steps
     → length states_items ≤ 700000 → record_items ≡ spelling steps → IsSomeAnd (state_of m) (λ M. (e : Option End) × IsEnd M m.setup.budget e × (states_items ≡ states_of M m.setup.shows e))
     → first ≡ record_items → second ≡ states_items → PrintsRun m.setup (first ++ second)
-prints_own m steps record_items states_items first second ended made run laws small a b first_is second_is =
+prints_own m steps record_items states_items first second ended made run laws recorded small a b first_is second_is =
     let spelled : first ≡ spelling m.steps = first_is ∙ a ∙ ap spelling made in
     let states : IsSomeAnd (state_of m) (λ M. (e : Option End) × IsEnd M m.setup.budget e × (second ≡ states_of M m.setup.shows e)) =
     subst (λ t. IsSomeAnd (state_of m) (λ M. (e : Option End) × IsEnd M m.setup.budget e × (t ≡ states_of M m.setup.shows e))) (sym second_is) b in
-    prints_run m first second run.1 laws ended (subst (λ t. length t ≤ 700000) (sym second_is) small) spelled states
+    prints_run m first second run.1 laws recorded ended (subst (λ t. length t ≤ 700000) (sym second_is) small) spelled states

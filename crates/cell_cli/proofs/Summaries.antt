@@ -1,5 +1,5 @@
 -- The run of a generated machine, and what is written of it.
-use Rattle.std.proofs.Common.{◌≡◌, ℕ, ◌<◌, Bool, true, false, cond, List, Some, Result, Ok, Err, refl, sym, ap, subst, arith}
+use Rattle.std.proofs.Common.{◌≡◌, ℕ, ◌<◌, Bool, true, false, cond, List, Some, Ok, Err, refl, sym, ap, subst, arith}
 use Rattle.std.specs.Prelude.{Option, IsSomeAnd, nat_lt}
 use Rattle.std.proofs.lemmas.Bool.Decides.{nat_tests}
 use Rattle.cell_base.specs.declared.steps.Step.{Step}
@@ -16,23 +16,25 @@ use Rattle.cell_gen.specs.declared.error.GenError.{GenError}
 use Rattle.cell_gen.specs.declared.error.GenError.TheVariants as gen_error
 use Rattle.cell_io.specs.Files.{File}
 use Rattle.cell_io.specs.Store.{Ledger}
-use Rattle.cell_cli.specs.declared.fault.Fault.{Fault}
-use Rattle.cell_cli.specs.declared.fault.Fault.TheVariants.{Usage, ReadFault, WriteFault, TooLong, Machine, Source, NotInTable, BadRecord, NotARun, StatesDiffer, TooLarge, Memory}
+use Rattle.cell_cli.specs.declared.fault.Fault.TheVariants.{TooLarge}
 use Rattle.cell_cli.specs.declared.fault.Status.{Status}
 use Rattle.cell_cli.specs.declared.fault.Status.TheVariants.{Done, Race, Refused}
 use Rattle.cell_cli.specs.Causes.{gen_fault_of}
-use Rattle.cell_cli.specs.Course.{settled}
+use Rattle.cell_cli.specs.Course.{Settles}
 use Rattle.cell_cli.specs.Forms.{gen_task}
 use Rattle.cell_cli.specs.Code.{status_of}
-use Rattle.cell_cli.specs.Task.{Task, Work, refuse, ready, gen_of}
+use Rattle.cell_cli.specs.Task.{refuse, ready, gen_of}
 use Rattle.cell_cli.specs.Output.{Took, TookPart}
-use Rattle.cell_cli.specs.Answer.{Sinks, Ends, Ended, Answers, WrotePart}
+use Rattle.cell_cli.specs.Answer.{Sinks, Ends, Answers, WrotePart}
+use Rattle.cell_cli.specs.Runs.{KeepsLaws}
 use Rattle.cell_cli.specs.Summaries.{SummarizesRun}
 use Rattle.cell_cli.proofs.Runs.{from_end}
+use Rattle.cell_cli.proofs.Steps.{answer_ended}
 
 -- what was found of a run that has ended
 pub record IsFound (n : ℕ) (v : Verdict) (text : List ℕ) (m : Ran) : Type 0 where
   pub run : IsRun m.setup m.steps
+  pub laws : KeepsLaws m
   pub ended : HasEnd m
   pub verdict : IsVerdict m v
   pub agree : v ≡ Accepted → EveryReorderingAgrees m
@@ -46,6 +48,7 @@ module _ (n : ℕ) (v : Verdict) (text : List ℕ) where
           → text ≡ summary_of n (Some end) steps last.memory.bytes v → SummarizesRun n v text
       summarized last end stands is says = record {
         run = record { steps = steps; last = last; end = end; replayed = stands; within = found.run.1; ended = is };
+        laws = found.laws;
         verdict = found.verdict;
         agree = found.agree;
         says = says;
@@ -71,41 +74,21 @@ wrote_summary_part n (Racing i j) text old new is part = (Race i j, text, is, pa
 
 -- ---- the answer to the words
 
-ended-work : (files : List File) (task : Task) (work : Work) (before after : Sinks) (status : Status) → settled files task ≡ Ok work → Ends work before after status → Ended (settled files task) before after status
-ended-work files task work before after status is e = subst (λ (r : Result Work Fault). Ended r before after status) (sym is) e
-
--- the task comes to this work, which ended so
-answer-ended : (files : List File) (task : Task) (work : Work) (old new : Ledger) (before after : Sinks) (status : Status) → settled files task ≡ Ok work → Ends work before after status → Answers files task old new before after status
-answer-ended files task work old new before after Done is e = ended-work files task work before after Done is e
-answer-ended files task work old new before after (Race i j) is e = ended-work files task work before after (Race i j) is e
-answer-ended files task work old new before after (Refused WriteFault) is e = ended-work files task work before after (Refused WriteFault) is e
-answer-ended files task work old new before after (Refused Memory) is e = tt
-answer-ended files task work old new before after (Refused (ReadFault file)) is e = absurd e
-answer-ended files task work old new before after (Refused Usage) is e = absurd e
-answer-ended files task work old new before after (Refused (TooLong file)) is e = absurd e
-answer-ended files task work old new before after (Refused (Machine line)) is e = absurd e
-answer-ended files task work old new before after (Refused (Source file line kind)) is e = absurd e
-answer-ended files task work old new before after (Refused (NotInTable spe address word)) is e = absurd e
-answer-ended files task work old new before after (Refused (BadRecord line)) is e = absurd e
-answer-ended files task work old new before after (Refused (NotARun at)) is e = absurd e
-answer-ended files task work old new before after (Refused (StatesDiffer at)) is e = absurd e
-answer-ended files task work old new before after (Refused (TooLarge k)) is e = absurd e
-
 module _ (files : List File) (n : ℕ) where
   -- a number that isn't above 64 comes to a run
-  gen-is : (64 < n → ⊥) → (b : Bool) → nat_lt 64 n ≡ b → settled files (cond b (refuse (TooLarge n)) (ready (gen_of n))) ≡ Ok (gen_of n)
+  gen-is : (64 < n → ⊥) → (b : Bool) → nat_lt 64 n ≡ b → Settles files (cond b (refuse (TooLarge n)) (ready (gen_of n))) (Ok (gen_of n))
   gen-is within true is = absurd (within (grind (arith, nat_tests, is)))
   gen-is within false is = refl
 
   pub gen_ended : (old new : Ledger) (before after : Sinks) (status : Status) → (64 < n → ⊥) → Ends (gen_of n) before after status → Answers files (gen_task n) old new before after status
-  gen_ended old new before after status within e = answer-ended files (gen_task n) (gen_of n) old new before after status (gen-is within (nat_lt 64 n) refl) e
+  gen_ended old new before after status within e = answer_ended files (gen_task n) (gen_of n) old new before after status (gen-is within (nat_lt 64 n) refl) e
 
   -- one above it is refused
-  gen-large : 64 < n → settled files (gen_task n) ≡ Err (TooLarge n)
-  gen-large large = let is : nat_lt 64 n ≡ true = grind (arith, nat_tests, large) in ap (λ b. settled files (cond b (refuse (TooLarge n)) (ready (gen_of n)))) is
+  gen-large : 64 < n → Settles files (gen_task n) (Err (TooLarge n))
+  gen-large large = let is : nat_lt 64 n ≡ true = grind (arith, nat_tests, large) in subst (λ b. Settles files (cond b (refuse (TooLarge n)) (ready (gen_of n))) (Err (TooLarge n))) (sym is) refl
 
   pub gen_refused : (old new : Ledger) (before after : Sinks) (error : GenError) → ((m : ℕ) → error ≡ gen_error.TooLarge m → (64 < n) × (m ≡ n)) → Answers files (gen_task n) old new before after (Refused (gen_fault_of error))
   gen_refused old new before after (gen_error.TooLarge m) cause =
       let is = cause m refl in
-      subst (λ k. settled files (gen_task n) ≡ Err (TooLarge k)) (sym is.1) (gen-large is.0)
+      subst (λ k. Settles files (gen_task n) (Err (TooLarge k))) (sym is.1) (gen-large is.0)
   gen_refused old new before after gen_error.Memory cause = tt

@@ -1,5 +1,5 @@
 -- The answers of the program, each with its cause.
-use Rattle.std.specs.Prelude.{ℕ, ◌≡◌, List, Option, Result, Ok, Err, IsOk}
+use Rattle.std.specs.Prelude.{ℕ, ◌≡◌, List, Option, Result, Ok, Err}
 use Rattle.cell_io.specs.Files.{File}
 use Rattle.cell_io.specs.Store.{Rose, Ledger, FailedAt}
 use Rattle.cell_cli.specs.declared.fault.Fault.{Fault}
@@ -9,19 +9,19 @@ use Rattle.cell_cli.specs.declared.fault.FileId.TheVariants.{Machine, Source, Re
 use Rattle.cell_cli.specs.declared.fault.Status.{Status}
 use Rattle.cell_cli.specs.declared.fault.Status.TheVariants.{Done, Race, Refused}
 use Rattle.cell_cli.specs.Task.{Task, Work}
-use Rattle.cell_cli.specs.Course.{settled, Reads}
+use Rattle.cell_cli.specs.Course.{Settles, Reads}
 use Rattle.cell_cli.specs.Output.{Took, TookPart, Writes}
 
 -- the rest of the task settles what the whole does, and what it reads the whole reads
 pub record Leads (files : List File) (task rest : Task) : Type 0 where
-  pub settles : settled files task ≡ settled files rest
+  pub settles : (result : Result Work Fault) → Settles files rest result → Settles files task result
   pub reads : (file : FileId) (name : List ℕ) → Reads files rest file name → Reads files task file name
 
 -- a part of the program refuses with its cause
 abbrev pub RefusesIn : List File → Task → Ledger → Ledger → Fault → Type 0
 RefusesIn files task old new Memory = Unit {0}
 RefusesIn files task old new (ReadFault file) = (name : List ℕ) × Reads files task file name × FailedAt name old new
-RefusesIn files task old new fault = settled files task ≡ Err fault
+RefusesIn files task old new fault = Settles files task (Err fault)
 
 -- a part of the program came to a value with which the task goes on, or it refused
 abbrev pub Comes : {V : Type 0} → List File → Task → (V → Task) → Ledger → Ledger → Result V Fault → Type 0
@@ -74,16 +74,15 @@ Ends work old new (Refused WriteFault) = Rose old.faults new.faults × WrotePart
 Ends work old new (Refused Memory) = new.taken ≡ old.taken
 Ends work old new (Refused fault) = ⊥
 
--- the work was come to, and this is how it ended
-abbrev pub Ended : Result Work Fault → Sinks → Sinks → Status → Type 0
-Ended (Ok work) old new status = Ends work old new status
-Ended (Err fault) old new status = ⊥
+-- the files settle work, and this is how it ended
+abbrev pub Ended : List File → Task → Sinks → Sinks → Status → Type 0
+Ended files task old new status = (work : Work) × Settles files task (Ok work) × Ends work old new status
 
 -- the answers, each with its cause
 abbrev pub Answers : List File → Task → Ledger → Ledger → Sinks → Sinks → Status → Type 0
-Answers files task old new before after Done = Ended (settled files task) before after Done
-Answers files task old new before after (Race first second) = Ended (settled files task) before after (Race first second)
-Answers files task old new before after (Refused WriteFault) = Ended (settled files task) before after (Refused WriteFault)
+Answers files task old new before after Done = Ended files task before after Done
+Answers files task old new before after (Race first second) = Ended files task before after (Race first second)
+Answers files task old new before after (Refused WriteFault) = Ended files task before after (Refused WriteFault)
 Answers files task old new before after (Refused fault) = RefusesIn files task old new fault
 
 -- nothing went out
@@ -108,7 +107,7 @@ IsOrMemory fault status = status ≡ Refused fault
 
 abbrev pub IsExact : List File → Task → Ledger → Ledger → Status → Type 0
 IsExact files task old new status =
-    (fault : Fault) → settled files task ≡ Err fault → NoneFailed files task old new → IsOrMemory fault status
+    (fault : Fault) → Settles files task (Err fault) → NoneFailed files task old new → IsOrMemory fault status
 
 -- the work was done, or memory was short
 abbrev pub IsFinished : Status → Type 0
@@ -119,4 +118,4 @@ IsFinished (Refused fault) = ⊥
 
 abbrev pub IsComplete : List File → Task → Ledger → Ledger → Sinks → Sinks → Status → Type 0
 IsComplete files task old new before after status =
-    IsOk (settled files task) → ¬ (Rose before.faults after.faults) → NoneFailed files task old new → IsFinished status
+    (work : Work) → Settles files task (Ok work) → ¬ (Rose before.faults after.faults) → NoneFailed files task old new → IsFinished status

@@ -1,101 +1,72 @@
 -- What a record file is checked for.
-use Rattle.std.specs.Prelude.{ℕ, ◌≡◌, zero, suc, ◌+◌, ◌==◌, not, nat_lt, Bool, List, [], ◌∷◌, length, slice_get, is_none, Option, Some, None, Result, Ok, Err, if◌then◌else◌}
-use Rattle.std.specs.Option.{option_map_or}
-use Rattle.std.specs.List.{flat_map, list_all, range_with_len}
+use Rattle.std.specs.Prelude.{◌≡◌, ◌≢◌, ◌⊎◌, ℕ, List, [], ◌++◌, take, slice_get, Option, Some, Result, Ok, Err}
 use Rattle.cell_base.specs.declared.steps.Step.{Step}
-use Rattle.cell_base.specs.declared.steps.Step.TheVariants.{Exec, Atomic, Host}
-use Rattle.cell_base.specs.Records.{spelling}
+use Rattle.cell_base.specs.Records.{spelling, AreSteps}
 use Rattle.cell_machine.specs.declared.status.End.{End}
-use Rattle.cell_machine.specs.declared.status.End.TheVariants.{AllStopped, Stuck, Budget}
-use Rattle.cell_machine.specs.Spe.{Spe}
 use Rattle.cell_machine.specs.State.{State}
-use Rattle.cell_machine.specs.Next.{next}
-use Rattle.cell_machine.specs.Opening.{Opening, opening}
-use Rattle.cell_machine.specs.Run.{Ran, is_quiet, steps_of_number}
+use Rattle.cell_machine.specs.Opening.{Opening}
+use Rattle.cell_machine.specs.Run.{Ran, IsRun, IsEnd, state_of}
 use Rattle.cell_report.specs.States.{states_of}
-use Rattle.run_record.specs.Reading.{record_at}
+use Rattle.run_record.specs.Form.{IsFault}
+use Rattle.run_record.specs.Replayed.{IsRefusedAt}
 use Rattle.cell_cli.specs.declared.fault.Fault.{Fault}
-use Rattle.cell_cli.specs.declared.fault.Fault.TheVariants.{ReadFault, BadRecord, NotARun, StatesDiffer, Memory}
+use Rattle.cell_cli.specs.declared.fault.Fault.TheVariants.{BadRecord, NotARun, StatesDiffer, Memory}
 
--- ---- the steps
+-- The text begins with the record of this run, and this stands behind it.
+pub record BeginsWithRun (m : Ran) (text behind : List ℕ) : Type 0 where
+  pub run : IsRun m.setup m.steps
+  pub recorded : AreSteps m.steps
+  pub parts : text ≡ spelling m.steps ++ behind
 
-abbrev pub or_refused : Option State → ℕ → (State → Result State ℕ) → Result State ℕ
-or_refused None at go_on = Err at
-or_refused (Some N) at go_on = go_on N
+-- The text has the states that a run ends in, with its end word.
+pub record TellsEnd (m : Ran) (text : List ℕ) : Type 0 where
+  pub last : State
+  pub end : Option End
+  pub there : state_of m ≡ Some last
+  pub ended : IsEnd last m.setup.budget end
+  pub told : text ≡ states_of last m.setup.shows end
 
--- the state after the steps, of which the first has this number, where there is room for so many; or the number of the first that is refused
-abbrev pub replayed : ℕ → ℕ → State → List Step → Result State ℕ
-replayed at room M [] = Ok M
-replayed at zero M (s ∷ steps) = Err at
-replayed at (suc room) M (s ∷ steps) = or_refused (next M s) at (λ N. replayed (at + 1) room N steps)
+-- The text is the record of this run, and behind it stand the states that it ends in, or nothing.
+pub record RecordsRun (m : Ran) (text : List ℕ) : Type 0 where
+  pub behind : List ℕ
+  pub begins : BeginsWithRun m text behind
+  pub states : (behind ≡ []) ⊎ TellsEnd m behind
 
--- ---- the end word
+-- The text begins with the record of steps that are no run of the setup: the one of this number is the first that is refused.
+pub record IsNoRun (setup : Opening) (text : List ℕ) (at : ℕ) : Type 0 where
+  pub steps : List Step
+  pub behind : List ℕ
+  pub recorded : AreSteps steps
+  pub parts : text ≡ spelling steps ++ behind
+  pub refused : IsRefusedAt setup steps at
 
--- the steps that the commands of processor p can come to make
-abbrev pub steps_of_commands : ℕ → Spe → List Step
-steps_of_commands p P = flat_map (steps_of_number p P) (range_with_len 0 (length P.moves.issued))
+-- As many bytes are the same, and there the two texts differ: one of them may end there.
+abbrev pub DifferAt : ℕ → List ℕ → List ℕ → Type 0
+DifferAt at left right = (take at left ≡ take at right) × (slice_get left at ≢ slice_get right at)
 
--- the steps that a processor and its flow controller can come to make
-abbrev pub steps_of_spe : State → ℕ → List Step
-steps_of_spe M p = Exec p ∷ Atomic p ∷ option_map_or (steps_of_commands p) (slice_get M.spes p) []
+-- The text begins with the record of this run, and something stands behind it. At this byte it first differs from the record with the states
+-- that the run ends in.
+pub record StatesDifferAt (m : Ran) (text : List ℕ) (at : ℕ) : Type 0 where
+  pub behind : List ℕ
+  pub states : List ℕ
+  pub begins : BeginsWithRun m text behind
+  pub some : behind ≢ []
+  pub tells : TellsEnd m states
+  pub differ : DifferAt at text (spelling m.steps ++ states)
 
--- all that can come to be made
-abbrev pub steps_in : State → List Step
-steps_in M = Host ∷ flat_map (steps_of_spe M) (range_with_len 0 (length M.spes))
+-- a record file with this text is refused
+abbrev pub RefusesRecord : Opening → List ℕ → Fault → Type 0
+RefusesRecord setup text (BadRecord line) = IsFault text line
+RefusesRecord setup text (NotARun at) = IsNoRun setup text at
+RefusesRecord setup text (StatesDiffer at) = (steps : List Step) × StatesDifferAt (record { setup = setup; steps = steps }) text at
+RefusesRecord setup text fault = ⊥
 
--- whether a step is allowed
-abbrev pub can_go_on : State → Bool
-can_go_on M = not (list_all (λ s. is_none (next M s)) (steps_in M))
+-- what a record file with this text is found to be: a run of the setup, or the first refusal
+abbrev pub Finds : Opening → List ℕ → Result Ran Fault → Type 0
+Finds setup text (Ok m) = (m.setup ≡ setup) × RecordsRun m text
+Finds setup text (Err fault) = RefusesRecord setup text fault
 
--- the end word of a machine with this budget, None where it is open
-abbrev pub end_of : State → ℕ → Option End
-end_of M budget =
-    if can_go_on M then (if nat_lt (length M.steps) budget then None else Some Budget)
-    else if is_quiet M then Some AllStopped
-    else Some Stuck
-
--- ---- the states
-
--- the first place where the texts differ, the first byte having this number: a text that ends early differs at its end
-abbrev pub differ : ℕ → List ℕ → List ℕ → Option ℕ
-differ at [] [] = None
-differ at [] (y ∷ ys) = Some at
-differ at (x ∷ xs) [] = Some at
-differ at (x ∷ xs) (y ∷ ys) = if x == y then differ (at + 1) xs ys else Some at
-
--- the states may be missing
-abbrev pub states_differ : ℕ → List ℕ → List ℕ → Option ℕ
-states_differ at [] wanted = None
-states_differ at (x ∷ xs) wanted = differ at (x ∷ xs) wanted
-
--- ---- the whole
-
--- the run, unless its states differ from those in the file
-abbrev pub with_states : Ran → Option ℕ → Result Ran Fault
-with_states m None = Ok m
-with_states m (Some at) = Err (StatesDiffer at)
-
--- the states behind the record, where they begin in the file, are those of the replay
-abbrev pub with_replay : Opening → List Step → ℕ → List ℕ → Result State ℕ → Result Ran Fault
-with_replay setup steps at states (Err step) = Err (NotARun step)
-with_replay setup steps at states (Ok M) =
-    with_states (record { setup = setup; steps = steps }) (states_differ at states (states_of M setup.shows (end_of M setup.budget)))
-
-abbrev pub with_record : Opening → Result (List Step × List ℕ) ℕ → Result Ran Fault
-with_record setup (Err line) = Err (BadRecord line)
-with_record setup (Ok (steps, states)) = with_replay setup steps (length (spelling steps)) states (replayed 0 setup.budget (opening setup) steps)
-
--- the run that the record is, or the first refusal
-abbrev pub checked : Opening → List ℕ → Result Ran Fault
-checked setup text = with_record setup (record_at text)
-
--- ---- what functions return of it, unless memory ran out
-
-abbrev pub FaultGives : {X : Type 0} → Fault → Result X Fault → Type 0
-FaultGives Memory wanted = Unit {0}
-FaultGives (ReadFault file) wanted = ⊥
-FaultGives fault wanted = wanted ≡ Err fault
-
-abbrev pub CheckGives : {X : Type 0} → Result X Fault → Result X Fault → Type 0
-CheckGives (Ok x) wanted = wanted ≡ Ok x
-CheckGives (Err fault) wanted = FaultGives fault wanted
+-- a refusal is found, or memory ran out
+abbrev pub RefusesOrMemory : Opening → List ℕ → Fault → Type 0
+RefusesOrMemory setup text Memory = Unit {0}
+RefusesOrMemory setup text fault = RefusesRecord setup text fault

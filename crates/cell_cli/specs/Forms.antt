@@ -9,14 +9,11 @@ use Rattle.cell_load.specs.Order.{machine_at}
 use Rattle.cell_load.specs.Sources.{Named, sources_of}
 use Rattle.cell_load.specs.Loaded.{loaded, NoRow}
 use Rattle.cell_machine.specs.Opening.{Opening}
-use Rattle.cell_machine.specs.Run.{Ran}
 use Rattle.cell_report.specs.Images.{image_lines}
-use Rattle.cell_cli.specs.declared.fault.Fault.{Fault}
 use Rattle.cell_cli.specs.declared.fault.Fault.TheVariants.{Machine as BadMachine, Source as BadSource, NotInTable, TooLarge, Memory}
 use Rattle.cell_cli.specs.declared.fault.FileId.{FileId}
 use Rattle.cell_cli.specs.declared.fault.FileId.TheVariants.{Machine, Source, Rec}
-use Rattle.cell_cli.specs.Checks.{checked}
-use Rattle.cell_cli.specs.Task.{Task, refuse, ready, read, run_of, text_of, verdict_of, gen_of}
+use Rattle.cell_cli.specs.Task.{Task, refuse, ready, judge, read, run_of, text_of, gen_of}
 
 -- how long a machine file or a source may be
 abbrev pub text_limit : ℕ
@@ -63,13 +60,9 @@ run_task machine = machine_task machine (λ setup. ready (run_of setup))
 abbrev pub record_limit : ℕ
 record_limit = 33554432
 
-abbrev pub by_verdict : Result Ran Fault → Task
-by_verdict (Err fault) = refuse fault
-by_verdict (Ok m) = ready (verdict_of m)
-
 -- `check MACHINE RECORD`
 abbrev pub check_task : List ℕ → List ℕ → Task
-check_task machine record_file = machine_task machine (λ setup. read Rec record_file record_limit (λ text. by_verdict (checked setup text)))
+check_task machine record_file = machine_task machine (λ setup. read Rec record_file record_limit (λ text. judge setup text))
 
 -- `asm SOURCE`
 abbrev pub asm_task : List ℕ → Task

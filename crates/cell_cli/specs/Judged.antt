@@ -1,36 +1,23 @@
 -- What `check` says of the run in a record file.
-use Rattle.std.specs.Prelude.{ℕ, ◌≡◌, ◌≤◌, ◌⊎◌, List, [], ◌++◌, length, Some, Ok}
-use Rattle.cell_base.specs.Records.{spelling}
+use Rattle.std.specs.Prelude.{ℕ, ◌≡◌, List, Some, Ok}
 use Rattle.cell_io.specs.Files.{File, file_named}
-use Rattle.cell_machine.specs.State.{State}
-use Rattle.cell_machine.specs.Opening.{opening}
-use Rattle.cell_machine.specs.Run.{Ran, replay}
-use Rattle.cell_report.specs.States.{states_of}
+use Rattle.cell_machine.specs.Run.{Ran}
 use Rattle.race_check.specs.declared.check.Verdict.TheVariants.{Accepted, Race as Racing}
 use Rattle.cell_cli.specs.declared.fault.Status.{Status}
 use Rattle.cell_cli.specs.declared.fault.Status.TheVariants.{Done, Race}
 use Rattle.cell_cli.specs.Task.{run_of}
-use Rattle.cell_cli.specs.Course.{settled}
+use Rattle.cell_cli.specs.Course.{Settles}
 use Rattle.cell_cli.specs.Forms.{run_task}
-use Rattle.cell_cli.specs.Checks.{end_of}
+use Rattle.cell_cli.specs.Checks.{RecordsRun}
 use Rattle.cell_cli.specs.Words.{Spoken, check, gen}
 use Rattle.cell_cli.specs.Verdicts.{IsAccepted, IsRaced}
 use Rattle.cell_cli.specs.Summaries.{SummarizesRun}
 use Rattle.cell_cli.specs.Answer.{Sinks}
 use Rattle.cell_cli.specs.Output.{Took}
 
--- The text is the record of this run, and behind it stand the states that it ends in, or nothing.
-pub record RecordsRun (m : Ran) (text : List ℕ) : Type 0 where
-  pub last : State
-  pub states : List ℕ
-  pub replayed : replay (opening m.setup) m.steps ≡ Some last
-  pub within : length m.steps ≤ m.setup.budget
-  pub parts : text ≡ spelling m.steps ++ states
-  pub behind : (states ≡ []) ⊎ (states ≡ states_of last m.setup.shows (end_of last m.setup.budget))
-
 -- The machine file stands for the setup of this run, and the record file records the run.
 pub record IsRunOf (files : List File) (machine record_file : List ℕ) (m : Ran) : Type 0 where
-  pub setup : settled files (run_task machine) ≡ Ok (run_of m.setup)
+  pub setup : Settles files (run_task machine) (Ok (run_of m.setup))
   pub text : List ℕ
   pub there : file_named files record_file ≡ Some text
   pub records : RecordsRun m text

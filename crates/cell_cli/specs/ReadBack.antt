@@ -6,7 +6,7 @@ use Rattle.cell_cli.specs.declared.fault.FileId.{FileId}
 use Rattle.cell_cli.specs.declared.fault.Status.{Status}
 use Rattle.cell_cli.specs.declared.fault.Status.TheVariants.{Done}
 use Rattle.cell_cli.specs.Task.{Task, run_of, verdict_of}
-use Rattle.cell_cli.specs.Course.{settled, Reads}
+use Rattle.cell_cli.specs.Course.{Settles, Reads}
 use Rattle.cell_cli.specs.Forms.{run_task, check_task}
 use Rattle.cell_cli.specs.Runs.{ran, PrintsRun}
 use Rattle.cell_cli.specs.Words.{Spoken, run}
@@ -22,10 +22,10 @@ pub record IsKeptIn (files later : List File) (task : Task) (name text : List �
 -- file and of that file is to give the verdict on this very run.
 pub record IsReadBack (files : List File) (machine text : List ℕ) : Type 0 where
   pub setup : Opening
-  pub own : settled files (run_task machine) ≡ Ok (run_of setup)
+  pub own : Settles files (run_task machine) (Ok (run_of setup))
   pub prints : PrintsRun setup text
   pub checked : (later : List File) (record_file : List ℕ) → IsKeptIn files later (run_task machine) record_file text
-      → settled later (check_task machine record_file) ≡ Ok (verdict_of (ran prints.run))
+      → Settles later (check_task machine record_file) (Ok (verdict_of (ran prints.run)))
 
 -- what a run that is done added to the sink is read back
 abbrev pub ReadsBack : List File → Spoken → Sinks → Sinks → Status → Type 0

@@ -24,13 +24,16 @@ pub record EndedRun (setup : Opening) : Type 0 where
 abbrev pub ran : {setup : Opening} → EndedRun setup → Ran
 ran {setup} run = record { setup = setup; steps = run.steps }
 
--- The record of one such run, in the order of its commands and of its lists, each PUTLLC storing exactly where its line is reserved, within the
--- bounds of a record, and then its last states; a record file can be as long.
+-- Its commands come in their order, its lists in theirs, and each PUTLLC stores exactly where its line is reserved.
+pub record KeepsLaws (m : Ran) : Type 0 where
+  pub order : IsInOrder m
+  pub lists : ListsAreInOrder m
+  pub locks : AreLocksKept m
+
+-- The record of one such run, which keeps the laws, within the bounds of a record, and then its last states; a record file can be as long.
 pub record PrintsRun (setup : Opening) (text : List ℕ) : Type 0 where
   pub run : EndedRun setup
-  pub order : IsInOrder (ran run)
-  pub lists : ListsAreInOrder (ran run)
-  pub locks : AreLocksKept (ran run)
+  pub laws : KeepsLaws (ran run)
   pub recorded : AreSteps run.steps
   pub short : length text ≤ record_limit
   pub printed : text ≡ spelling run.steps ++ states_of run.last setup.shows (Some run.end)

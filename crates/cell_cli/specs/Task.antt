@@ -1,4 +1,4 @@
--- What a form of words asks for: files to read, one after the other, and then a refusal or work to do.
+-- What a form of words asks for: files to read, one after the other, and then a refusal, work to do, or a record file to check.
 use Rattle.std.specs.Prelude.{ℕ, List}
 use Rattle.cell_machine.specs.Opening.{Opening}
 use Rattle.cell_machine.specs.Run.{Ran}
@@ -15,4 +15,5 @@ pub data Work : Type 0 where
 pub data Task : Type 0 where
   refuse : Fault → Task
   ready : Work → Task
+  judge : Opening → List ℕ → Task
   read : FileId → List ℕ → ℕ → (List ℕ → Task) → Task

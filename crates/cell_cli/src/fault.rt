@@ -8,7 +8,7 @@ use spu_asm::AsmKind;
 use std::fmt;
 
 /// A file that the words name, or that a machine file names: its sources are numbered from 0.
-#[derive(Clone, Copy, Debug, PartialEq, Eq)]
+#[derive(Clone, Copy, PartialEq, Eq)]
 pub enum FileId {
     Machine,
     Source(u32),
@@ -16,7 +16,7 @@ pub enum FileId {
 }
 
 /// Why the program did nothing. Lines count from 1.
-#[derive(Clone, Copy, Debug, PartialEq, Eq)]
+#[derive(Clone, Copy, PartialEq, Eq)]
 pub enum Fault {
     /// The words are no form of the command.
     Usage,
@@ -60,7 +60,7 @@ pub enum Fault {
 }
 
 /// How the program ended.
-#[derive(Clone, Copy, Debug, PartialEq, Eq)]
+#[derive(Clone, Copy, PartialEq, Eq)]
 pub enum Status {
     Done,
     /// Two steps of the record that race, by their places. The verdict that says so was written.
@@ -108,34 +108,71 @@ impl From<Verdict> for Status {
 impl fmt::Display for FileId {
     fn fmt<W: fmt::Write>(&self, f: &mut fmt::Formatter<W>) -> fmt::Result {
         match self {
-            FileId::Machine => write!(f, "machine file"),
-            FileId::Source(number) => write!(f, "source {number}"),
-            FileId::Rec => write!(f, "record file"),
+            FileId::Machine => f.write_str("machine file"),
+            FileId::Source(number) => put_number(f, "source ", *number, ""),
+            FileId::Rec => f.write_str("record file"),
         }
     }
 }
 
+/// A number between two texts. What is formatted has small functions of its own, since a match with many `write!` is slow to prove.
+fn put_number<W: fmt::Write>(
+    f: &mut fmt::Formatter<W>,
+    before: &str,
+    number: u32,
+    behind: &str,
+) -> fmt::Result {
+    write!(f, "{before}{number}{behind}")
+}
+
+/// A file between two texts.
+fn put_file<W: fmt::Write>(
+    f: &mut fmt::Formatter<W>,
+    before: &str,
+    file: FileId,
+    behind: &str,
+) -> fmt::Result {
+    write!(f, "{before}{file}{behind}")
+}
+
+fn put_source<W: fmt::Write>(
+    f: &mut fmt::Formatter<W>,
+    file: FileId,
+    line: u32,
+    kind: AsmKind,
+) -> fmt::Result {
+    write!(f, "{file}, line {line}: {kind:?}")
+}
+
+fn put_word<W: fmt::Write>(
+    f: &mut fmt::Formatter<W>,
+    spe: u8,
+    address: u32,
+    word: u32,
+) -> fmt::Result {
+    write!(
+        f,
+        "processor {spe}, 0x{address:05x}: 0x{word:08x} is not in the table"
+    )
+}
+
 impl fmt::Display for Fault {
     fn fmt<W: fmt::Write>(&self, f: &mut fmt::Formatter<W>) -> fmt::Result {
-        match self {
-            Fault::Usage => write!(
-                f,
-                "usage: cell run MACHINE, check MACHINE RECORD, asm SOURCE or gen N"
-            ),
-            Fault::ReadFault { file } => write!(f, "cannot read {file}"),
-            Fault::WriteFault => write!(f, "cannot write"),
-            Fault::TooLong { file } => write!(f, "{file} is too long"),
-            Fault::Machine { line } => write!(f, "machine file, line {line}"),
-            Fault::Source { file, line, kind } => write!(f, "{file}, line {line}: {kind:?}"),
-            Fault::NotInTable { spe, address, word } => write!(
-                f,
-                "processor {spe}, 0x{address:05x}: 0x{word:08x} is not in the table"
-            ),
-            Fault::BadRecord { line } => write!(f, "record file, line {line}"),
-            Fault::NotARun { at } => write!(f, "step {at} is not allowed"),
-            Fault::StatesDiffer { at } => write!(f, "states differ at byte {at}"),
-            Fault::TooLarge { n } => write!(f, "{n} is above 64"),
-            Fault::Memory => write!(f, "out of memory"),
+        match *self {
+            Fault::Usage => {
+                f.write_str("usage: cell run MACHINE, check MACHINE RECORD, asm SOURCE or gen N")
+            }
+            Fault::ReadFault { file } => put_file(f, "cannot read ", file, ""),
+            Fault::WriteFault => f.write_str("cannot write"),
+            Fault::TooLong { file } => put_file(f, "", file, " is too long"),
+            Fault::Machine { line } => put_number(f, "machine file, line ", line, ""),
+            Fault::Source { file, line, kind } => put_source(f, file, line, kind),
+            Fault::NotInTable { spe, address, word } => put_word(f, spe, address, word),
+            Fault::BadRecord { line } => put_number(f, "record file, line ", line, ""),
+            Fault::NotARun { at } => put_number(f, "step ", at, " is not allowed"),
+            Fault::StatesDiffer { at } => put_number(f, "states differ at byte ", at, ""),
+            Fault::TooLarge { n } => put_number(f, "", n, " is above 64"),
+            Fault::Memory => f.write_str("out of memory"),
         }
     }
 }

@@ -9,17 +9,16 @@ mod fault;
 mod generated;
 mod program;
 mod reading;
+mod round;
 mod run;
 #[cfg(test)]
 mod tests;
-#[cfg(test)]
-mod thread_tests;
 mod words;
 
 use cell_io::{DirStore, OutSink};
 use fault::{Fault, Status};
 use program::cell;
-use spe_workers::OpenGate;
+use round::RoundGate;
 use std::process::ExitCode;
 use std::{env, io};
 
@@ -42,7 +41,7 @@ fn main(rt: HostRuntime) -> ExitCode {
             words.as_slice(),
             &mut files,
             &mut out,
-            &OpenGate,
+            &RoundGate::new(&rt),
         ),
         Err(_) => Status::Refused(Fault::Memory),
     };

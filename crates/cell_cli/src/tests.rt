@@ -1,29 +1,40 @@
-// What the program answers where the outside fails, and what went out by then.
+// The calls `cell` and `cell_quiet`: a run whose workers meet, and a check with no thread at all.
 ghost use Rattle.std.specs.Prelude.{map, string_bytes, IfOk};
 ghost use Rattle.cell_cli.specs.Words.{spoken, AsksForNoRun};
 
-use crate::fault::{Fault, FileId, Status};
-use crate::program::cell;
-use cell_io::{Cut, MemFile, MemSink, MemStore};
-use spe_workers::OpenGate;
+use crate::fault::Status;
+use crate::program::{cell, cell_quiet};
+use cell_io::{MemFile, MemSink, MemStore};
+use spe_workers::Gate;
 use std::alloc::{AllocError, Global};
-use std::sync::Wait;
+use std::process::Abort;
+use std::sync::{Barrier, Wait};
 use std::test::Fail;
-use std::thread::Threads;
 
-/// A machine of two sources, which are the one file `s`.
-const MACHINE: &str = "cell-machine 1\nlines 1\nbudget 9\nspe\nsource s\nsource s\n";
+/// An assertion that is cheap to prove.
+fn holds(rt: &impl Abort, is_so: bool) {
+    if !is_so {
+        panic!(rt; "a test doesn't hold");
+    }
+}
 
-const RECORD: &str = "cell-record 1\nx 0\nsteps 1\n";
+/// A gate at which workers 0 and 1, before their first turns, wait for each other.
+#[derive(Drop)]
+struct Meet<'a, R: Wait> {
+    rt: &'a R,
+    barrier: Barrier,
+}
 
-const STATES: &str = "end AllStopped\nspe 0 stopped 0x0007 pc 0x00004 queued 0\nhost 0 of 0\n";
+impl<'a, R: Wait> Gate for Meet<'a, R> {
+    fn pass(&self, worker: u32, turn: u32) {
+        if worker < 2 && turn == 0 {
+            self.barrier.wait(self.rt);
+        }
+    }
+}
 
-/// The files `m`, `s` and `r`. The fetches of these numbers fail.
-pub(crate) fn files(
-    alloc: Global,
-    [machine, source, record_file]: [&str; 3],
-    failing: Vec<u32>,
-) -> Result<MemStore, AllocError> {
+/// The files `m`, `s` and `r`.
+fn files(alloc: Global, [machine, source, record_file]: [&str; 3]) -> Result<MemStore, AllocError> {
     let mut files = Vec::new(alloc);
     files.push(MemFile {
         name: String::from_str(alloc, "m")?,
@@ -37,19 +48,48 @@ pub(crate) fn files(
         name: String::from_str(alloc, "r")?,
         bytes: record_file.as_bytes().to_vec(alloc)?,
     })?;
-    Ok(MemStore::new(files, failing))
+    Ok(MemStore::new(files, Vec::new(alloc)))
 }
 
 /// `run m`.
-pub(crate) fn run_words(alloc: Global) -> Result<Vec<String>, AllocError> {
+fn run_words(alloc: Global) -> Result<Vec<String>, AllocError> {
     let mut words = Vec::new(alloc);
     words.push(String::from_str(alloc, "run")?)?;
     words.push(String::from_str(alloc, "m")?)?;
     Ok(words)
 }
 
+/// Two processors.
+const TWO: &str =
+    "cell-machine 1\nlines 1\nbudget 1000000\nspe\nsource s\nspe\nsource s\nshow mem 0x0 16\n";
+
+/// Raises a number in memory a hundred times.
+const RAISE: &str =
+    "ila $5,0x1000\nil $7,100\nloop: wrch $ch16,$5\nwrch $ch18,$0\nil $8,0xD0\nwrch $ch21,$8\nrdch $9,$ch27\nlqd $10,0($5)\nai $10,$10,1\nstqd $10,0($5)\nil $8,0xB4\nwrch $ch21,$8\nrdch $9,$ch27\nbrnz $9,loop\nai $7,$7,-1\nbrnz $7,loop\nstop 0\n";
+
+// It ends only where the workers run beside each other.
+#[test]
+fn two_workers_wait_for_each_other(rt: HostRuntime) -> Result<(), Fail> {
+    let alloc = rt.alloc();
+    let mut files = files(alloc, [TWO, RAISE, ""])?;
+    let mut out = MemSink::new(alloc, 100_000, Vec::new(alloc))?;
+    let gate = Meet {
+        rt: &rt,
+        barrier: Barrier::new(2),
+    };
+    let words = run_words(alloc)?;
+    let status = cell(&rt, alloc, words.as_slice(), &mut files, &mut out, &gate);
+    holds(&rt, status == Status::Done);
+    holds(
+        &rt,
+        out.bytes()
+            .ends_with(b"\nmem 0x00000000 000000c8000000c8000000c8000000c8\n"),
+    );
+    Ok(())
+}
+
 /// `check m r`.
-pub(crate) fn check_words(alloc: Global) -> Result<Vec<String>, AllocError>
+fn check_words(alloc: Global) -> Result<Vec<String>, AllocError>
     ensures { IfOk result (λ words. AsksForNoRun (spoken (map string_bytes words.items))) }
 {
     let mut words = Vec::new(alloc);
@@ -59,84 +99,30 @@ pub(crate) fn check_words(alloc: Global) -> Result<Vec<String>, AllocError>
     Ok(words)
 }
 
-/// The answer to these words, and what went out.
-fn told<R: Threads + Wait + Sync>(
-    rt: &R,
-    alloc: Global,
-    words: Vec<String>,
-    fetches: Vec<u32>,
-    puts: Vec<Cut>,
-) -> Result<(Status, MemSink), Fail> {
-    let mut files = files(alloc, [MACHINE, "stop 7", RECORD], fetches)?;
-    let mut out = MemSink::new(alloc, 100, puts)?;
-    let status = cell(rt, alloc, words.as_slice(), &mut files, &mut out, &OpenGate);
-    Ok((status, out))
-}
+const ONE: &str = "cell-machine 1\nlines 1\nbudget 100\nspe\nsource s\n";
+
+/// A block that is put is written over before the transfer is known to be done.
+const REUSE: &str =
+    "ila $3,0x100\nwrch $ch16,$3\nwrch $ch18,$0\nil $4,16\nwrch $ch19,$4\nil $5,0x20\nwrch $ch21,$5\nstqd $4,0($3)\nstop 0\n";
+
+const RACING: &str =
+    "cell-record 1\nx 0\nx 0\nx 0\nx 0\nx 0\nx 0\nx 0\np 0 0 0 0\nx 0\nx 0\nsteps 10\n";
 
 #[test]
-fn a_fetch_that_fails_names_its_file(rt: HostRuntime) -> Result<(), Fail> {
+fn a_check_needs_no_thread(rt: HostRuntime) -> Result<(), Fail> {
     let alloc = rt.alloc();
-    let named = [
-        FileId::Machine,
-        FileId::Source(0),
-        FileId::Source(1),
-        FileId::Rec,
-    ];
-    for (call, file) in named.into_iter().enumerate() {
-        let wanted = Status::Refused(Fault::ReadFault { file });
-        let (status, out) = told(
-            &rt,
-            alloc,
-            check_words(alloc)?,
-            vec![in alloc; call as u32]?,
-            Vec::new(alloc),
-        )?;
-        assert_eq!(rt; status, wanted);
-        assert_eq!(rt; out.bytes(), b"".as_slice());
-        // A run reads no record.
-        let (status, _) = told(
-            &rt,
-            alloc,
-            run_words(alloc)?,
-            vec![in alloc; call as u32]?,
-            Vec::new(alloc),
-        )?;
-        let done = file == FileId::Rec;
-        assert_eq!(rt; status, if done { Status::Done } else { wanted });
-    }
-    Ok(())
-}
-
-#[test]
-fn a_put_that_fails_is_told(rt: HostRuntime) -> Result<(), Fail> {
-    let alloc = rt.alloc();
-    let whole = format!(in alloc; "{RECORD}{STATES}")?;
-    let (status, out) = told(
+    let mut files = files(alloc, [ONE, REUSE, RACING])?;
+    let mut out = MemSink::new(alloc, 100, Vec::new(alloc))?;
+    let words = check_words(alloc)?;
+    let status = cell_quiet(alloc, words.as_slice(), &mut files, &mut out);
+    let wanted = Status::Race {
+        first: 7,
+        second: 8,
+    };
+    holds(&rt, status == wanted);
+    holds(
         &rt,
-        alloc,
-        run_words(alloc)?,
-        Vec::new(alloc),
-        Vec::new(alloc),
-    )?;
-    assert_eq!(rt; status, Status::Done);
-    assert_eq!(rt; out.bytes(), whole.as_bytes());
-    // The record is put first, and then the states.
-    for (call, bytes, taken) in [(0, 0, 0), (0, 5, 5), (1, 0, 26), (1, 5, 31)] {
-        let (status, out) = told(
-            &rt,
-            alloc,
-            run_words(alloc)?,
-            Vec::new(alloc),
-            vec![in alloc; Cut { call, bytes }]?,
-        )?;
-        assert_eq!(rt; status, Status::Refused(Fault::WriteFault));
-        assert_eq!(rt; Some(out.bytes()), whole.as_bytes().get(..taken));
-    }
-    for (bytes, taken) in [(0, 0), (5, 5)] {
-        let cut = vec![in alloc; Cut { call: 0, bytes }]?;
-        let (status, out) = told(&rt, alloc, check_words(alloc)?, Vec::new(alloc), cut)?;
-        assert_eq!(rt; status, Status::Refused(Fault::WriteFault));
-        assert_eq!(rt; Some(out.bytes()), b"accepted 1\n".get(..taken));
-    }
+        out.bytes() == b"race 7 8\nfirst p 0 0 0 0\nsecond x 0\n".as_slice(),
+    );
     Ok(())
 }

@@ -7,7 +7,7 @@ ghost use Rattle.cell_cli.specs.Words.{spoken, said, gen_said};
 use cell_base::line_text::number_at;
 
 /// What the words ask for, by their places; a word that begins with `-` is a plain word.
-#[derive(Clone, Copy, Debug)]
+#[derive(Clone, Copy)]
 pub enum Form<'a> {
     Run {
         machine: &'a str,

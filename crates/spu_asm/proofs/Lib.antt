@@ -8,3 +8,4 @@ pub mod NumbersLemmas
 pub mod OutcomeLemmas
 pub mod SectionLemmas
 pub mod SourceLemmas
+pub mod NoMemory

@@ -10,8 +10,6 @@ ghost use Rattle.spu_lex.specs.declared.LexError.TheVariants.{Memory};
 mod bytes;
 mod front;
 mod numbers;
-#[cfg(test)]
-mod tests;
 
 use front::{Fault, Piece, front_of};
 pub use numbers::number;

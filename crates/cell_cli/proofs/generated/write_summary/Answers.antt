@@ -10,6 +10,7 @@ pub returns-in-Ok-put-clause-ends : goal.returns-in-Ok-put-clause-ends
 returns-in-Ok-put-clause-ends g c =
     let is = summarizes_own c.args.n c.in-Ok.verdict _ c.as_slice.result.now c.args.machine.now c.as_slice.ensures.value c.requires.setup (record {
       run = c.steps-run.ensures.run;
+      laws = record { order = c.steps-run.ensures.order; lists = c.steps-run.ensures.lists; locks = c.steps-run.ensures.locks };
       ended = c.requires.ended;
       verdict = c.in-Ok.ensures.verdict;
       agree = c.in-Ok.ensures.agree;
@@ -21,6 +22,7 @@ pub returns-clause-ends : goal.returns-clause-ends
 returns-clause-ends g c =
     let is = summarizes_own c.args.n c.in-Ok.verdict _ c.as_slice.result.now c.args.machine.now c.as_slice.ensures.value c.requires.setup (record {
       run = c.steps-run.ensures.run;
+      laws = record { order = c.steps-run.ensures.order; lists = c.steps-run.ensures.lists; locks = c.steps-run.ensures.locks };
       ended = c.requires.ended;
       verdict = c.in-Ok.ensures.verdict;
       agree = c.in-Ok.ensures.agree;

@@ -1,15 +1,26 @@
-use Rattle.cell_cli.specs.Words.{check, asm}
-use Rattle.cell_cli.proofs.Answered.{no_usage, promised}
+use Rattle.std.proofs.Common.{refl, le_refl}
+use Rattle.cell_cli.specs.declared.fault.Fault.TheVariants.{Usage}
+use Rattle.cell_cli.specs.declared.fault.Status.TheVariants.{Refused}
+use Rattle.cell_cli.specs.Answer.{Sinks}
+use Rattle.cell_cli.specs.Promises.{Stores}
+use Rattle.cell_cli.specs.Words.{check, asm, no_form}
+use Rattle.cell_cli.proofs.Answered.{no_usage, promised, promised_still}
 use Rattle.cell_cli.proofs.program.cell_quiet.Goals as goal
 
 pub returns-in-Check : goal.returns-in-Check
 returns-in-Check g c =
     let e = c.check.ensures in
     let said = check c.in-Check.machine.now c.in-Check.record_file.now in
-    promised said _ c.in-Check.ensures _ _ _ _ _ e.same e.store_count e.sink_count e.answer e.read_fault e.quiet (no_usage said _ (λ is. cc) e.usage)
+    promised said _ c.in-Check.ensures _ _ _ _ _ (λ n is. cc) e.same e.store_count e.sink_count e.answer e.read_fault e.quiet (no_usage said _ (λ is. cc) e.usage)
 
 pub returns-in-Asm : goal.returns-in-Asm
 returns-in-Asm g c =
     let e = c.asm.ensures in
     let said = asm c.in-Asm.source.now in
-    promised said _ c.in-Asm.ensures _ _ _ _ _ e.same e.store_count e.sink_count e.answer e.read_fault e.quiet (no_usage said _ (λ is. cc) e.usage)
+    promised said _ c.in-Asm.ensures _ _ _ _ _ (λ n is. cc) e.same e.store_count e.sink_count e.answer e.read_fault e.quiet (no_usage said _ (λ is. cc) e.usage)
+
+pub returns-in-NoForm : goal.returns-in-NoForm
+returns-in-NoForm g c =
+    let store : Stores = record { files = g.T.Store.files c.args.files.now; ledger = g.T.Store.ledger c.args.files.now } in
+    let sink : Sinks = record { taken = g.K.Sink.taken c.args.out.now; faults = g.K.Sink.faults c.args.out.now } in
+    promised_still no_form _ c.in-NoForm.ensures store sink sink (Refused Usage) (le_refl sink.faults) (λ files. refl) tt refl (λ e. refl, λ e. refl)

@@ -39,7 +39,7 @@ loop-source-preserved g c = record {
       let at = c.loop-source.source-index in
       let names = map named c.args.sources.now in
       let go : Image → Task = λ image. sources_task (at + 1) (drop (at + 1) names) (c.loop-source.images.items ++ image ∷ []) next in
-      subst (λ (images : List Image). Leads told (sources_task 0 names [] next) (sources_task (at + 1) (drop (at + 1) names) images next)) (sym c.in-Ok.ensures.items)
+      subst (λ (images : List Image). Leads told (sources_task 0 names [] next) (sources_task (at + 1) (drop (at + 1) names) images next)) (sym {A = List Image} c.in-Ok.ensures.items)
       (source_comes {V = Image} told (sources_task 0 names [] next) names c.loop-source.images.items c.name.result.now c.loop-source.number at (named c.source-item.result) next go _ _ (g.T.Store.ledger c.read_source.new.files) (Ok c.in_ok-image.image)
       s.count (first_left c.args.sources.now at c.source-item.result (omega arith) c.source-item.is) c.name.ensures s.kept (s.leads told is next)
       (c.in_ok-image.ensures.comes told (s.same ∙ is) go));

@@ -8,7 +8,7 @@ pub returns-in-Ok-put_both-clause-ends : goal.returns-in-Ok-put_both-clause-ends
 returns-in-Ok-put_both-clause-ends g c = (
   c.as_slice.result.now ++ c.as_slice-2.result.now,
   prints_own c.args.machine.now _ _ _ _ _ c.requires c.steps.ensures.steps c.steps.ensures.run
-      (record { order = c.steps.ensures.order; lists = c.steps.ensures.lists; locks = c.steps.ensures.locks; recorded = c.steps.ensures.recorded })
+      (record { order = c.steps.ensures.order; lists = c.steps.ensures.lists; locks = c.steps.ensures.locks }) c.steps.ensures.recorded
       c.in-Ok-states_text.ensures.short c.in-Ok.ensures c.in-Ok-states_text.ensures.text c.as_slice.ensures.value c.as_slice-2.ensures.value,
   took _ _ _ _ c.in-Ok-put_both.field-0 c.in-Ok-put_both.ensures.takes,
 )
@@ -20,7 +20,7 @@ returns-clause-ends g c = (
     Done,
     c.as_slice.result.now ++ c.as_slice-2.result.now,
     prints_own c.args.machine.now _ _ _ _ _ c.requires c.steps.ensures.steps c.steps.ensures.run
-        (record { order = c.steps.ensures.order; lists = c.steps.ensures.lists; locks = c.steps.ensures.locks; recorded = c.steps.ensures.recorded })
+        (record { order = c.steps.ensures.order; lists = c.steps.ensures.lists; locks = c.steps.ensures.locks }) c.steps.ensures.recorded
         c.in-Ok-states_text.ensures.short c.in-Ok.ensures c.in-Ok-states_text.ensures.text c.as_slice.ensures.value c.as_slice-2.ensures.value,
     took_part _ _ _ _ c.in-Err.field-0 c.in-Err.ensures.takes,
   ),
