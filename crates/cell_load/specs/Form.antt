@@ -214,18 +214,28 @@ host_line ws = do
 
 -- ---- all lines
 
+-- what a line behind the first three says that isn't of the latest processor
+unfoldable pub shared_line : List ℕ → List (List ℕ) → Result Entry Refusal
+shared_line word ws =
+    if bytes_eq word (codes "mem") then memory_line ws
+    else if bytes_eq word (codes "host") then host_line ws
+    else if bytes_eq word (codes "show") then show_line ws
+    else Err Form
+
+-- what a line behind the first three says
+unfoldable pub body_line : List ℕ → List (List ℕ) → Result Entry Refusal
+body_line word ws =
+    if bytes_eq word (codes "spe") then spe_line ws
+    else if bytes_eq word (codes "entry") then entry_line ws
+    else if bytes_eq word (codes "code") then code_line ws
+    else if bytes_eq word (codes "bytes") then bytes_line ws
+    else if bytes_eq word (codes "source") then source_line ws
+    else shared_line word ws
+
 -- what a line says whose first word is `word`
 unfoldable pub line_says : List ℕ → List (List ℕ) → Result Entry Refusal
 line_says word ws =
     if bytes_eq word (codes "cell-machine") then head_line ws
     else if bytes_eq word (codes "lines") then lines_line ws
     else if bytes_eq word (codes "budget") then budget_line ws
-    else if bytes_eq word (codes "spe") then spe_line ws
-    else if bytes_eq word (codes "entry") then entry_line ws
-    else if bytes_eq word (codes "code") then code_line ws
-    else if bytes_eq word (codes "bytes") then bytes_line ws
-    else if bytes_eq word (codes "source") then source_line ws
-    else if bytes_eq word (codes "mem") then memory_line ws
-    else if bytes_eq word (codes "host") then host_line ws
-    else if bytes_eq word (codes "show") then show_line ws
-    else Err Form
+    else body_line word ws

@@ -80,12 +80,17 @@ abbrev pub lacks : Stage → Option Refusal
 lacks (Body c) = if c.spes == 0 then Some Form else None
 lacks stage = Some Form
 
+-- a line and the stage after it
+abbrev pub with_place : Stage → Entry → Result (Option (Entry × Stage)) Refusal
+with_place stage entry = do
+  next ← admit stage entry
+  Ok (Some (entry, next))
+
 abbrev pub words_step : Stage → List (List ℕ) → Result (Option (Entry × Stage)) Refusal
 words_step stage [] = Ok None
 words_step stage (w ∷ ws) = do
   entry ← line_says w ws
-  next ← admit stage entry
-  Ok (Some (entry, next))
+  with_place stage entry
 
 -- a line without words is skipped
 unfoldable pub line_step : Stage → List ℕ → Result (Option (Entry × Stage)) Refusal

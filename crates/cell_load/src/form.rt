@@ -4,7 +4,7 @@ ghost use Rattle.std.specs.List.{list_all};
 ghost use Rattle.std.specs.Option.{option_map};
 ghost use Rattle.cell_base.specs.Words.{words_in};
 ghost use Rattle.cell_load.specs.Entries.{entry_of};
-ghost use Rattle.cell_load.specs.Form.{Gives, is_visible, number_in, hex_of, hex_in, ended, is_name, name_of, name_in, head_line, lines_line, budget_line, spe_line, entry_line, code_line, bytes_line, source_line, memory_line, show_local_line, show_memory_line, show_line, line_says};
+ghost use Rattle.cell_load.specs.Form.{Gives, is_visible, number_in, hex_of, hex_in, ended, is_name, name_of, name_in, head_line, lines_line, budget_line, spe_line, entry_line, code_line, bytes_line, source_line, memory_line, show_local_line, show_memory_line, show_line, shared_line, body_line, line_says};
 ghost use Rattle.std.specs.Prelude.{string_bytes};
 
 use crate::host_form::host_line;
@@ -229,6 +229,42 @@ fn show_line(words: &[u8]) -> Result<Line, Refusal>
     }
 }
 
+/// What a line behind the first three says that isn't of the latest processor.
+#[tactic(auto, unfolding(crate::specs::Form::shared_line))]
+fn shared_line(alloc: Global, word: &[u8], words: &[u8]) -> Result<Line, Refusal>
+    ensures { Gives entry_of result (shared_line word.now (words_in words.now)) }
+{
+    if word == b"mem".as_slice() {
+        memory_line(alloc, words)
+    } else if word == b"host".as_slice() {
+        host_line(alloc, words)
+    } else if word == b"show".as_slice() {
+        show_line(words)
+    } else {
+        Err(Refusal::Form)
+    }
+}
+
+/// What a line behind the first three says.
+#[tactic(auto, unfolding(crate::specs::Form::body_line))]
+fn body_line(alloc: Global, word: &[u8], words: &[u8]) -> Result<Line, Refusal>
+    ensures { Gives entry_of result (body_line word.now (words_in words.now)) }
+{
+    if word == b"spe".as_slice() {
+        spe_line(words)
+    } else if word == b"entry".as_slice() {
+        entry_line(words)
+    } else if word == b"code".as_slice() {
+        code_line(alloc, words)
+    } else if word == b"bytes".as_slice() {
+        bytes_line(alloc, words)
+    } else if word == b"source".as_slice() {
+        source_line(alloc, words)
+    } else {
+        shared_line(alloc, word, words)
+    }
+}
+
 /// What a line says whose first word is `word`.
 #[tactic(auto, unfolding(crate::specs::Form::line_says))]
 pub(crate) fn line_says(alloc: Global, word: &[u8], words: &[u8]) -> Result<Line, Refusal>
@@ -240,23 +276,7 @@ pub(crate) fn line_says(alloc: Global, word: &[u8], words: &[u8]) -> Result<Line
         lines_line(words)
     } else if word == b"budget".as_slice() {
         budget_line(words)
-    } else if word == b"spe".as_slice() {
-        spe_line(words)
-    } else if word == b"entry".as_slice() {
-        entry_line(words)
-    } else if word == b"code".as_slice() {
-        code_line(alloc, words)
-    } else if word == b"bytes".as_slice() {
-        bytes_line(alloc, words)
-    } else if word == b"source".as_slice() {
-        source_line(alloc, words)
-    } else if word == b"mem".as_slice() {
-        memory_line(alloc, words)
-    } else if word == b"host".as_slice() {
-        host_line(alloc, words)
-    } else if word == b"show".as_slice() {
-        show_line(words)
     } else {
-        Err(Refusal::Form)
+        body_line(alloc, word, words)
     }
 }

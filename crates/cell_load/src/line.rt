@@ -20,7 +20,7 @@ pub(crate) enum Line {
 }
 
 /// Why a line has no place.
-#[derive(Clone, Copy, Debug, PartialEq, Eq)]
+#[derive(Clone, Copy)]
 pub(crate) enum Refusal {
     /// It is outside the form.
     Form,

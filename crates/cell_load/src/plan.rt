@@ -4,7 +4,7 @@ ghost use Rattle.cell_base.specs.Words.{lines_of, words_of};
 ghost use Rattle.cell_base.specs.Walk.{IsFirstFault, items_of, state_after};
 ghost use Rattle.cell_load.specs.Entries.{entry_of, seen};
 ghost use Rattle.cell_load.specs.Form.{Gives};
-ghost use Rattle.cell_load.specs.Order.{line_step, lacks, machine_at};
+ghost use Rattle.cell_load.specs.Order.{line_step, with_place, lacks, machine_at};
 ghost use Rattle.cell_load.specs.Plans.{IsBare, NamesBadLine, PlanGives, fault_of};
 ghost use Rattle.cell_load.specs.Sources.{named, sources_of};
 ghost use Rattle.cell_load.specs.declared.line.Stage.TheVariants.{Start};
@@ -17,8 +17,9 @@ use crate::line::{Line, Refusal, Stage};
 use crate::source::{SourceName, sources_in};
 use cell_base::line_text::{before_comment, first_line, next_word};
 use std::alloc::{AllocError, AllocFailed, Global};
+use std::error::Error;
+use std::fmt;
 use std::marker::Model;
-use thiserror::Error;
 
 /// What the lines of a machine file say, and the names of its sources.
 #[derive(Drop)]
@@ -51,17 +52,33 @@ impl Plan {
 }
 
 /// Why a text is no machine file. Lines count from 1.
-#[derive(Clone, Copy, Debug, PartialEq, Eq, Error)]
+#[derive(Clone, Copy, PartialEq, Eq)]
 pub enum PlanError {
     /// The first faulty line, which is outside the form.
-    #[error("line {line} is outside the form of a machine file")]
     BadLine { line: u32 },
     /// The first faulty line, of which a number or a count is outside its limits.
-    #[error("line {line} is outside a limit")]
     Limit { line: u32 },
-    #[error("out of memory")]
     Memory,
 }
+
+impl fmt::Display for PlanError {
+    fn fmt<W: fmt::Write>(&self, f: &mut fmt::Formatter<W>) -> fmt::Result {
+        let (line, what) = match *self {
+            PlanError::BadLine { line } => (line, "the form of a machine file"),
+            PlanError::Limit { line } => (line, "a limit"),
+            PlanError::Memory => return f.write_str("out of memory"),
+        };
+        write!(f, "line {line} is outside {what}")
+    }
+}
+
+impl fmt::Debug for PlanError {
+    fn fmt<W: fmt::Write>(&self, f: &mut fmt::Formatter<W>) -> fmt::Result {
+        fmt::Display::fmt(self, f)
+    }
+}
+
+impl Error for PlanError {}
 
 impl<T: Drop> From<AllocFailed<T>> for PlanError {
     ghost from_gives = { λ _ e. e ≡ Memory };
@@ -89,6 +106,16 @@ fn fault(line: u32, refusal: Refusal) -> PlanError
     }
 }
 
+/// A line and the stage after it.
+fn with_place(stage: Stage, line: Line) -> Result<Option<(Line, Stage)>, Refusal>
+    ensures { Gives seen result (with_place stage (entry_of line)) }
+{
+    match admit(stage, &line) {
+        Ok(stage) => Ok(Some((line, stage))),
+        Err(refusal) => Err(refusal),
+    }
+}
+
 /// What a line says and the stage after it; None of a line without words.
 #[tactic(auto, unfolding(crate::specs::Order::line_step))]
 fn line_step(alloc: Global, stage: Stage, line: &[u8]) -> Result<Option<(Line, Stage)>, Refusal>
@@ -98,9 +125,7 @@ fn line_step(alloc: Global, stage: Stage, line: &[u8]) -> Result<Option<(Line, S
     let Some((word, rest)) = next_word(before_comment(line)) else {
         return Ok(None);
     };
-    let line = line_says(alloc, word, rest)?;
-    let stage = admit(stage, &line)?;
-    Ok(Some((line, stage)))
+    with_place(stage, line_says(alloc, word, rest)?)
 }
 
 /// Keeps what the line said, and answers the stage after it.

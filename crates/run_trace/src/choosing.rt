@@ -3,8 +3,8 @@
 ghost use Rattle.std.specs.Prelude.{◌+◌, ◌*◌, ◌<◌, ◌≤◌};
 ghost use Rattle.std.specs.Iterator.{IsFinite};
 
-use crate::reading::{machine_of, numbers_of, setup_of};
-use crate::showing::{show_record, show_states};
+use crate::reading::{machine_of, numbers_of};
+use crate::showing::{show_record, show_run};
 use anyhow::Result;
 use cell_base::{Actor, Step};
 use cell_machine::Machine;
@@ -51,17 +51,15 @@ fn make_steps<I: Iterator<Item = u64> + Drop>(machine: &mut Machine, numbers: I)
 
 /// Prints the record of the run that the numbers of a file choose.
 pub fn print_chosen(rt: &HostRuntime, machine: &str, choices: &str) -> Result<()> {
-    let setup = setup_of(rt, machine)?;
     let numbers = numbers_of(rt, choices)?;
-    let mut machine = machine_of(rt, setup)?;
+    let mut machine = machine_of(rt, machine)?;
     make_steps(&mut machine, numbers.into_iter());
     show_record(rt, &machine)
 }
 
 /// Prints the record and the states of the run that the numbers from 0 on choose, to its end: the actors take turns.
 pub fn print_alone(rt: &HostRuntime, machine: &str) -> Result<()> {
-    let mut machine = machine_of(rt, setup_of(rt, machine)?)?;
+    let mut machine = machine_of(rt, machine)?;
     make_steps(&mut machine, 0..u64::MAX);
-    show_record(rt, &machine)?;
-    show_states(rt, &machine)
+    show_run(rt, &machine)
 }

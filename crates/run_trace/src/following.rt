@@ -1,23 +1,36 @@
 //! A run and the order of its steps, taken step by step.
 
-ghost use Rattle.std.specs.Prelude.{◌≡◌, IfOk};
+ghost use Rattle.std.specs.Prelude.{◌≡◌, IfOk, OnOk};
 ghost use Rattle.cell_machine.specs.Run.{Ran};
 ghost use Rattle.race_order.specs.OrderedRuns.{StandsForRun};
 
-use anyhow::{Result, bail};
+use anyhow::{Error, Result, anyhow, bail};
 use cell_base::Step;
 use cell_machine::{Effect, Machine};
 use race_order::Orderer;
 
+/// The fault of a step that isn't allowed.
+fn refused(step: Step) -> Error {
+    anyhow!("step {step:?} isn't allowed")
+}
+
 /// Makes a step, and answers its effect.
 pub fn make(machine: &mut Machine, step: Step) -> Result<Effect> {
-    let Some(effect) = machine.effect(step) else {
-        bail!("step {step:?} isn't allowed");
-    };
-    if machine.step(step).is_err() {
-        bail!("step {step:?} isn't allowed");
+    let effect = machine.effect(step);
+    match machine.step(step).ok().and(effect) {
+        Some(effect) => Ok(effect),
+        None => Err(refused(step)),
     }
-    Ok(effect)
+}
+
+/// Makes steps.
+pub fn make_all(machine: &mut Machine, steps: &[Step]) -> Result<()> {
+    for step in steps {
+        if machine.step(*step).is_err() {
+            return Err(refused(*step));
+        }
+    }
+    Ok(())
 }
 
 /// Makes a step, takes it into the order, and answers its effect.
@@ -28,13 +41,34 @@ pub fn take(orderer: &mut Orderer, machine: &mut Machine, step: Step) -> Result<
     ensures { IfOk result (λ _. StandsForRun orderer.new machine.new) }
 {
     let Some(effect) = machine.effect(step) else {
-        bail!("step {step:?} isn't allowed");
+        return Err(refused(step));
     };
     orderer.advance(step, effect)?;
     if machine.step(step).is_err() {
-        bail!("step {step:?} isn't allowed");
+        return Err(refused(step));
     }
     Ok(effect)
+}
+
+/// Makes steps, and takes them into the order.
+pub fn take_all(orderer: &mut Orderer, machine: &mut Machine, steps: &[Step]) -> Result<()>
+    ghost m: { Ran }
+    requires same { m ≡ machine.old }
+    requires stands { StandsForRun orderer.old m }
+    ensures { OnOk result (StandsForRun orderer.new machine.new) }
+{
+    for step in steps {
+        take(orderer, machine, *step)?;
+    }
+    Ok(())
+}
+
+/// The first so many steps, if there are so many.
+pub fn first_steps(steps: &[Step], count: u32) -> Result<&[Step]> {
+    match steps.split_at_checked(count as usize) {
+        Some((first, _)) => Ok(first),
+        None => bail!("the record has fewer than {count} steps"),
+    }
 }
 
 /// Whether step `i` is ordered before the last one; false where it isn't an earlier one.

@@ -1,58 +1,22 @@
 //! The files that the words name.
 
-ghost use Rattle.std.specs.Prelude.{◌≤◌, ◌<◌, IfOk, length, ◌≡◌, []};
+ghost use Rattle.std.specs.Prelude.{IfOk, ◌≡◌, []};
 
 use anyhow::{Result, bail};
-use cell_load::{SourceName, load, read_machine};
-use cell_machine::{Machine, Setup};
+use cell_machine::Machine;
+use machine_files::{bytes_of, setup_of};
 use run_record::{Recorded, read_record};
-use spu_asm::{Image, assemble};
 use std::fs;
 use std::rt::Files;
 
-/// How many bytes a text and a record may have.
-const TEXT_LIMIT: usize = 4_194_304;
-
+/// How many bytes a record may have.
 const RECORD_LIMIT: usize = 33_554_432;
 
-/// The bytes of a file, which may not be more than `limit`.
-fn bytes_of<R: Files + AllocGlobal>(rt: &R, name: &str, limit: usize) -> Result<Vec<u8>>
-    ensures { IfOk result (λ bytes. length bytes.items ≤ limit) }
+/// The machine of a machine file, at its start.
+pub fn machine_of<R: Files + AllocGlobal>(rt: &R, name: &str) -> Result<Machine>
+    ensures { IfOk result (λ machine. machine ≡ record { setup = machine.setup; steps = [] }) }
 {
-    let bytes = fs::read(rt, name)?;
-    if bytes.len() > limit {
-        bail!("{name} is too long");
-    }
-    Ok(bytes)
-}
-
-fn images_of<R: Files + AllocGlobal>(rt: &R, sources: &[SourceName]) -> Result<Vec<Image>>
-    ensures { IfOk result (λ images. length images.items ≡ length sources.now) }
-{
-    let mut images = Vec::new(rt.alloc());
-    for source in sources {
-        let text = bytes_of(rt, source.name(), TEXT_LIMIT)?;
-        images.push(assemble(rt.alloc(), text.as_slice())?)?;
-    }
-    Ok(images)
-}
-
-/// What a machine file and its sources stand for.
-pub fn setup_of<R: Files + AllocGlobal>(rt: &R, name: &str) -> Result<Setup>
-    ensures { IfOk result (λ setup. 0 < length setup.entries) }
-{
-    let text = bytes_of(rt, name, TEXT_LIMIT)?;
-    let plan = read_machine(rt.alloc(), text.as_slice())?;
-    let images = images_of(rt, plan.sources())?;
-    Ok(load(rt.alloc(), plan, images.as_slice())?)
-}
-
-/// A machine at its start.
-pub fn machine_of<R: AllocGlobal>(rt: &R, setup: Setup) -> Result<Machine>
-    requires { 0 < length setup.entries }
-    ensures { IfOk result (λ machine. machine ≡ record { setup = setup; steps = [] }) }
-{
-    match Machine::new(rt.alloc(), setup) {
+    match Machine::new(rt.alloc(), setup_of(rt, name)?) {
         Ok(machine) => Ok(machine),
         Err(_) => bail!("out of memory"),
     }
@@ -67,8 +31,14 @@ pub fn record_of<R: Files + AllocGlobal>(rt: &R, name: &str) -> Result<Recorded>
 pub fn numbers_of<R: Files + AllocGlobal>(rt: &R, name: &str) -> Result<Vec<u64>> {
     let text = fs::read_to_string(rt, name)?;
     let mut numbers = Vec::new(rt.alloc());
-    for word in text.as_str().split_whitespace() {
+    add_numbers(&mut numbers, text.as_str())?;
+    Ok(numbers)
+}
+
+/// Adds the numbers of a text.
+fn add_numbers(numbers: &mut Vec<u64>, text: &str) -> Result<()> {
+    for word in text.split_whitespace() {
         numbers.push(word.parse::<u64>()?)?;
     }
-    Ok(numbers)
+    Ok(())
 }

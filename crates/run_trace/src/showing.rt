@@ -1,10 +1,10 @@
 //! What `cell run` prints of a machine: its record, and its states.
 
-use crate::reading::{record_of, setup_of};
+use crate::following::make_all;
 use anyhow::{Result, bail};
+use cell_base::Step;
 use cell_machine::Machine;
 use cell_report::{record_text, states_text};
-use run_record::replay;
 use std::io;
 use std::io::Write;
 
@@ -26,9 +26,14 @@ pub fn show_states(rt: &HostRuntime, machine: &Machine) -> Result<()> {
     Ok(())
 }
 
-/// Prints the states after the steps of a record.
-pub fn print_states(rt: &HostRuntime, machine: &str, record: &str) -> Result<()> {
-    let setup = setup_of(rt, machine)?;
-    let record = record_of(rt, record)?;
-    show_states(rt, &replay(rt.alloc(), setup, record.steps())?)
+/// Prints the record of the steps that a machine has made, and its states.
+pub fn show_run(rt: &HostRuntime, machine: &Machine) -> Result<()> {
+    show_record(rt, machine)?;
+    show_states(rt, machine)
+}
+
+/// Makes steps, and prints the states after them.
+pub fn show_after(rt: &HostRuntime, machine: &mut Machine, steps: &[Step]) -> Result<()> {
+    make_all(machine, steps)?;
+    show_states(rt, machine)
 }

@@ -4,16 +4,27 @@ ghost use Rattle.std.specs.Prelude.{◌≡◌, ◌+◌, ◌<◌, ◌≤◌, ◌*
 ghost use Rattle.cell_machine.specs.Run.{Ran};
 ghost use Rattle.race_order.specs.OrderedRuns.{StandsForRun};
 
-use crate::following::{is_before, make, take};
-use crate::reading::{machine_of, record_of, setup_of};
+use crate::following::{is_before, make, make_all, take, take_all};
 use anyhow::Result;
 use cell_base::Step;
-use cell_machine::{Machine, Setup};
+use cell_machine::Machine;
 use race_check::check_races;
 use race_order::Orderer;
-use run_record::replay;
 use std::fs;
 use std::time::Instant;
+
+/// How steps are followed.
+#[derive(Clone, Copy)]
+pub enum Way {
+    /// By a machine alone.
+    Alone,
+    /// With an orderer.
+    Ordered,
+    /// With an orderer, to which questions are put at each step.
+    Asking,
+    /// By a machine, whose run is then searched for races.
+    Races,
+}
 
 /// How many questions are put at each step.
 const QUESTIONS: u32 = 4;
@@ -22,18 +33,6 @@ const QUESTIONS: u32 = 4;
 fn follow(machine: &mut Machine, steps: &[Step]) -> Result<()> {
     for step in steps {
         make(machine, *step)?;
-    }
-    Ok(())
-}
-
-/// Makes the steps and takes them into the order.
-fn follow_ordered(orderer: &mut Orderer, machine: &mut Machine, steps: &[Step]) -> Result<()>
-    ghost m: { Ran }
-    requires same { m ≡ machine.old }
-    requires stands { StandsForRun orderer.old m }
-{
-    for step in steps {
-        take(orderer, machine, *step)?;
     }
     Ok(())
 }
@@ -90,58 +89,90 @@ fn print_time(rt: &HostRuntime, what: &str, start: &Instant) -> Result<()> {
     Ok(())
 }
 
-fn time_alone(rt: &HostRuntime, setup: Setup, steps: &[Step]) -> Result<()>
-    requires { 0 < length setup.entries }
-{
-    let mut machine = machine_of(rt, setup)?;
+/// Times the steps without an order.
+fn time_made(rt: &HostRuntime, machine: &mut Machine, steps: &[Step]) -> Result<()> {
     let start = Instant::now(rt)?;
-    follow(&mut machine, steps)?;
+    follow(machine, steps)?;
     print_time(rt, "alone", &start)
 }
 
-fn time_ordered(rt: &HostRuntime, setup: Setup, steps: &[Step]) -> Result<()>
-    requires { 0 < length setup.entries }
+/// Times the steps with their order.
+fn time_taken(
+    rt: &HostRuntime,
+    orderer: &mut Orderer,
+    machine: &mut Machine,
+    steps: &[Step],
+) -> Result<()>
+    ghost m: { Ran }
+    requires same { m ≡ machine.old }
+    requires stands { StandsForRun orderer.old m }
 {
-    let mut orderer = Orderer::new(rt.alloc(), &setup)?;
-    let mut machine = machine_of(rt, setup)?;
     let start = Instant::now(rt)?;
-    follow_ordered(&mut orderer, &mut machine, steps)?;
+    take_all(orderer, machine, steps)?;
     print_time(rt, "ordered", &start)?;
     print_memory(rt)
 }
 
-fn time_asking(rt: &HostRuntime, setup: Setup, steps: &[Step]) -> Result<()>
-    requires { 0 < length setup.entries }
+/// Times the steps with their order and questions.
+fn time_asked(
+    rt: &HostRuntime,
+    orderer: &mut Orderer,
+    machine: &mut Machine,
+    steps: &[Step],
+) -> Result<()>
+    ghost m: { Ran }
+    requires same { m ≡ machine.old }
+    requires stands { StandsForRun orderer.old m }
 {
-    let mut orderer = Orderer::new(rt.alloc(), &setup)?;
-    let mut machine = machine_of(rt, setup)?;
     let start = Instant::now(rt)?;
-    let yes = follow_asking(&mut orderer, &mut machine, steps)?;
+    let yes = follow_asking(orderer, machine, steps)?;
     print_time(rt, "asking", &start)?;
     println!(rt; "answered by yes {yes}")?;
     Ok(())
 }
 
-/// The search for races, on a machine that has made the run.
-fn time_races(rt: &HostRuntime, setup: Setup, steps: &[Step]) -> Result<()>
-    requires { 0 < length setup.entries }
+/// Times the steps with their order, with questions or without, from a machine's start.
+fn time_order(rt: &HostRuntime, asks: bool, machine: &mut Machine, steps: &[Step]) -> Result<()>
+    requires { machine.old ≡ record { setup = machine.old.setup; steps = [] } }
 {
-    let machine = replay(rt.alloc(), setup, steps)?;
+    let mut orderer = Orderer::new(rt.alloc(), machine.setup())?;
+    if asks {
+        time_asked(rt, &mut orderer, machine, steps)
+    } else {
+        time_taken(rt, &mut orderer, machine, steps)
+    }
+}
+
+/// Times the search for races, on a machine that has made the run.
+fn time_search(rt: &HostRuntime, machine: &Machine) -> Result<()> {
     let start = Instant::now(rt)?;
-    let verdict = check_races(rt.alloc(), &machine)?;
+    let verdict = check_races(rt.alloc(), machine)?;
     print_time(rt, "races", &start)?;
     println!(rt; "{verdict:?}")?;
     Ok(())
 }
 
-pub fn print_times(rt: &HostRuntime, machine: &str, record: &str) -> Result<()> {
-    let record = record_of(rt, record)?;
-    let steps = record.steps();
+/// Makes the steps, and times the search for races.
+fn time_races(rt: &HostRuntime, machine: &mut Machine, steps: &[Step]) -> Result<()> {
+    make_all(machine, steps)?;
+    time_search(rt, machine)
+}
+
+/// Prints how many steps there are, and the most memory that was in use.
+pub fn print_count(rt: &HostRuntime, steps: &[Step]) -> Result<()> {
     let count = steps.len();
     println!(rt; "steps {count}")?;
-    print_memory(rt)?;
-    time_alone(rt, setup_of(rt, machine)?, steps)?;
-    time_ordered(rt, setup_of(rt, machine)?, steps)?;
-    time_asking(rt, setup_of(rt, machine)?, steps)?;
-    time_races(rt, setup_of(rt, machine)?, steps)
+    print_memory(rt)
+}
+
+/// Prints how long it takes to follow steps one way, from a machine's start.
+pub fn time_steps(rt: &HostRuntime, way: Way, machine: &mut Machine, steps: &[Step]) -> Result<()>
+    requires { machine.old ≡ record { setup = machine.old.setup; steps = [] } }
+{
+    match way {
+        Way::Alone => time_made(rt, machine, steps),
+        Way::Ordered => time_order(rt, false, machine, steps),
+        Way::Asking => time_order(rt, true, machine, steps),
+        Way::Races => time_races(rt, machine, steps),
+    }
 }

@@ -1,11 +1,10 @@
 //! The steps of a run with their effects, and what is ordered before each.
 
-ghost use Rattle.std.specs.Prelude.{◌≡◌, ◌+◌, ◌*◌, ◌<◌, ◌≤◌, length};
+ghost use Rattle.std.specs.Prelude.{◌≡◌, ◌+◌, ◌*◌, ◌<◌, ◌≤◌, [], length};
 ghost use Rattle.cell_machine.specs.Run.{Ran};
 ghost use Rattle.race_order.specs.OrderedRuns.{StandsForRun};
 
 use crate::following::{is_before, take};
-use crate::reading::{machine_of, record_of, setup_of};
 use anyhow::Result;
 use cell_base::Step;
 use cell_machine::Machine;
@@ -51,10 +50,10 @@ fn print_steps<R: Print + AllocGlobal>(
     Ok(())
 }
 
-pub fn print_trace(rt: &HostRuntime, machine: &str, record: &str) -> Result<()> {
-    let setup = setup_of(rt, machine)?;
-    let record = record_of(rt, record)?;
-    let mut orderer = Orderer::new(rt.alloc(), &setup)?;
-    let mut machine = machine_of(rt, setup)?;
-    print_steps(rt, &mut orderer, &mut machine, record.steps())
+/// Follows steps from a machine's start, and prints them with what is ordered before each.
+pub fn show_trace(rt: &HostRuntime, machine: &mut Machine, steps: &[Step]) -> Result<()>
+    requires { machine.old ≡ record { setup = machine.old.setup; steps = [] } }
+{
+    let mut orderer = Orderer::new(rt.alloc(), machine.setup())?;
+    print_steps(rt, &mut orderer, machine, steps)
 }

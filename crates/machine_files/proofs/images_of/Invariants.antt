@@ -1,5 +1,5 @@
 use Rattle.std.specs.Prelude.{◌≡◌, length}
-use Rattle.run_trace.proofs.reading.images_of.Given as goal
+use Rattle.machine_files.proofs.images_of.Given as goal
 
 -- each source so far has its image
 abbrev pub invariant-loop-source : goal.invariant-loop-source

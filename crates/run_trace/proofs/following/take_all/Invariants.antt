@@ -1,5 +1,5 @@
 use Rattle.race_order.specs.OrderedRuns.{StandsForRun}
-use Rattle.run_trace.proofs.timing.follow_ordered.Given as goal
+use Rattle.run_trace.proofs.following.take_all.Given as goal
 
 abbrev pub ghost-take : goal.ghost-take
 ghost-take g a = a.machine.now
