@@ -1,0 +1,11 @@
+mod Words
+mod Overs
+mod Bests
+mod Making
+mod Determined
+mod Places
+mod Counted
+mod Taking
+mod Inside
+mod Same
+mod Origins

@@ -1,0 +1,13 @@
+pub mod Ways
+pub mod Draws
+pub mod Actors
+pub mod Better
+pub mod Choices
+pub mod Ends
+pub mod Runs
+pub mod Counts
+pub mod Outcomes
+pub mod Hunts
+pub mod Takes
+pub mod Sites
+pub mod Sought

@@ -1,0 +1,22 @@
+//! Many runs of one machine, in orders that a seed chooses, each searched for races.
+//!
+//! A race that shows only once in many runs shows in one of them. Every actor of a machine has a key, and of those that have an allowed step
+//! the one with the greatest key makes one; the ways of a hunt differ in how often keys are drawn anew, and in whose keys weigh more.
+#![tactic(auto)]
+
+mod actors;
+mod chooser;
+mod draws;
+mod error;
+mod found;
+mod outcome;
+mod running;
+mod site;
+mod way;
+
+pub use error::HuntError;
+pub use found::{Found, Hunted, outcome_of_seed};
+pub use outcome::{Outcome, outcome_of};
+pub use running::run_of_seed;
+pub use site::{Site, Sites};
+pub use way::{WAYS, Way};
