@@ -3,22 +3,22 @@
 # another one. What mends it is fence.s: the same tag for both.
 	.text
 _start:	ila	$3,block
-	wrch	$ch16,$3	# MFC_LSA; the address is 0
+	wrch	$ch16,$3	# MFC_LSA; MFC_EAL is 0
 	il	$4,128
 	wrch	$ch19,$4	# MFC_Size
 	il	$5,1
-	wrch	$ch20,$5	# MFC_TagID
+	wrch	$ch20,$5	# MFC_TagID: 1
 	il	$6,0x40
-	wrch	$ch21,$6	# MFC_Cmd: GET
+	wrch	$ch21,$6	# MFC_Cmd: GET of the block from 0
 	wrch	$ch18,$4	# MFC_EAL: 128
 	il	$5,2
-	wrch	$ch20,$5	# MFC_TagID
-	il	$7,0x22		# PUTF
-	wrch	$ch21,$7	# MFC_Cmd
+	wrch	$ch20,$5	# MFC_TagID: 2
+	il	$7,0x22		# with a fence
+	wrch	$ch21,$7	# MFC_Cmd: PUTF of the block to 128
 	il	$8,6
 	wrch	$ch22,$8	# MFC_WrTagMask: tags 1 and 2
 	il	$9,2
-	wrch	$ch23,$9	# MFC_WrTagUpdate: when all of both is done
+	wrch	$ch23,$9	# MFC_WrTagUpdate: when nothing of them is outstanding
 	rdch	$10,$ch24
 	stop	1
 

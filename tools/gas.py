@@ -1,0 +1,496 @@
+"""Rewrites sources of GNU as for SPUs, a compiler's or hand-written, in the language of docs/ASSEMBLER.md: statement by statement."""
+import collections
+import itertools
+import re
+
+from gas_expressions import ATOM, CHARACTERS, NUMERIC_LABEL, Expression, Unwritable, Value, combined
+from language import CHANNEL, DATA, FORMS, HIDING, NAME, NUMBER, REGISTER, RELATIVE_FORMS, SECTIONS, STRINGS
+from language import cut, is_text_section, operand_forms, without_comments
+
+# Directives that say nothing about the bytes of a program.
+DROPPED = set(
+    ".file .global .globl .type .size .ident .local .extern .weak .loc .hidden .internal .protected .title .version"
+    " .eject .psize .list .nolist .sbttl .symver".split()
+)
+SETS = (".set", ".equ", ".equiv")
+RENAMED = {".zero": ".space", ".half": ".hword", "hbrp": "lnop", "syncc": "sync"}
+CHANNELS = {
+    "mfc_rdtagmask": 12, "mfc_lsa": 16, "mfc_eah": 17, "mfc_eal": 18, "mfc_size": 19, "mfc_tagid": 20, "mfc_cmd": 21,
+    "mfc_wrtagmask": 22, "mfc_wrtagupdate": 23, "mfc_rdtagstat": 24, "mfc_rdliststallstat": 25, "mfc_wrliststallack": 26,
+    "mfc_rdatomicstat": 27, "spu_wroutmbox": 28, "spu_rdinmbox": 29, "spu_wroutintrmbox": 30,
+}  # fmt: skip
+STATEMENT = re.compile(r"\s*((?:[\w.$]+\s*:\s*)*)(?:([\w.$]+)\s*(=(?!=))?\s*(.*?))?\s*", re.S | re.A)
+MOST_REPEATS = 4096
+MOST_ALIGNED = 12
+
+Statement = collections.namedtuple("Statement", "labels word rest")
+
+
+def statements(text):
+    """Each statement of a source with the number of its line."""
+    for number, line in enumerate(without_comments(text).split("\n"), 1):
+        for part in cut(line, ";"):
+            found = STATEMENT.fullmatch(part)
+            labels, word, equal, rest = found.groups() if found else ("", part.split()[0], None, "")
+            labels = [label.strip() for label in labels.split(":")[:-1]]
+            if equal:
+                word, rest = ".set", f"{word},{rest}"
+            for rest in operands_apart(word, rest or ""):
+                yield number, Statement(labels, word or "", rest)
+                labels = []
+
+
+def comments(text):
+    """What the comments of each line say, by the line's number."""
+    said, number, end = collections.defaultdict(list), 1, 0
+    for found in HIDING.finditer(text):
+        number += text.count("\n", end, found.start())
+        end = found.start()
+        if found[0][0] in "#/":
+            bare = found[0].removeprefix("/*").removesuffix("*/") if found[0][0] == "/" else found[0][1:]
+            for k, line in enumerate(bare.split("\n")):
+                said[number + k].append(line.strip(" \t\r*"))
+    return {number: " ".join(filter(None, words)) for number, words in said.items()}
+
+
+def operands_apart(word, rest):
+    """The operands, each by itself where a directive has several and `.` among them: it is the address of its own."""
+    parts = cut(rest, ",") if word in DATA else []
+    return parts if len(parts) > 1 and any("." in ATOM.findall(part) for part in parts) else [rest]
+
+
+class Source:
+    """One source: its statements, and which names it defines, gives to others, or sets to a value."""
+
+    def __init__(self, name, text):
+        self.name = name
+        self.statements, self.comments = [], comments(text)
+        self.labels, self.shared, self.sets, self.kept_local = set(), set(), {}, set()
+        for number, statement in statements(text):
+            if statement.word == ".end":
+                break
+            self.statements.append((number, statement))
+            self.labels.update(label for label in statement.labels if not label.isdecimal())
+            names = [part.strip() for part in cut(statement.rest, ",")]
+            if statement.word in (".global", ".globl", ".weak"):
+                self.shared.update(names)
+            elif statement.word == ".local":
+                self.kept_local.update(names)
+            elif statement.word in SETS and names[1:] == ["."]:
+                self.labels.add(names[0])
+            elif statement.word in SETS and len(names) == 2:
+                self.sets[names[0]] = names[1]
+            elif statement.word in (".comm", ".lcomm"):
+                (self.kept_local if statement.word == ".lcomm" else self.shared).add(names[0])
+
+    def own(self):
+        """The names that mean something in this file alone."""
+        return (self.labels | self.kept_local) - (self.shared - self.kept_local)
+
+
+def length(lines):
+    """How many bytes lines of the language take, those that change the address apart."""
+    return sum(map(line_length, lines))
+
+
+def line_length(line):
+    word, _, rest = line.strip().partition("\t")
+    if word in DATA:
+        return DATA[word][0] * len(cut(rest, ","))
+    if word in STRINGS:
+        return len(re.findall(r"\\[0-7]{1,3}|\\.|.", rest[1:-1], re.S)) + (word != ".ascii")
+    if word == ".space":
+        return int(rest)
+    return 0 if word.startswith(".") or not word else 4
+
+
+class Writer:
+    """Rewrites the statements of one source after the other.
+
+    An earlier writer of the same sources, where there is one, tells the places of labels and the values of names that
+    later lines define. A place is whether the label stands in the text, how often the address there was changed to one
+    that isn't known here, and the bytes behind that.
+    """
+
+    def __init__(self, sources, earlier):
+        self.sources, self.earlier, self.places, self.values = sources, earlier, {}, {}
+        self.addresses = {True: (0, 0), False: (0, 0)}  # of the text and of the data
+        self.current = (".text", "")  # the section that the lines so far end in
+        self.forms = operand_forms()
+        self.lines, self.faults, self.commons = [], [], {}
+        self.notes = []  # for each line where it comes from, and its comment
+        self.names = set().union(*(source.labels | source.kept_local | source.shared for source in sources))
+        counts = collections.Counter(
+            name for source in sources for name in source.labels | source.kept_local | source.shared
+        )
+        self.endings = [
+            {name: self.fresh(f"{name}.{number}") for name in source.own() if counts[name] > 1}
+            for number, source in enumerate(sources)
+        ]
+
+    def fresh(self, name):
+        """The name, or a longer one that no source has; it is taken from then on."""
+        while name in self.names:
+            name += "_"
+        self.names.add(name)
+        return name
+
+    def write(self):
+        for number, source in enumerate(self.sources):
+            self.begin(number, source)
+            for line, statements_of in itertools.groupby(source.statements, lambda entry: entry[0]):
+                self.line, before = line, len(self.lines)
+                for _, statement in statements_of:
+                    self.checked(statement)
+                self.add_notes(before)
+        self.place_commons()
+
+    def checked(self, statement):
+        try:
+            self.statement(statement)
+        except Unwritable as why:
+            self.faults.append((self.source.name, self.line, str(why)))
+
+    def origin(self):
+        return f"{self.source.name}:{self.line}"
+
+    def add_notes(self, before):
+        """Says where the lines from a place on come from, and keeps the comment, on a line of its own where no line was written."""
+        said = self.source.comments.get(self.line, "")
+        if len(self.lines) == before:
+            if not said or self.section[1].startswith(".debug"):
+                return
+            self.lines.append("")
+        self.notes += [""] * (before - len(self.notes)) + [self.origin() if self.lines[before] else ""]
+        self.notes[before] = f"{self.notes[before]} {said}".strip()
+        self.notes += [self.origin()] * (len(self.lines) - len(self.notes))
+
+    def text(self):
+        """What was written, each line with where it comes from."""
+        noted = itertools.zip_longest(self.lines, self.notes, fillvalue="")
+        return "".join(f"{line}\t# {note}\n" if line and note else f"# {note}\n" if note else f"{line}\n" for line, note in noted)
+
+    def begin(self, number, source):
+        """Each source begins in the text, with its own numeric labels and sets."""
+        self.source, self.ending, self.line = source, self.endings[number], 1
+        self.section = self.previous = (".text", "")
+        self.stack, self.number = [], number
+        # a value with `.` in it holds from its line on, every other in the lines before too
+        self.sets = {name: value for name, value in source.sets.items() if "." not in ATOM.findall(value)}
+        self.open_sets = set()
+        self.counts, self.numeric, self.here = collections.Counter(), {}, None
+        self.lines += self.changed_section()
+
+    # Names and expressions
+
+    def renamed(self, name):
+        if not NAME.fullmatch(name):
+            raise Unwritable(f"`{name}` is no name")
+        return self.ending.get(name, name)
+
+    def place(self):
+        in_text = is_text_section(*self.section)
+        return in_text, *self.addresses[in_text]
+
+    def distance(self, left, right):
+        """How many bytes the first label stands behind the second."""
+        if not self.earlier:
+            return 0
+        places = [self.earlier.places.get(name) for name in (left, right)]
+        if None in places or places[0][:2] != places[1][:2]:
+            raise Unwritable(f"the distance of `{left}` and `{right}` isn't known here")
+        return places[0][2] - places[1][2]
+
+    def numeric_label(self, digits, count):
+        """The label that stands for the numeric label of these digits that is defined as the count-th."""
+        key = (digits, count)
+        if key not in self.numeric:
+            self.numeric[key] = self.fresh(f".L{digits}_{count}.{self.number}")
+        return self.numeric[key]
+
+    def look_up(self, word):
+        """The value of a name, of `.`, or of a numeric label such as 1b."""
+        if found := NUMERIC_LABEL.fullmatch(word):
+            count = self.counts[found[1]] + (found[2] == "f")
+            if count == 0:
+                raise Unwritable(f"no line before defines the label {found[1]}")
+            return Value(self.numeric_label(found[1], count), 0)
+        if word == ".":
+            self.here = self.here or self.fresh(f".Lhere{len(self.lines)}")
+            self.places[self.here] = self.place()
+            return Value(self.here, 0)
+        if word not in self.sets:
+            if word in self.source.sets:
+                return self.later_value(word)
+            return Value(self.renamed(word), 0)
+        if word in self.open_sets:
+            raise Unwritable(f"`{word}` is set to a value of itself")
+        self.open_sets.add(word)
+        try:
+            return Expression(self.sets[word], self).value()
+        finally:
+            self.open_sets.discard(word)
+
+    def later_value(self, name):
+        """The value to which a later line sets a name."""
+        if not self.earlier:
+            return Value(None, 0)
+        if (self.number, name) not in self.earlier.values:
+            raise Unwritable(f"`{name}` is used before it is set")
+        return self.earlier.values[self.number, name]
+
+    def constant(self, text, what):
+        value = Expression(text, self).value()
+        if value.name or value.number < 0:
+            raise Unwritable(f"{what} has to be a number that isn't negative")
+        return value.number
+
+    def expression(self, text, is_distance=False):
+        """An expression as the language writes it: a number, a label, or a label with a number added."""
+        text = text.strip()
+        half = re.search(r"@[hl]$", text)
+        value = Expression(text[: half.start()] if half else text, self).value()
+        if value.name is None and is_distance:
+            value = combined("+", value, self.look_up("."))
+        if value.name is None:
+            number = value.number
+            if half:
+                number = number >> 16 if half[0] == "@h" else number & 0xFFFF
+            return text if NUMBER.fullmatch(text) else str(number)
+        return f"{value.name}{value.number:+d}"[: None if value.number else -2] + (half[0] if half else "")
+
+    def operand(self, text, is_distance):
+        text = text.strip()
+        if found := re.fullmatch(r"(.*)\(\s*(\$\w+)\s*\)", text, re.S):
+            return f"{self.expression(found[1] or '0')}({found[2].lower()})"
+        if text.startswith("$"):
+            register = text[1:].lower()
+            return f"$ch{CHANNELS[register]}" if register in CHANNELS else f"${register}"
+        return self.expression(text, is_distance)
+
+    # Statements
+
+    def statement(self, statement):
+        labels = ""
+        for label in statement.labels:
+            if label.isdecimal():
+                self.counts[label] += 1
+                label = self.numeric_label(label, self.counts[label])
+            else:
+                label = self.renamed(label)
+            self.places[label] = self.place()
+            labels += f"{label}:"
+        if self.section[1].startswith(".debug") and statement.word not in SECTIONS | {".previous", ".popsection"}:
+            return
+        self.here, before = None, self.section
+        lines = self.rewritten(RENAMED.get(statement.word, statement.word), statement.rest)
+        if self.here:
+            labels += f"{self.here}:"
+        if self.section == before:
+            self.move(lines)
+        if labels and lines and not lines[0].startswith("\t."):
+            lines[0] = labels + lines[0]
+        elif labels:
+            self.lines.append(labels)
+        self.lines += lines
+
+    def move(self, lines):
+        """Moves the address of the section behind lines."""
+        in_text, changes, address = self.place()
+        word, _, rest = lines[0].strip().partition("\t") if lines else ("", "", "")
+        if word == ".align":
+            size = 1 << max(int(rest), 2 if in_text else 0)
+            address = -(-address // size) * size
+            changes += not in_text and int(rest) > 7  # the data begin at a multiple of 128
+        elif word == ".org":
+            address, changes = int(rest), changes + 1
+        self.addresses[in_text] = changes, address + length(lines)
+
+    def rewritten(self, word, rest):
+        """The lines of the language that stand for a statement."""
+        if not word.startswith("."):
+            return self.instruction(word.lower(), rest) if word else []
+        if word in SECTIONS | {".pushsection", ".popsection", ".previous"}:
+            return self.section_line(word, rest)
+        if word in DATA or word in STRINGS:
+            return self.data(word, rest)
+        if word in SETS:
+            return self.set_name(rest)
+        if word in (".comm", ".lcomm"):
+            return self.common(rest)
+        if word in (".align", ".p2align", ".balign"):
+            return self.alignment(word, rest)
+        if word in (".space", ".skip", ".fill"):
+            return self.filling(word, rest)
+        if word == ".org":
+            return [f"\t.org\t{self.constant(rest, 'the address')}"]
+        if word in DROPPED or word.startswith(".cfi_"):
+            return []
+        raise Unwritable(f"there is no `{word}` in this language")
+
+    def instruction(self, word, rest):
+        if self.forms.get(word) is None:
+            raise Unwritable(f"`{word}` is no instruction of the integer part")
+        form = self.forms[word]
+        if form in ("OptionalRegister", "Bare"):
+            return [f"\t{word}"]
+        if form == "Code" and not rest:
+            rest = "0"
+        operands = [self.operand(part, form in RELATIVE_FORMS) for part in cut(rest, ",")]
+        if not fits_form(operands, FORMS[form][0].split(",")):
+            raise Unwritable(f"`{word}` takes {FORMS[form][0]}")
+        return [f"\t{word}\t{','.join(operands)}"]
+
+    def section_line(self, word, rest):
+        """Changes the section."""
+        if word == ".previous":
+            chosen = self.previous
+        elif word == ".popsection":
+            if not self.stack:
+                raise Unwritable("`.popsection` without a `.pushsection` before it")
+            chosen = self.stack.pop()
+        elif word == ".pushsection":
+            self.stack.append(self.section)
+            chosen = section_named(rest)
+        elif word == ".section":
+            chosen = section_named(rest)
+        elif rest in ("", "0"):
+            chosen = word, ""
+        else:
+            raise Unwritable("there are no numbered subsections")
+        self.previous, self.section = self.section, chosen
+        return self.changed_section()
+
+    def changed_section(self):
+        """The line that changes to the section, where that isn't the present one; those of debugging are left out."""
+        if self.section == self.current or self.section[1].startswith(".debug"):
+            return []
+        self.current = self.section
+        return ["\t".join(("", *self.section)).rstrip()]
+
+    def data(self, word, rest):
+        small = word in STRINGS or DATA[word][0] < 4
+        if small and is_text_section(*self.section):
+            raise Unwritable(f"`{word}` stands in data only")
+        if word in STRINGS:
+            return [f"\t{word}\t{string(part.strip())}" for part in cut(rest, ",")]
+        return [f"\t{word}\t{','.join(self.expression(part) for part in cut(rest, ','))}"]
+
+    def set_name(self, rest):
+        """Sets a name to a value, from here on; a name that is set to the present address is a label."""
+        name, value = ([part.strip() for part in cut(rest, ",")] + [""])[:2]
+        if value == ".":
+            self.places[self.renamed(name)] = self.place()
+            return [f"{self.renamed(name)}:"]
+        value = Expression(value, self).value()
+        self.values.setdefault((self.number, name), value)
+        number = f"{value.number:+d}"
+        self.sets[name] = f"{value.name}{number}" if value.name else number
+        return []
+
+    def common(self, rest):
+        name, size, align = ([part.strip() for part in cut(rest, ",")] + ["", "16"])[:3]
+        name, size = self.renamed(name), self.constant(size, "a size")
+        power = power_of_two(self.constant(align or "16", "an alignment"))
+        before = self.commons.get(name, (0, 0, self.origin()))
+        self.commons[name] = (max(size, before[0]), max(power, before[1]), before[2])
+        return []
+
+    def alignment(self, word, rest):
+        number = self.constant(cut(rest, ",")[0] or "0", "an alignment")
+        if word == ".balign":
+            number = power_of_two(number)
+        if number > MOST_ALIGNED:
+            raise Unwritable(f"the greatest alignment is 2^{MOST_ALIGNED}")
+        return [f"\t.align\t{number}"]
+
+    def filling(self, word, rest):
+        """Bytes of one value: as zeros that are skipped, or written out."""
+        parts = [part.strip() for part in cut(rest, ",")]
+        count = self.constant(parts[0], "a count")
+        size = 1
+        if word == ".fill":
+            size = self.constant(parts[1], "a size") if len(parts) > 1 else 1
+            parts = parts[1:]
+        value = Expression(parts[1], self).value() if len(parts) > 1 else Value(None, 0)
+        if count == 0 or value == Value(None, 0):
+            return [f"\t.space\t{count * size}"]
+        words = {1: ".byte", 2: ".short", 4: ".long", 8: ".quad"}
+        if value.name or size not in words or count > MOST_REPEATS:
+            raise Unwritable(f"`{word}` with this value, size or count")
+        return self.data(words[size], ",".join([str(value.number)] * count))
+
+    def place_commons(self):
+        """What the sources hold in common and none defines stands behind all else."""
+        defined = {self.endings[n].get(name, name) for n, source in enumerate(self.sources) for name in source.labels}
+        commons = {name: sizes for name, sizes in self.commons.items() if name not in defined}
+        if commons:
+            self.lines.append("\t.bss")
+        self.notes += [""] * (len(self.lines) - len(self.notes))
+        for name, (size, power, origin) in commons.items():
+            self.lines += [f"\t.align\t{power}", f"{name}:", f"\t.space\t{size}"]
+            self.notes += [origin] * 3
+
+
+def fits_form(operands, form):
+    """Whether operands are as many as a form has, with registers and channels where it has them."""
+    return len(operands) == len(form) and all(map(fits_kind, operands, form))
+
+
+def fits_kind(operand, kind):
+    if kind in ("rt", "ra", "rb", "rc"):
+        return REGISTER.fullmatch(operand)
+    if kind == "channel":
+        return CHANNEL.fullmatch(operand)
+    before, base, _ = operand.partition("(")
+    if kind.endswith("(ra)") and not REGISTER.fullmatch(operand[len(before) + 1 : -1]):
+        return False
+    return not operand.startswith("$") and bool(base) == kind.endswith(")")
+
+
+def section_named(rest):
+    """The section of a `.section` line; one that holds code under another name is a part of the text."""
+    name, flags = ([part.strip().strip('"') for part in cut(rest, ",")] + [""])[:2]
+    is_code = "x" in flags and not is_text_section(".section", name)
+    return ".section", f".text.{name.lstrip('.')}" if is_code else name
+
+
+def power_of_two(number):
+    """Which power of two a number is."""
+    if number < 1 or number & (number - 1):
+        raise Unwritable(f"{number} is no power of two")
+    return number.bit_length() - 1
+
+
+def string(text):
+    """A string with the escapes of the language."""
+
+    def escape(found):
+        word = found[1]
+        if word[0] == "x":
+            return f"\\{int(word[1:], 16) & 0xFF:03o}"
+        if word in ("b", "f"):
+            return f"\\{CHARACTERS[word]:03o}"
+        return found[0]
+
+    if not re.fullmatch(r'"(?:\\.|[^"\\])*"', text, re.S):
+        raise Unwritable("strings stand in double quotes, with commas between")
+    return re.sub(r"\\(x[0-9A-Fa-f]+|.)", escape, text, flags=re.S)
+
+
+def written(sources):
+    """The writer of these sources that knew all places and values from an earlier one, which found the same."""
+    writer = None
+    for _ in range(4):
+        earlier, writer = writer, Writer(sources, writer)
+        writer.write()
+        if earlier and (writer.places, writer.values) == (earlier.places, earlier.values):
+            break
+    else:
+        writer.faults.append((sources[0].name, 1, "the addresses depend on distances that depend on them"))
+    return writer
+
+
+def refused_lines(name, text):
+    """The numbers of the lines of a source that can't be rewritten."""
+    return {line for _, line, _ in written([Source(name, text.replace("\r\n", "\n"))]).faults}

@@ -1,0 +1,113 @@
+"""Where the instructions of a machine come from: of each processor's addresses the file, the line and the text that was placed there."""
+import pathlib
+import re
+
+from language import without_comments
+from placed import LABELS, placed_lines
+from runs import Refused
+
+ORIGIN = re.compile(r"\s*(\S+:\d+)(?:\s|$)")  # what from_gas puts at the front of a line's comment
+# The opcodes of branches that set a link, and of the bits of a word that they are.
+CALLS = {(23, 0x66), (23, 0x62), (21, 0x1A9)}
+MOST_CALLS = 64  # nested calls that are kept in mind
+
+
+class Site:
+    """A line that placed an instruction."""
+
+    def __init__(self, file, number, text, word, origin=None):
+        self.file, self.number, self.text, self.word, self.origin = file, number, text, word, origin
+
+    def __str__(self):
+        place = f"{self.origin} ({self.file}:{self.number})" if self.origin else f"{self.file}:{self.number}"
+        return f"{place}: {self.text}"
+
+    def is_call(self):
+        return any(self.word >> shift == opcode for shift, opcode in CALLS)
+
+
+def statement_of(text):
+    """A line's statement without its labels, and where it came from by its comment."""
+    bare = without_comments(text)
+    _, word, rest = LABELS.fullmatch(bare).groups()
+    found = ORIGIN.match(text.partition("#")[2])
+    return " ".join((word + rest).split()), found[1] if found else None
+
+
+def source_sites(name):
+    """The sites of a source's text and data, by their addresses."""
+    try:
+        lines = placed_lines(name)
+    except OSError as why:
+        raise Refused(f"{name}: {why.strerror}") from None
+    except ValueError as why:
+        raise Refused(f"{name}: {why}") from None
+    sites = {}
+    for line in lines:
+        statement, origin = statement_of(line.text)
+        for at in range(0, len(line.data), 4):
+            word = int.from_bytes(line.data[at : at + 4].ljust(4, b"\0"), "big")
+            sites[line.address + at] = Site(name, line.number, statement, word, origin)
+    return sites
+
+
+def code_sites(name, number, address, digits):
+    """The sites of a `code` or `bytes` line of a machine file."""
+    words = {at: digits[2 * at : 2 * at + 8].ljust(8, "0") for at in range(0, len(digits) // 2, 4)}
+    return {address + at: Site(name, number, f"the word 0x{word}", int(word, 16)) for at, word in words.items()}
+
+
+class Sites:
+    """The sites of each processor of a machine file, and the lines of the host's script."""
+
+    def __init__(self, machine):
+        self.machine, self.of_processor, self.script = machine, [], []
+        sources = {}
+        for number, line in enumerate(pathlib.Path(machine).read_text(errors="backslashreplace").splitlines(), 1):
+            words = line.split("#")[0].split()
+            if words[:1] == ["spe"]:
+                self.of_processor.append({})
+            elif words[:1] == ["source"]:
+                if words[1] not in sources:
+                    sources[words[1]] = source_sites(words[1])
+                self.of_processor[-1].update(sources[words[1]])
+            elif words[:1] in (["code"], ["bytes"]):
+                self.of_processor[-1].update(code_sites(machine, number, int(words[1], 0), words[2]))
+            elif words[:1] == ["host"]:
+                self.script.append((number, " ".join(words)))
+
+    def at(self, spe, address):
+        """The site of an instruction."""
+        found = self.of_processor[spe].get(address)
+        return found or Site(self.machine, 0, f"nothing was placed at 0x{address:05x} of the store", 0)
+
+    def action(self, number):
+        """The host's action of a number."""
+        line, text = self.script[number]
+        return f"{self.machine}:{line}: {text}"
+
+
+def callers(trace, sites):
+    """Of each instruction of a routine, the place of the branch that called it: one that sets a link, and is open until what stands behind it is
+    executed."""
+    open_calls, led, called = {}, {}, {}
+    for place, line in enumerate(trace.lines):
+        if not line.startswith("x "):
+            continue
+        step_of, _, rest = line.partition(" | fetch ")
+        spe, at = int(step_of.split()[1]), int(rest.split()[1])
+        stack = open_calls.setdefault(spe, [])
+        if spe in led:
+            branch, behind = led.pop(spe)
+            if at != behind:
+                stack.append((branch, behind))
+                del stack[:-MOST_CALLS]
+        for depth in range(len(stack) - 1, -1, -1):
+            if stack[depth][1] == at:
+                del stack[depth:]
+                break
+        if stack:
+            called[place] = stack[-1][0]
+        if sites.at(spe, at).is_call():
+            led[spe] = place, at + 4
+    return called

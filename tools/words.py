@@ -1,0 +1,161 @@
+"""Says in words what the steps of a run are, with the lines of the sources that they come from."""
+import re
+
+from order import has_group
+from sites import callers
+
+COMMANDS = {"put": "PUT", "get": "GET", "putl": "PUTL", "getl": "GETL", "barrier": "BARRIER"}
+MARKS = {"-": "", "fence": "F", "barrier": "B"}
+ATOMIC = {"getllar": "GETLLAR", "putllc": "PUTLLC", "putlluc": "PUTLLUC"}
+OUTCOMES = {("putllc", 0): "stored", ("putllc", 1): "lost its line and didn't store"}
+BOXES = {"in": "the inbound mailbox", "out": "the outbound mailbox", "intr": "the outbound interrupt mailbox"}
+ATOMIC_LINE = 128
+
+
+def place_of(span):
+    return "main memory" if span.spe is None else f"the store of processor {span.spe}"
+
+
+def start_of(span):
+    return f"0x{span.at:x} of {place_of(span)}"
+
+
+def range_of(span):
+    """A span as its first and its last address."""
+    return f"0x{span.at:x} to 0x{span.at + span.size - 1:x} of {place_of(span)}"
+
+
+def tags(groups):
+    """The tags of a set of groups."""
+    named = [str(tag) for tag in range(32) if has_group(groups, tag)]
+    if len(named) > 8:
+        return f"of groups 0x{groups:x}"
+    return "of no tag" if not named else ("of tag " if len(named) == 1 else "of tags ") + ", ".join(named)
+
+
+def name_of(command):
+    return COMMANDS[command.kind] + MARKS[command.mark]
+
+
+def with_article(name):
+    return f"{'an' if name[0] in 'AEIO' else 'a'} {name}"
+
+
+class Teller:
+    """Says what the steps of one trace are."""
+
+    def __init__(self, trace, sites):
+        self.trace, self.sites = trace, sites
+        self.called = callers(trace, sites)
+        self.hosts = [place for place, line in enumerate(trace.lines) if line.startswith("h")]
+
+    def who(self, place):
+        """The processor or the host whose step it is, that of a flow controller its processor."""
+        spe = self.trace.steps[place].spe
+        return "the host" if spe is None else f"processor {spe}"
+
+    def site(self, place):
+        """Where an instruction or an action of the host stands."""
+        step = self.trace.steps[place]
+        if step.kind == "host":
+            return self.sites.action(self.hosts.index(place))
+        return str(self.sites.at(step.spe, step.fetch.at))
+
+    def issue(self, place):
+        """The place at which the command of a step was issued; None for a step of no command."""
+        step = self.trace.steps[place]
+        if step.kind == "atomic":
+            return next((k for k in range(place - 1, -1, -1) if self.issues_atomic(k, step.spe)), None)
+        return self.trace.issues.get(step.command_key())
+
+    def issues_atomic(self, place, spe):
+        line = self.trace.lines[place]
+        return line.startswith(f"x {spe} ") and " | atomic " in line
+
+    def program_step(self, place):
+        """The step of a program that a step stands for: the issue of its command, or itself."""
+        issue = self.issue(place)
+        return place if issue is None else issue
+
+    def origin(self, place):
+        """The lines that say where a step comes from: its instruction's site or that of its command's issue, and the call."""
+        at = self.program_step(place)
+        lines = [f"at {self.site(at)}" if at == place else f"issued in step {at}, at {self.site(at)}"]
+        if self.trace.steps[at].kind == "instruction" and self.is_replaced(at):
+            lines[0] += ", which stood there at the start and was written over before this step"
+        while at in self.called:
+            at = self.called[at]
+            lines.append(f"called from {self.site(at)}")
+        return lines
+
+    def aside(self, place):
+        """Where a step comes from, in parentheses."""
+        return f"({'; '.join(self.origin(place))})"
+
+    def is_replaced(self, place):
+        """Whether the run wrote over an instruction before it was executed."""
+        fetch = self.trace.steps[place].fetch
+        written = re.compile(rf" \| write {fetch.spe} (\d+) (\d+)")
+        found = (written.search(line) for line in self.trace.lines[:place])
+        return any(int(w[1]) < fetch.at + fetch.size and fetch.at < int(w[1]) + int(w[2]) for w in found if w)
+
+    def command(self, place):
+        """The command of a step."""
+        return self.command_of(self.trace.commands[self.trace.steps[place].command_key()])
+
+    def command_of(self, command):
+        return f"{with_article(name_of(command))} of tag {command.tag} (command {command.number} of processor {command.spe})"
+
+    def atomic(self, place):
+        """The atomic command of a step, with what came of it."""
+        step = self.trace.steps[place]
+        kind, _, line = step.told["atomic"]
+        outcome = OUTCOMES.get((kind, step.number("status")))
+        address = f"0x{int(line) * ATOMIC_LINE:x}"
+        return f"{ATOMIC[kind]} of the line at {address}" + (f", which {outcome}" if outcome else "")
+
+    def what(self, place):
+        """What a step is."""
+        step = self.trace.steps[place]
+        who = self.who(place)
+        if step.kind == "host":
+            return "an action of the host"
+        if step.kind == "instruction":
+            return f"{self.instruction(place)}, by {who}"
+        if step.kind == "atomic":
+            return f"{with_article(self.atomic(place))}, by {who}"
+        if step.kind == "retirement":
+            return f"the end of {self.command(place)}, which moves no byte"
+        if step.kind == "element":
+            number = self.trace.element_of(place)[2]
+            return f"the reading of element {number} of {self.command(place)}"
+        element = f" of element {step.element}" if self.trace.element_of(place) else ""
+        way = f"{step.reads.size} bytes from {start_of(step.reads)} to {start_of(step.writes)}"
+        return f"piece {step.part}{element} of {self.command(place)}: {way}"
+
+    def instruction(self, place):
+        """What an instruction is, apart from its processor."""
+        step = self.trace.steps[place]
+        if step.reads or step.writes:
+            return "a load" if step.reads else "a store"
+        if "issue" in step.told:
+            return f"the issue of {with_article(name_of(step.issued()))} of tag {step.issued().tag}"
+        if "atomic" in step.told:
+            return f"the issue of {with_article(ATOMIC[step.told['atomic'][0]])}"
+        names = {"tags": "the reading of a tag status", "stalls": "the reading of the stall status", "atomicread": "the reading of an atomic status",
+                 "put": "an instruction that puts", "take": "an instruction that takes", "ended": "the last instruction"}
+        found = next((name for name in names if name in step.told), None)
+        if found in ("put", "take"):
+            return f"{names[found]} 0x{int(step.told[found][2]):x} {'into' if found == 'put' else 'out of'} {BOXES[step.told[found][1]]}"
+        return names.get(found, "an instruction")
+
+    def word(self, place):
+        """What passes something on, or takes it: an atomic command, or a value of a mailbox."""
+        step = self.trace.steps[place]
+        if step.kind == "atomic":
+            return f"{with_article(self.atomic(place))}, by {self.who(place)}"
+        if "awaited" in step.told:
+            return f"the host finds that processor {step.number('awaited')} doesn't run"
+        spe, box, value = step.told.get("put") or step.told["take"]
+        way = "puts" if "put" in step.told else "takes"
+        return f"{self.who(place)} {way} 0x{int(value):x}, {BOXES[box]} of processor {spe}"
