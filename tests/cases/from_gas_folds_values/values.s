@@ -45,3 +45,7 @@ end:	.pushsection .text
 	.byte	1
 	.quad	-8>>1		# a shift right fills with zeros
 	.fill	0,1,8
+	.text
+	rdch	$3,$MFC_RdListStallStat
+	wrch	$MFC_WrListStallAck,$3
+	rdch	$3,$MFC_RdAtomicStat

@@ -1,0 +1,9 @@
+ila $3,0x1000
+wrch $ch16,$3
+il $4,0xd0
+wrch $ch21,$4
+rchcnt $5,$ch27
+rdch $6,$ch27
+rchcnt $7,$ch27
+rdch $8,$ch27
+stop 0

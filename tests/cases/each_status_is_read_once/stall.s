@@ -1,0 +1,16 @@
+il $3,0x200
+wrch $ch18,$3
+il $4,8
+wrch $ch19,$4
+il $5,0x44
+il $6,5
+wrch $ch20,$6
+wrch $ch21,$5
+il $7,31
+wrch $ch20,$7
+wrch $ch21,$5
+rchcnt $8,$ch25
+rdch $9,$ch25
+rchcnt $10,$ch25
+rdch $11,$ch25
+stop 0

@@ -1,0 +1,2 @@
+# what was to come
+

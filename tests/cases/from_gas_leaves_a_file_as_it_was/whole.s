@@ -1,0 +1,1 @@
+	lnop	# what stood there

@@ -1,0 +1,1 @@
+_start:	lr	$3,$4	# a copy

@@ -1,0 +1,2 @@
+	lnop
+	stop	1

@@ -1,0 +1,2 @@
+rdch $3,$ch29
+stop 0
