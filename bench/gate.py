@@ -2,7 +2,7 @@
 """What the gate costs, crate by crate: runs `rt ci --anew` and prints a table of processor time in minutes.
 
 Usage: python3 bench/gate.py [--kept], on a machine that does nothing else. The gate's own output goes to standard error. With --kept it is a plain
-`rt ci`, which goes on with what earlier runs on the machine have kept.
+`rt ci`, which with some kits goes on with what earlier runs on the machine have kept, and with others always begins from nothing and knows no --anew.
 
 Once a second it reads from /proc what each of the prover's processes has used so far. What a process uses after the
 last reading is in the total alone, so the columns add up to a little less. On a virtual machine the last line tells how long processes had to wait while
@@ -28,23 +28,43 @@ def kind_of(command, folder):
     return "tests" if "--test" in command else "proof"
 
 
+def stat_of(process):
+    """What /proc says of a process behind its name: the second field is its parent, and so on."""
+    return pathlib.Path("/proc", process, "stat").read_text().rsplit(")", 1)[1].split()
+
+
+def command_of(process):
+    return pathlib.Path("/proc", process, "cmdline").read_text().split("\0")
+
+
+def is_prover(command):
+    return command[0].endswith("/rattle") and "--crate-name" in command
+
+
+def is_below(process, ancestor):
+    """Whether a process was started by another, or by one that that one started."""
+    while process not in ("0", "1"):
+        process = stat_of(process)[1]
+        if process == ancestor:
+            return True
+    return False
+
+
 def readings(gate):
-    """(process, crate, kind, seconds used) for each process of the prover that works for this gate now."""
+    """(process, crate, kind, seconds used) for each process of the prover that works for this gate now. What the processes used that it has started
+    counts with it once they have ended."""
     for entry in pathlib.Path("/proc").iterdir():
         if not entry.name.isdigit():
             continue
         try:
-            command = (entry / "cmdline").read_text().split("\0")
+            command, stat = command_of(entry.name), stat_of(entry.name)
+            if not is_prover(command) or is_prover(command_of(stat[1])) or not is_below(entry.name, str(gate.pid)):
+                continue  # it is no prover, a part of one, or works for another checkout
             folder = os.readlink(entry / "cwd")
-            stat = (entry / "stat").read_text().rsplit(")", 1)[1].split()
         except (OSError, UnicodeDecodeError):
             continue  # it ended meanwhile
-        if not command[0].endswith("/rattle") or "--crate-name" not in command:
-            continue
-        if not folder.startswith(f"{ROOT}/") and f"rt-edit-{gate.pid}-" not in folder:
-            continue  # it works for another checkout
         crate = command[command.index("--crate-name") + 1]
-        used = (int(stat[11]) + int(stat[12])) / TICKS
+        used = sum(map(int, stat[11:15])) / TICKS
         yield (entry.name, stat[19]), crate, kind_of(command, folder), used
 
 
