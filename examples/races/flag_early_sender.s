@@ -1,0 +1,29 @@
+# The race: the flag is set before the PUT is done, so the one that sees it may get the block before it is there. What mends it is
+# flag_sender.s: the tag status is read between.
+	.text
+_start:	il	$3,0x77
+	stqa	$3,block
+	ila	$3,block	# PUT of the block, with tag 3
+	wrch	$ch16,$3	# MFC_LSA
+	il	$3,0x100
+	wrch	$ch18,$3	# MFC_EAL
+	il	$3,256
+	wrch	$ch19,$3	# MFC_Size
+	il	$3,3
+	wrch	$ch20,$3	# MFC_TagID
+	il	$3,0x20
+	wrch	$ch21,$3	# MFC_Cmd
+	il	$3,1
+	stqa	$3,flag
+	ila	$3,flag
+	wrch	$ch16,$3	# MFC_LSA
+	il	$3,0
+	wrch	$ch18,$3	# MFC_EAL
+	il	$3,0xb0
+	wrch	$ch21,$3	# MFC_Cmd: PUTLLUC
+	rdch	$3,$ch27	# MFC_RdAtomicStat
+	stop	1
+	.data
+	.align	7
+flag:	.space	128
+block:	.space	256
