@@ -7,3 +7,4 @@ pub mod HexLemmas
 pub mod HexDigits
 pub mod WordLaws
 pub mod WalkLaws
+pub mod Stretches

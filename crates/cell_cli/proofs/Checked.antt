@@ -1,6 +1,8 @@
 -- What a record file is found to be, computed: so it is found to be something, and nothing else.
-use Rattle.std.proofs.Common.{◌≡◌, ℕ, zero, suc, ◌+◌, ◌≤◌, List, [], ◌∷◌, ◌++◌, length, Option, Some, None, Result, Ok, Err, refl, sym, ap, subst, ◌∙◌, arith, inl, inr}
+use Rattle.std.proofs.Common.{◌≡◌, ℕ, zero, suc, ◌+◌, ◌≤◌, List, [], ◌∷◌, ◌++◌, ◌-◌, length, take, length-append, Option, Some, None, Result, Ok, Err, refl, sym, ap, subst, ◌∙◌, arith, inl, inr}
 use Rattle.std.specs.Prelude.{◌≢◌, ◌⊎◌, is_some, IsSome, option_and_then}
+use Rattle.std.proofs.Math.Seq.{take-append_seam}
+use Rattle.cell_base.specs.declared.format.Format.{Format}
 use Rattle.cell_base.specs.declared.steps.Step.{Step}
 use Rattle.cell_base.specs.Records.{spelling, AreSteps}
 use Rattle.cell_machine.specs.State.{State}
@@ -156,10 +158,20 @@ abbrev with_states : Ran → Option ℕ → Result Ran Fault
 with_states m None = Ok m
 with_states m (Some at) = Err (StatesDiffer at)
 
+-- what stands in front of this end of the text
+abbrev in_front : List ℕ → List ℕ → List ℕ
+in_front text behind = take (length text - length behind) text
+
+front_is : (text front behind : List ℕ) → text ≡ front ++ behind → in_front text behind ≡ front
+front_is text front behind parts =
+    let long = ap length parts ∙ length-append front behind in
+    let count : length text - length behind ≡ length front = omega (arith, long) in
+    rw (count, parts) (take-append_seam front behind)
+
 -- nothing stands behind the record, or what is wanted
 abbrev compared : Ran → List ℕ → List ℕ → List ℕ → Result Ran Fault
 compared m text [] wanted = Ok m
-compared m text (x ∷ xs) wanted = with_states m (differ 0 text (spelling m.steps ++ wanted))
+compared m text (x ∷ xs) wanted = with_states m (differ 0 text (in_front text (x ∷ xs) ++ wanted))
 
 abbrev with_replay : Opening → List ℕ → List Step → List ℕ → Result State ℕ → Result Ran Fault
 with_replay setup text steps behind (Err at) = Err (NotARun at)
@@ -178,43 +190,46 @@ module _ (setup : Opening) (text : List ℕ) where
 
   -- ---- what is found is what is computed
 
-  read-steps : (steps : List Step) (behind : List ℕ) → AreSteps steps → text ≡ spelling steps ++ behind → checked setup text ≡ with_replay setup text steps behind (replayed 0 setup.budget (opening setup) steps)
-  read-steps steps behind are parts = ap (with_record setup text) (ap record_at parts ∙ record_again steps behind are)
+  read-steps : (format : Format) (steps : List Step) (behind : List ℕ) → AreSteps steps → text ≡ spelling format steps ++ behind → checked setup text ≡ with_replay setup text steps behind (replayed 0 setup.budget (opening setup) steps)
+  read-steps format steps behind are parts = ap (with_record setup text) (ap record_at parts ∙ record_again format steps behind are)
 
   run-states : (steps : List Step) (behind states : List ℕ) → BeginsWithRun (run_with steps) text behind → TellsEnd (run_with steps) states → checked setup text ≡ compared (run_with steps) text behind states
   run-states steps behind states b t =
-      read-steps steps behind b.recorded b.parts
+      read-steps b.format steps behind b.recorded b.parts
       ∙ ap (with_replay setup text steps behind) (replays steps 0 setup.budget (opening setup) t.last b.run.1 t.there)
       ∙ ap (compared (run_with steps) text behind) (ap (states_of t.last setup.shows) (sym (end-is t.last setup.budget t.end t.ended)) ∙ sym t.told)
 
   run-alone : (steps : List Step) (behind : List ℕ) → BeginsWithRun (run_with steps) text behind → behind ≡ [] → (o : Option State) → replay (opening setup) steps ≡ o → IsSome o → checked setup text ≡ Ok (run_with steps)
   run-alone steps behind b none None is some = absurd cc
   run-alone steps behind b none (Some M) is some =
-      read-steps steps behind b.recorded b.parts
+      read-steps b.format steps behind b.recorded b.parts
       ∙ ap (with_replay setup text steps behind) (replays steps 0 setup.budget (opening setup) M b.run.1 is)
       ∙ ap (λ bs. compared (run_with steps) text bs (states_of M setup.shows (end_of M setup.budget))) none
 
-  same-compared : (m : Ran) (behind : List ℕ) → text ≡ spelling m.steps ++ behind → compared m text behind behind ≡ Ok m
-  same-compared m [] parts = refl
-  same-compared m (x ∷ xs) parts =
-      ap (λ t. with_states m (differ 0 t (spelling m.steps ++ x ∷ xs))) parts ∙ ap (with_states m) (differ-same 0 (spelling m.steps ++ x ∷ xs))
+  same-compared : (m : Ran) (front behind : List ℕ) → text ≡ front ++ behind → compared m text behind behind ≡ Ok m
+  same-compared m front [] parts = refl
+  same-compared m front (x ∷ xs) parts =
+      ap (λ t. with_states m (differ 0 text (t ++ x ∷ xs))) (front_is text front (x ∷ xs) parts)
+      ∙ ap (λ t. with_states m (differ 0 t (front ++ x ∷ xs))) parts
+      ∙ ap (with_states m) (differ-same 0 (front ++ x ∷ xs))
 
   run-is : (steps : List Step) → RecordsRun (run_with steps) text → checked setup text ≡ Ok (run_with steps)
   run-is steps r = on r.states
     where
       on : (r.behind ≡ []) ⊎ TellsEnd (run_with steps) r.behind → checked setup text ≡ Ok (run_with steps)
       on (inl none) = run-alone steps r.behind r.begins none (replay (opening setup) steps) refl r.begins.run.0
-      on (inr tells) = run-states steps r.behind r.behind r.begins tells ∙ same-compared (run_with steps) r.behind r.begins.parts
+      on (inr tells) = run-states steps r.behind r.behind r.begins tells ∙ same-compared (run_with steps) (spelling r.begins.format steps) r.behind r.begins.parts
 
-  other-compared : (m : Ran) (at : ℕ) (behind states : List ℕ) → behind ≢ [] → differ 0 text (spelling m.steps ++ states) ≡ Some at → compared m text behind states ≡ Err (StatesDiffer at)
-  other-compared m at [] states some e = absurd (some refl)
-  other-compared m at (x ∷ xs) states some e = ap (with_states m) e
+  other-compared : (m : Ran) (at : ℕ) (front behind states : List ℕ) → text ≡ front ++ behind → behind ≢ [] → differ 0 text (front ++ states) ≡ Some at → compared m text behind states ≡ Err (StatesDiffer at)
+  other-compared m at front [] states parts some e = absurd (some refl)
+  other-compared m at front (x ∷ xs) states parts some e =
+      ap (λ t. with_states m (differ 0 text (t ++ states))) (front_is text front (x ∷ xs) parts) ∙ ap (with_states m) e
 
   differ-is : (steps : List Step) (at : ℕ) → StatesDifferAt (run_with steps) text at → checked setup text ≡ Err (StatesDiffer at)
   differ-is steps at d =
       let same : 0 + at ≡ at = omega arith in
       run-states steps d.behind d.states d.begins d.tells
-      ∙ other-compared (run_with steps) at d.behind d.states d.some (differ-found 0 at text (spelling steps ++ d.states) d.differ ∙ ap Some same)
+      ∙ other-compared (run_with steps) at (spelling d.begins.format steps) d.behind d.states d.begins.parts d.some (differ-found 0 at text (spelling d.begins.format steps ++ d.states) d.differ ∙ ap Some same)
 
   own : (m : Ran) → m.setup ≡ setup → RecordsRun m text → Ok m ≡ checked setup text
   own m same r =
@@ -224,16 +239,16 @@ module _ (setup : Opening) (text : List ℕ) where
   pub is_checked : (found : Result Ran Fault) → Finds setup text found → found ≡ checked setup text
   is_checked (Ok m) f = own m f.0 f.1
   is_checked (Err (BadRecord line)) f = sym (ap (with_record setup text) (record_faulted text line f))
-  is_checked (Err (NotARun at)) f = sym (read-steps f.steps f.behind f.recorded f.parts ∙ ap (with_replay setup text f.steps f.behind) (refused_is setup f.steps at f.refused))
+  is_checked (Err (NotARun at)) f = sym (read-steps f.format f.steps f.behind f.recorded f.parts ∙ ap (with_replay setup text f.steps f.behind) (refused_is setup f.steps at f.refused))
   is_checked (Err (StatesDiffer at)) f = sym (differ-is f.0 at f.1)
   is_checked (Err fault) f = absurd f
 
   -- ---- what is computed is found
 
-  same-behind : (steps : List Step) (behind states : List ℕ) → AreSteps steps → spelling steps ++ behind ≡ spelling steps ++ states → behind ≡ states
-  same-behind steps behind states are e =
-      let one = record_again steps behind are in
-      let two = record_again steps states are in
+  same-behind : (format : Format) (steps : List Step) (behind states : List ℕ) → AreSteps steps → spelling format steps ++ behind ≡ spelling format steps ++ states → behind ≡ states
+  same-behind format steps behind states are e =
+      let one = record_again format steps behind are in
+      let two = record_again format steps states are in
       let both : ◌≡◌ {A = Result (List Step × List ℕ) ℕ} (Ok (steps, behind)) (Ok (steps, states)) = sym one ∙ ap record_at e ∙ two in
       let same : ◌≡◌ {A = List Step × List ℕ} (steps, behind) (steps, states) = cc in
       ap (λ (x : List Step × List ℕ). x.1) same
@@ -241,15 +256,16 @@ module _ (setup : Opening) (text : List ℕ) where
   finds-states : (steps : List Step) (behind states : List ℕ) → BeginsWithRun (run_with steps) text behind → TellsEnd (run_with steps) states → (found : Result Ran Fault) → compared (run_with steps) text behind states ≡ found → Finds setup text found
   finds-states steps [] states b t found is =
       subst (Finds setup text) is (refl, record { behind = []; begins = b; states = inl refl })
-  finds-states steps (x ∷ xs) states b t found is = on (differ 0 text (spelling steps ++ states)) refl is
+  finds-states steps (x ∷ xs) states b t found is =
+      on (differ 0 text (spelling b.format steps ++ states)) refl (ap (λ (front : List ℕ). with_states (run_with steps) (differ 0 text (front ++ states))) (sym (front_is text (spelling b.format steps) (x ∷ xs) b.parts)) ∙ is)
     where
-      on : (o : Option ℕ) → differ 0 text (spelling steps ++ states) ≡ o → with_states (run_with steps) o ≡ found → Finds setup text found
+      on : (o : Option ℕ) → differ 0 text (spelling b.format steps ++ states) ≡ o → with_states (run_with steps) o ≡ found → Finds setup text found
       on None same is =
-          let whole = none-differ 0 text (spelling steps ++ states) same in
-          let behind : x ∷ xs ≡ states = same-behind steps (x ∷ xs) states b.recorded (sym b.parts ∙ whole) in
+          let whole = none-differ 0 text (spelling b.format steps ++ states) same in
+          let behind : x ∷ xs ≡ states = same-behind b.format steps (x ∷ xs) states b.recorded (sym b.parts ∙ whole) in
           subst (Finds setup text) is (refl, record { behind = x ∷ xs; begins = b; states = inr (subst (TellsEnd (run_with steps)) (sym behind) t) })
       on (Some at) differ-at is =
-          let d = differs 0 at text (spelling steps ++ states) differ-at in
+          let d = differs 0 at text (spelling b.format steps ++ states) differ-at in
           let number = d.1 in
           let same : d.0 ≡ at = omega (arith, number) in
           subst (Finds setup text) is (
@@ -260,22 +276,22 @@ module _ (setup : Opening) (text : List ℕ) where
               begins = b;
               some = λ e. cc;
               tells = t;
-              differ = subst (λ k. DifferAt k text (spelling steps ++ states)) same d.2;
+              differ = subst (λ k. DifferAt k text (spelling b.format steps ++ states)) same d.2;
             },
           )
 
-  finds-replay : (steps : List Step) (behind : List ℕ) → AreSteps steps → text ≡ spelling steps ++ behind → (r : Result State ℕ) → replayed 0 setup.budget (opening setup) steps ≡ r → Finds setup text (with_replay setup text steps behind r)
-  finds-replay steps behind are parts (Err at) is = record { steps = steps; behind = behind; recorded = are; parts = parts; refused = stops_at setup steps at is }
-  finds-replay steps behind are parts (Ok M) is =
+  finds-replay : (format : Format) (steps : List Step) (behind : List ℕ) → AreSteps steps → text ≡ spelling format steps ++ behind → (r : Result State ℕ) → replayed 0 setup.budget (opening setup) steps ≡ r → Finds setup text (with_replay setup text steps behind r)
+  finds-replay format steps behind are parts (Err at) is = record { format = format; steps = steps; behind = behind; recorded = are; parts = parts; refused = stops_at setup steps at is }
+  finds-replay format steps behind are parts (Ok M) is =
       let runs = is-replayed steps 0 setup.budget (opening setup) M is in
       let long = run-length setup steps M runs.0 in
       let within = runs.1 in
-      finds-states steps behind (states_of M setup.shows (end_of M setup.budget)) (record { run = (ap is_some runs.0, runs.1); recorded = are; parts = parts })
+      finds-states steps behind (states_of M setup.shows (end_of M setup.budget)) (record { format = format; run = (ap is_some runs.0, runs.1); recorded = are; parts = parts })
       (record { last = M; end = end_of M setup.budget; there = runs.0; ended = is-end M setup.budget (omega (arith, long, within)); told = refl }) _ refl
 
   finds-record : (r : Result (List Step × List ℕ) ℕ) → record_at text ≡ r → Finds setup text (with_record setup text r)
   finds-record (Err line) is = record_faults text line is
-  finds-record (Ok (steps, behind)) is = let t = record_takes text (steps, behind) is in finds-replay steps behind t.0 t.1 (replayed 0 setup.budget (opening setup) steps) refl
+  finds-record (Ok (steps, behind)) is = let t = record_takes text (steps, behind) is in finds-replay t.1.0 steps behind t.0 t.1.1 (replayed 0 setup.budget (opening setup) steps) refl
 
   pub finds : Finds setup text (checked setup text)
   finds = finds-record (record_at text) refl

@@ -1,5 +1,5 @@
 -- What a check answers follows from what it calls.
-use Rattle.std.proofs.Common.{◌≡◌, ℕ, ◌+◌, ◌≤◌, true, false, List, [], ◌++◌, length, take, drop, ◌-◌, Option, Some, None, Err, refl, sym, ap, subst, ◌∙◌, arith, inl, inr, length-append}
+use Rattle.std.proofs.Common.{◌≡◌, ℕ, ◌+◌, ◌≤◌, true, false, List, [], ◌++◌, length, take, drop, ◌-◌, Option, Some, None, Err, refl, sym, ap, subst, ◌∙◌, arith, inl, inr, length-append, length-drop}
 use Rattle.std.specs.Prelude.{◌≢◌, ◌==◌, IsSomeAnd, IsErrOf}
 use Rattle.cell_base.specs.declared.steps.Step.{Step}
 use Rattle.cell_base.specs.Records.{spelling, AreSteps}
@@ -28,21 +28,25 @@ pub not_a_run : {X : Type 0} (setup : Opening) (text : List ℕ) (r : Reading) (
     → ((at : ℕ) → IsErrOf {T = X} (Err e) (replay_error.NotARun at) → IsRefusedAt setup steps at) → RefusesOrMemory setup text (replay_fault_of e)
 not_a_run setup text r steps replay_error.Memory b made h = tt
 not_a_run setup text r steps (replay_error.NotARun at) b made h =
-    record { steps = r.steps; behind = drop r.end text; recorded = b.0; parts = b.2; refused = subst (λ ss. IsRefusedAt setup ss at) made (h at refl) }
+    record { format = b.1.0; steps = r.steps; behind = drop r.end text; recorded = b.0; parts = b.1.1.1; refused = subst (λ ss. IsRefusedAt setup ss at) made (h at refl) }
 
 -- the record was read, and its steps were made
 module _ (setup : Opening) (text : List ℕ) (r : Reading) (b : BeginsWith text r) (steps : List Step) (made : steps ≡ r.steps) (m : Ran) (stands : m ≡ record { setup = setup; steps = steps }) (end : ℕ) (ends : end ≡ r.end) where
   same_steps : m.steps ≡ r.steps
   same_steps = ap (λ (n : Ran). n.steps) stands ∙ made
 
-  pub ends_there : end ≡ length (spelling m.steps)
-  ends_there = ends ∙ b.1 ∙ ap (λ ss. length (spelling ss)) (sym same_steps)
+  pub ends_there : end ≤ length text
+  ends_there =
+      let long = ap length b.1.1.1 ∙ length-append (spelling b.1.0 r.steps) (drop r.end text) in
+      let at = b.1.1.0 in
+      omega (arith, ends, at, long)
 
   pub begins_there : IsRun setup steps → BeginsWithRun m text (drop end text)
   begins_there run = record {
     run = subst (λ (n : Ran). IsRun n.setup n.steps) (sym stands) run;
+    format = b.1.0;
     recorded = subst (λ ss. AreSteps ss) (sym same_steps) b.0;
-    parts = b.2 ∙ ap (λ ss. spelling ss ++ drop r.end text) (sym same_steps) ∙ ap (λ (k : ℕ). spelling m.steps ++ drop k text) (sym ends);
+    parts = b.1.1.1 ∙ ap (λ ss. spelling b.1.0 ss ++ drop r.end text) (sym same_steps) ∙ ap (λ (k : ℕ). spelling b.1.0 m.steps ++ drop k text) (sym ends);
   }
 
 -- ---- the states
@@ -60,25 +64,23 @@ tells_end m text h = on (state_of m) refl h
     on (Some M) is h = record { last = M; end = h.0; there = is; ended = h.1; told = h.2 }
 
 module _ (m : Ran) (text behind : List ℕ) (b : BeginsWithRun m text behind) where
-  pub within : length (spelling m.steps) ≤ length text
-  within =
-      let long = ap length b.parts ∙ length-append (spelling m.steps) behind in
-      omega (arith, long)
-
   pub records_alone : behind ≡ [] → RecordsRun m text
   records_alone none = record { behind = behind; begins = b; states = inl none }
 
   pub records_states : (states : List ℕ) → TellsEnd m states → behind ≡ states → RecordsRun m text
   records_states states tells same = record { behind = behind; begins = b; states = inr (subst (TellsEnd m) (sym same) tells) }
 
-  pub states_differ : (states : List ℕ) (end place : ℕ) → end ≡ length (spelling m.steps) → behind ≢ [] → TellsEnd m states → DifferAt place behind states → StatesDifferAt m text (end + place)
-  states_differ states end place ends some tells d = record {
+  pub states_differ : (states : List ℕ) (end place : ℕ) → end ≤ length text → behind ≡ drop end text → behind ≢ [] → TellsEnd m states → DifferAt place behind states → StatesDifferAt m text (end + place)
+  states_differ states end place within from some tells d = record {
     behind = behind;
     states = states;
     begins = b;
     some = some;
     tells = tells;
     differ =
-        let here : DifferAt (end + place) (spelling m.steps ++ behind) (spelling m.steps ++ states) = subst (λ k. DifferAt (k + place) (spelling m.steps ++ behind) (spelling m.steps ++ states)) (sym ends) (differ_behind (spelling m.steps) behind states place d) in
-        subst (λ t. DifferAt (end + place) t (spelling m.steps ++ states)) (sym b.parts) here;
+        let long = ap length b.parts ∙ length-append (spelling b.format m.steps) behind in
+        let rest = ap length from ∙ length-drop end text in
+        let ends : end ≡ length (spelling b.format m.steps) = omega (arith, within, long, rest) in
+        let here : DifferAt (end + place) (spelling b.format m.steps ++ behind) (spelling b.format m.steps ++ states) = subst (λ k. DifferAt (k + place) (spelling b.format m.steps ++ behind) (spelling b.format m.steps ++ states)) (sym ends) (differ_behind (spelling b.format m.steps) behind states place d) in
+        subst (λ t. DifferAt (end + place) t (spelling b.format m.steps ++ states)) (sym b.parts) here;
   }

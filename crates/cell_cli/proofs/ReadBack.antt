@@ -4,6 +4,7 @@ use Rattle.std.specs.Prelude.{nat_lt, is_some}
 use Rattle.std.proofs.lemmas.Bool.Decides.{nat_tests}
 use Rattle.cell_io.specs.Files.{File, file_named}
 use Rattle.cell_io.specs.Store.{Ledger}
+use Rattle.cell_base.specs.declared.format.Format.TheVariants.{Two}
 use Rattle.cell_machine.specs.Opening.{Opening}
 use Rattle.cell_report.specs.States.{states_of}
 use Rattle.cell_cli.specs.declared.fault.Fault.{Fault}
@@ -31,7 +32,7 @@ run-records setup text p =
     let r = p.run in
     record {
       behind = states_of r.last setup.shows (Some r.end);
-      begins = record { run = (ap is_some r.replayed, r.within); recorded = p.recorded; parts = p.printed };
+      begins = record { format = Two; run = (ap is_some r.replayed, r.within); recorded = p.recorded; parts = p.printed };
       states = inr (record { last = r.last; end = Some r.end; there = r.replayed; ended = r.ended; told = refl });
     }
 

@@ -2,6 +2,7 @@
 use Rattle.std.proofs.Common.{◌≡◌, ℕ, ◌≤◌, List, ◌++◌, length, Some, refl, sym, subst, ◌∙◌, ap}
 use Rattle.std.specs.Prelude.{Option, None, IsSomeAnd}
 use Rattle.cell_base.specs.declared.steps.Step.{Step}
+use Rattle.cell_base.specs.declared.format.Format.TheVariants.{Two}
 use Rattle.cell_base.specs.Records.{spelling, AreSteps}
 use Rattle.cell_machine.specs.declared.status.End.{End}
 use Rattle.cell_machine.specs.State.{State}
@@ -25,7 +26,7 @@ module _ (m : Ran) (P : State → Option End → Type 0) (Q : Type 0) (go : (las
   from_end ended is = with-state ended (state_of m) refl is
 
 -- the two texts of a machine that has ended
-pub prints_run : (m : Ran) (first second : List ℕ) → length m.steps ≤ m.setup.budget → KeepsLaws m → AreSteps m.steps → HasEnd m → length second ≤ 700000 → first ≡ spelling m.steps
+pub prints_run : (m : Ran) (first second : List ℕ) → length m.steps ≤ m.setup.budget → KeepsLaws m → AreSteps m.steps → HasEnd m → length second ≤ 700000 → first ≡ spelling Two m.steps
     → IsSomeAnd (state_of m) (λ M. (e : Option End) × IsEnd M m.setup.budget e × (second ≡ states_of M m.setup.shows e)) → PrintsRun m.setup (first ++ second)
 prints_run m first second within laws recorded ended small a = from_end m (λ M e. second ≡ states_of M m.setup.shows e) (PrintsRun m.setup (first ++ second)) printed ended
   where
@@ -35,15 +36,15 @@ prints_run m first second within laws recorded ended small a = from_end m (λ M 
       laws = laws;
       recorded = recorded;
       short = both-short m.steps first second recorded a small;
-      printed = ap (λ t. t ++ second) a ∙ ap (λ t. spelling m.steps ++ t) b;
+      printed = ap (λ t. t ++ second) a ∙ ap (λ t. spelling Two m.steps ++ t) b;
     }
 
 -- what the code made of a machine that has ended
 pub prints_own : (m : Ran) (steps : List Step) (record_items states_items first second : List ℕ) → HasEnd m → steps ≡ m.steps → IsRun m.setup m.steps → KeepsLaws m → AreSteps m.steps
-    → length states_items ≤ 700000 → record_items ≡ spelling steps → IsSomeAnd (state_of m) (λ M. (e : Option End) × IsEnd M m.setup.budget e × (states_items ≡ states_of M m.setup.shows e))
+    → length states_items ≤ 700000 → record_items ≡ spelling Two steps → IsSomeAnd (state_of m) (λ M. (e : Option End) × IsEnd M m.setup.budget e × (states_items ≡ states_of M m.setup.shows e))
     → first ≡ record_items → second ≡ states_items → PrintsRun m.setup (first ++ second)
 prints_own m steps record_items states_items first second ended made run laws recorded small a b first_is second_is =
-    let spelled : first ≡ spelling m.steps = first_is ∙ a ∙ ap spelling made in
+    let spelled : first ≡ spelling Two m.steps = first_is ∙ a ∙ ap (spelling Two) made in
     let states : IsSomeAnd (state_of m) (λ M. (e : Option End) × IsEnd M m.setup.budget e × (second ≡ states_of M m.setup.shows e)) =
     subst (λ t. IsSomeAnd (state_of m) (λ M. (e : Option End) × IsEnd M m.setup.budget e × (t ≡ states_of M m.setup.shows e))) (sym second_is) b in
     prints_run m first second run.1 laws recorded ended (subst (λ t. length t ≤ 700000) (sym second_is) small) spelled states

@@ -1,5 +1,5 @@
 -- A verdict that was found, and what is written of it.
-use Rattle.std.proofs.Common.{◌≡◌, ℕ, ◌<◌, List, length, refl, arith}
+use Rattle.std.proofs.Common.{◌≡◌, ℕ, List, refl, arith}
 use Rattle.std.specs.Prelude.{Option}
 use Rattle.cell_machine.specs.Run.{Ran}
 use Rattle.race_check.specs.declared.check.Verdict.{Verdict}

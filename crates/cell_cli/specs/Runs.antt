@@ -1,5 +1,6 @@
 -- A run that has ended, and what is printed of it.
 use Rattle.std.specs.Prelude.{◌≡◌, ℕ, ◌≤◌, List, ◌++◌, length, Some}
+use Rattle.cell_base.specs.declared.format.Format.TheVariants.{Two}
 use Rattle.cell_base.specs.declared.steps.Step.{Step}
 use Rattle.cell_base.specs.Records.{spelling, AreSteps}
 use Rattle.cell_machine.specs.declared.status.End.{End}
@@ -30,10 +31,11 @@ pub record KeepsLaws (m : Ran) : Type 0 where
   pub lists : ListsAreInOrder m
   pub locks : AreLocksKept m
 
--- The record of one such run, which keeps the laws, within the bounds of a record, and then its last states; a record file can be as long.
+-- The record of one such run, of format 2, which keeps the laws, within the bounds of a record, and then its last states; a record file can
+-- be as long.
 pub record PrintsRun (setup : Opening) (text : List ℕ) : Type 0 where
   pub run : EndedRun setup
   pub laws : KeepsLaws (ran run)
   pub recorded : AreSteps run.steps
   pub short : length text ≤ record_limit
-  pub printed : text ≡ spelling run.steps ++ states_of run.last setup.shows (Some run.end)
+  pub printed : text ≡ spelling Two run.steps ++ states_of run.last setup.shows (Some run.end)

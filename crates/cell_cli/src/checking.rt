@@ -1,7 +1,6 @@
 //! Checking a record file against a setup.
 
 ghost use Rattle.std.specs.Prelude.{◌≡◌, ◌≤◌, ◌<◌, ◌^◌, drop, length, Ok, IfErr, IfNone, IfOk, IfSome};
-ghost use Rattle.cell_base.specs.Records.{spelling};
 ghost use Rattle.run_record.specs.Form.{BeginsWith};
 ghost use Rattle.cell_cli.specs.Causes.{IsOfInput};
 ghost use Rattle.cell_cli.specs.Checks.{BeginsWithRun, DifferAt, Finds, RecordsRun, RefusesOrMemory};
@@ -36,7 +35,7 @@ fn difference(found: &[u8], wanted: &[u8]) -> Option<usize>
 /// Nothing has to stand there.
 fn check_states(alloc: Global, machine: &Machine, text: &[u8], end: usize) -> Result<(), Fault>
     requires fits { length text.now < 2 ^ 32 }
-    requires end { end ≡ length (spelling machine.now.steps) }
+    requires end { end ≤ length text.now }
     requires begins { BeginsWithRun machine.now text.now (drop end text.now) }
     ensures input { IfErr result IsOfInput }
     ensures run { IfOk result (λ done. RecordsRun machine.now text.now) }

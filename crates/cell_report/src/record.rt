@@ -1,7 +1,9 @@
 //! The text of a record.
 
-ghost use Rattle.std.specs.Prelude.{◌≡◌, ◌++◌, ◌<◌, length, OnOk, IfOk};
-ghost use Rattle.cell_base.specs.Records.{field, step_line, spelling};
+ghost use Rattle.std.specs.Prelude.{◌≡◌, ◌++◌, ◌<◌, ◌≤◌, length, OnOk, IfOk};
+ghost use Rattle.std.specs.List.{prefix_len};
+ghost use Rattle.cell_base.specs.declared.format.Format.TheVariants.{One, Two};
+ghost use Rattle.cell_base.specs.Records.{field, step_line, stretch_line, are_of_one, count_line, spelling};
 
 use crate::error::TextError;
 use cell_base::Step;
@@ -57,18 +59,78 @@ pub fn put_step(out: &mut Vec<u8>, step: Step) -> Result<(), AllocError>
     Ok(())
 }
 
-/// The record of these steps as text, format 1. There are fewer than 2^32.
+/// Writes the line of a stretch at the end, which in format 2 stands for a step so many times.
+fn put_stretch(out: &mut Vec<u8>, step: Step, count: u32) -> Result<(), AllocError>
+    ensures { OnOk result (out.new.items ≡ out.old.items ++ stretch_line step count) }
+{
+    match step {
+        Step::Exec { spe } => {
+            out.push(b'x')?;
+            put_field(out, u32::from(spe))?;
+            put_field(out, count)?;
+            out.push(b'\n')?;
+            Ok(())
+        }
+        other => put_step(out, other),
+    }
+}
+
+/// Whether both are instructions of one processor.
+fn are_of_one(first: &Step, second: &Step) -> bool
+    ensures { result ≡ are_of_one first.now second.now }
+{
+    match (first, second) {
+        (Step::Exec { spe: p }, Step::Exec { spe: q }) => p == q,
+        _ => false,
+    }
+}
+
+/// How many of the steps go on with the stretch of instructions that this one belongs to.
+fn further(first: &Step, steps: &[Step]) -> usize
+    ensures len { result ≡ prefix_len (are_of_one first.now) steps.now }
+    ensures within { result ≤ length steps.now }
+{
+    steps.iter().take_while(|s| are_of_one(first, s)).count()
+}
+
+/// Writes the last line of a record at the end.
+fn put_count(out: &mut Vec<u8>, steps: &[Step]) -> Result<(), AllocError>
+    requires { length steps.now < 4294967296 }
+    ensures { OnOk result (out.new.items ≡ out.old.items ++ count_line (length steps.now)) }
+{
+    out.extend_from_slice(b"steps")?;
+    put_field(out, steps.len() as u32)?;
+    out.push(b'\n')?;
+    Ok(())
+}
+
+/// The record of these steps as text, format 2. There are fewer than 2^32. Its only refusal is want of memory.
 pub fn record_text(alloc: Global, steps: &[Step]) -> Result<Vec<u8>, TextError>
     requires { length steps.now < 4294967296 }
-    ensures { IfOk result (λ v. v.items ≡ spelling steps.now) }
+    ensures { IfOk result (λ v. v.items ≡ spelling Two steps.now) }
+{
+    let mut out = Vec::new(alloc);
+    out.extend_from_slice(b"cell-record 2\n")?;
+    let mut rest = steps;
+    while let Some((first, behind)) = rest.split_first() {
+        let more = further(first, behind);
+        put_stretch(&mut out, *first, more as u32 + 1)?;
+        rest = &behind[more..];
+    }
+    put_count(&mut out, steps)?;
+    Ok(out)
+}
+
+/// The record of these steps as text, format 1. There are fewer than 2^32. Its only refusal is want of memory.
+pub fn record_text_1(alloc: Global, steps: &[Step]) -> Result<Vec<u8>, TextError>
+    requires { length steps.now < 4294967296 }
+    ensures { IfOk result (λ v. v.items ≡ spelling One steps.now) }
 {
     let mut out = Vec::new(alloc);
     out.extend_from_slice(b"cell-record 1\n")?;
     for step in steps {
         put_step(&mut out, *step)?;
     }
-    out.extend_from_slice(b"steps")?;
-    put_field(&mut out, steps.len() as u32)?;
-    out.push(b'\n')?;
+    put_count(&mut out, steps)?;
     Ok(out)
 }

@@ -84,7 +84,7 @@ Took letter bs x = ((letter ∷ bs) ≡ step_line x.0 ++ x.1) × InBounds x.0
 regroup1 : (a rest : List ℕ) → (a ++ 10 ∷ []) ++ rest ≡ a ++ 10 ∷ rest
 regroup1 a rest = append_assoc a (10 ∷ []) rest
 
-regroup2 : (a b rest : List ℕ) → ((a ++ b) ++ 10 ∷ []) ++ rest ≡ a ++ (b ++ 10 ∷ rest)
+pub regroup2 : (a b rest : List ℕ) → ((a ++ b) ++ 10 ∷ []) ++ rest ≡ a ++ (b ++ 10 ∷ rest)
 regroup2 a b rest = regroup1 (a ++ b) rest ∙ append_assoc a b (10 ∷ rest)
 
 regroup4 : (a b c d rest : List ℕ) → ((((a ++ b) ++ c) ++ d) ++ 10 ∷ []) ++ rest ≡ a ++ (b ++ (c ++ (d ++ 10 ∷ rest)))

@@ -1,11 +1,13 @@
 -- Reading from left to right, with the first line that is outside the form.
-use Rattle.std.specs.Prelude.{◌≡◌, ℕ, zero, suc, ◌+◌, ◌==◌, List, [], ◌∷◌, codes, Option, Some, None, Result, Ok, Err, if◌then◌else◌}
+use Rattle.std.specs.Prelude.{◌≡◌, ℕ, zero, suc, ◌+◌, ◌-◌, ◌==◌, ◌&&◌, Bool, false, not, nat_lt, List, [], ◌∷◌, ◌++◌, codes, replicate, Option, Some, None, Result, Ok, Err, if◌then◌else◌}
 use Rattle.cell_base.specs.Numbers.{◌>>=◌, number_at}
+use Rattle.cell_base.specs.declared.format.Format.{Format}
+use Rattle.cell_base.specs.declared.format.Format.TheVariants.{One, Two}
 use Rattle.cell_base.specs.declared.steps.Step.{Step}
 use Rattle.cell_base.specs.declared.steps.Step.TheVariants.{Exec, Piece, Elem, Retire, Atomic, Host}
 use Rattle.run_record.specs.declared.error.RecordError.{RecordError}
 use Rattle.run_record.specs.declared.error.RecordError.TheVariants as errors
-use Rattle.cell_base.specs.Records.{letter_x, letter_p, letter_e, letter_r, letter_a, letter_h, head_line}
+use Rattle.cell_base.specs.Records.{letter_x, letter_p, letter_e, letter_r, letter_a, letter_h, Line, are_of_one, head_line}
 
 -- the bytes behind this text
 unfoldable pub after : List ℕ → List ℕ → Option (List ℕ)
@@ -74,6 +76,33 @@ step_at (b ∷ bs) =
     else if b == letter_h then host_at bs
     else None
 
+-- the step before it is an instruction of the same processor
+abbrev pub goes_on : Option Step → Step → Bool
+goes_on None s = false
+goes_on (Some t) s = are_of_one t s
+
+-- a stretch of at least one instruction and no more than there is room for, behind no other of its processor
+abbrev pub stretch_of : Option Step → ℕ → ℕ → List ℕ → Option (Line × List ℕ)
+stretch_of last p n rest = if nat_lt 0 n && not (goes_on last (Exec p)) then Some ((Exec p, n), rest) else None
+
+unfoldable pub stretch_at : ℕ → Option Step → List ℕ → Option (Line × List ℕ)
+stretch_at room last bytes = do
+  p ← field_at 15 bytes
+  n ← field_at room p.1
+  rest ← end_at n.1
+  stretch_of last p.0 n.0 rest
+
+-- a line that stands for one step, and the bytes after it
+abbrev pub alone : ℕ → Option (Step × List ℕ) → Option (Line × List ℕ)
+alone room None = None
+alone room (Some x) = if nat_lt 0 room then Some ((x.0, 1), x.1) else None
+
+-- the next line of a record, where there is room for so many steps more and this is the last of those before, and the bytes after it
+unfoldable pub line_at : Format → ℕ → Option Step → List ℕ → Option (Line × List ℕ)
+line_at One room last bytes = alone room (step_at bytes)
+line_at Two room last [] = None
+line_at Two room last (b ∷ bs) = if b == letter_x then stretch_at room last bs else alone room (step_at (b ∷ bs))
+
 -- the line with the number of steps
 unfoldable pub count_at : ℕ → List ℕ → Option (List ℕ)
 count_at n bytes = do
@@ -81,31 +110,32 @@ count_at n bytes = do
   count ← field_at 1000000 rest
   if count.0 == n then end_at count.1 else None
 
--- the record ends here, or this line is faulty
+-- the record ends here, behind so many lines, or this line is faulty
 abbrev pub ending : ℕ → Option (List ℕ) → Result (List Step × List ℕ) ℕ
-ending n None = Err (n + 2)
-ending n (Some rest) = Ok ([], rest)
+ending k None = Err (k + 2)
+ending k (Some rest) = Ok ([], rest)
 
-abbrev pub with_step : Step → Result (List Step × List ℕ) ℕ → Result (List Step × List ℕ) ℕ
-with_step s (Ok x) = Ok (s ∷ x.0, x.1)
-with_step s (Err line) = Err line
+abbrev pub with_line : Line → Result (List Step × List ℕ) ℕ → Result (List Step × List ℕ) ℕ
+with_line (s, n) (Ok x) = Ok (replicate n s ++ x.0, x.1)
+with_line l (Err line) = Err line
 
-abbrev pub either : Option (Step × List ℕ) → (Step → List ℕ → Result (List Step × List ℕ) ℕ) → Result (List Step × List ℕ) ℕ → Result (List Step × List ℕ) ℕ
+abbrev pub either : Option (Line × List ℕ) → (Line → List ℕ → Result (List Step × List ℕ) ℕ) → Result (List Step × List ℕ) ℕ → Result (List Step × List ℕ) ℕ
 either None f d = d
 either (Some x) f d = f x.0 x.1
 
--- the steps that follow n steps, where room more may come, and the bytes after the record
-unfoldable pub steps_at : ℕ → ℕ → List ℕ → Result (List Step × List ℕ) ℕ
-steps_at zero n bytes = ending n (count_at n bytes)
-steps_at (suc room) n bytes = either (step_at bytes) (λ s rest. with_step s (steps_at room (suc n) rest)) (ending n (count_at n bytes))
+-- The steps that follow n steps, the last of which is this, in k lines, and the bytes after the record. More lines than steps don't come.
+unfoldable pub lines_at : Format → ℕ → ℕ → ℕ → Option Step → List ℕ → Result (List Step × List ℕ) ℕ
+lines_at format zero k n last bytes = ending k (count_at n bytes)
+lines_at format (suc most) k n last bytes =
+    either (line_at format (1000000 - n) last bytes) (λ l rest. with_line l (lines_at format most (suc k) (n + l.1) (Some l.0) rest)) (ending k (count_at n bytes))
 
-abbrev pub behind_head : Option (List ℕ) → Result (List Step × List ℕ) ℕ
-behind_head None = Err 1
-behind_head (Some rest) = steps_at 1000000 0 rest
+abbrev pub behind_head : Format → Option (List ℕ) → Result (List Step × List ℕ) ℕ → Result (List Step × List ℕ) ℕ
+behind_head format None other = other
+behind_head format (Some rest) other = lines_at format 1000000 0 0 None rest
 
 -- the record at the front, and the bytes after it
 unfoldable pub record_at : List ℕ → Result (List Step × List ℕ) ℕ
-record_at text = behind_head (after head_line text)
+record_at text = behind_head One (after (head_line One) text) (behind_head Two (after (head_line Two) text) (Err 1))
 
 -- What a function returned, seen by view, is what reading gives, unless memory ran out.
 abbrev pub Fails : {Y : Type 0} → RecordError → Result Y ℕ → Type 0

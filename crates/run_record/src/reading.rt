@@ -1,18 +1,19 @@
 //! Reading a record.
 
-ghost use Rattle.std.specs.Prelude.{◌≡◌, ℕ, ◌+◌, ◌-◌, ◌≤◌, ◌<◌, ◌++◌, ◌∷◌, [], List, Ok, Err, codes, length, IfSome, IfOk, IsErrOf};
+ghost use Rattle.std.specs.Prelude.{◌≡◌, ℕ, ◌+◌, ◌-◌, ◌≤◌, ◌<◌, ◌++◌, ◌∷◌, [], List, None, Ok, Err, codes, length, replicate, IfSome, IfOk, OnOk, IsErrOf};
 ghost use Rattle.cell_base.specs.Numbers.{Reads};
+ghost use Rattle.cell_base.specs.declared.format.Format.{Format};
 ghost use Rattle.cell_base.specs.Records.{spelling, AreSteps};
 ghost use Rattle.cell_base.specs.declared.steps.Step.{Step};
-ghost use Rattle.run_record.specs.Form.{BeginsWith, IsFault, IsOrMemory};
-ghost use Rattle.run_record.specs.Reading.{after, field_at, end_at, exec_at, piece_at, elem_at, retire_at, atomic_at, host_at, step_at, count_at, steps_at, record_at, Gives};
+ghost use Rattle.run_record.specs.Form.{BeginsWith, HasOneRecord, IsFault, IsOrMemory};
+ghost use Rattle.run_record.specs.Reading.{after, field_at, end_at, exec_at, piece_at, elem_at, retire_at, atomic_at, host_at, step_at, stretch_at, alone, line_at, count_at, lines_at, record_at, Gives};
 ghost use Rattle.run_record.specs.declared.error.RecordError.TheVariants.{BadLine};
 
 use crate::error::RecordError;
 use crate::recorded::Recorded;
-use cell_base::Step;
+use cell_base::{Format, Step};
 use cell_base::line_text::number_at;
-use std::alloc::Global;
+use std::alloc::{AllocError, Global};
 
 /// How many steps a record may have, and the greatest number in each field of a step's line.
 const MOST_STEPS: u32 = 1_000_000;
@@ -143,6 +144,50 @@ fn step_at(bytes: &[u8]) -> Option<(Step, &[u8])>
     }
 }
 
+/// The rest of a line `x P N` of format 2, and the bytes after it.
+#[tactic(auto, unfolding(crate::specs::Reading::stretch_at))]
+fn stretch_at(bytes: &[u8], room: u32, last: Option<Step>) -> Option<((Step, u32), &[u8])>
+    ensures { Reads (λ x. (x.0, x.1.now)) result (stretch_at room last bytes.now) }
+{
+    let (spe, rest) = field_at(bytes, LAST_SPE)?;
+    let (count, rest) = field_at(rest, room)?;
+    let rest = end_at(rest)?;
+    let step = Step::Exec { spe: spe as u8 };
+    if count == 0 || last == Some(step) {
+        return None;
+    }
+    Some(((step, count), rest))
+}
+
+/// The line of a step, which is made once, where there is room for so many steps more.
+fn alone(bytes: &[u8], room: u32) -> Option<((Step, u32), &[u8])>
+    ensures { Reads (λ x. (x.0, x.1.now)) result (alone room (step_at bytes.now)) }
+{
+    let (step, rest) = step_at(bytes)?;
+    if room > 0 {
+        Some(((step, 1), rest))
+    } else {
+        None
+    }
+}
+
+/// The next line of a record: a step, how many times it is made, and the bytes after the line. There is room for so many steps more, and
+/// this is the last of those before.
+#[tactic(auto, unfolding(crate::specs::Reading::line_at, crate::specs::Reading::step_at))]
+fn line_at(
+    format: Format,
+    bytes: &[u8],
+    room: u32,
+    last: Option<Step>,
+) -> Option<((Step, u32), &[u8])>
+    ensures { Reads (λ x. (x.0, x.1.now)) result (line_at format room last bytes.now) }
+{
+    match (format, bytes) {
+        (Format::Two, [b'x', rest @ ..]) => stretch_at(rest, room, last),
+        _ => alone(bytes, room),
+    }
+}
+
 /// The bytes after this text.
 fn after<'a>(text: &[u8], bytes: &'a [u8]) -> Option<&'a [u8]>
     ensures { Reads (λ x. x.now) result (after text.now bytes.now) }
@@ -163,24 +208,39 @@ fn count_at(bytes: &[u8], n: u32) -> Option<&[u8]>
     end_at(rest)
 }
 
+/// Puts a step at the end so many times.
+fn push_all(steps: &mut Vec<Step>, step: Step, count: u32) -> Result<(), AllocError>
+    ensures { OnOk result (steps.new.items ≡ steps.old.items ++ replicate count step) }
+{
+    for _ in 0..count {
+        steps.push(step)?;
+    }
+    Ok(())
+}
+
 /// The steps whose lines stand here, and the bytes after the line with their number.
-fn steps_of(alloc: Global, bytes: &[u8]) -> Result<(Vec<Step>, &[u8]), RecordError>
-    ensures { Gives (λ x. (x.0.items, x.1.now)) result (steps_at 1000000 0 bytes.now) }
+fn steps_of(
+    alloc: Global,
+    format: Format,
+    bytes: &[u8],
+) -> Result<(Vec<Step>, &[u8]), RecordError>
+    ensures { Gives (λ x. (x.0.items, x.1.now)) result (lines_at format 1000000 0 0 None bytes.now) }
 {
     let mut steps = Vec::new(alloc);
     let mut rest = bytes;
-    let mut n: u32 = 0;
-    while n < MOST_STEPS {
-        let Some((step, after)) = step_at(rest) else {
-            break;
-        };
-        steps.push(step)?;
+    let mut lines: u32 = 0;
+    let mut room = MOST_STEPS;
+    let mut last = None;
+    while let Some(((step, count), after)) = line_at(format, rest, room, last) {
+        push_all(&mut steps, step, count)?;
         rest = after;
-        n += 1;
+        lines += 1;
+        room -= count;
+        last = Some(step);
     }
-    match count_at(rest, n) {
+    match count_at(rest, MOST_STEPS - room) {
         Some(after) => Ok((steps, after)),
-        None => Err(RecordError::BadLine { line: n + 2 }),
+        None => Err(RecordError::BadLine { line: lines + 2 }),
     }
 }
 
@@ -189,19 +249,24 @@ fn steps_of(alloc: Global, bytes: &[u8]) -> Result<(Vec<Step>, &[u8]), RecordErr
 fn record_of(alloc: Global, text: &[u8]) -> Result<(Vec<Step>, &[u8]), RecordError>
     ensures { Gives (λ x. (x.0.items, x.1.now)) result (record_at text.now) }
 {
-    match after(b"cell-record 1\n", text) {
-        Some(rest) => steps_of(alloc, rest),
+    if let Some(rest) = after(b"cell-record 1\n", text) {
+        return steps_of(alloc, Format::One, rest);
+    }
+    match after(b"cell-record 2\n", text) {
+        Some(rest) => steps_of(alloc, Format::Two, rest),
         None => Err(RecordError::BadLine { line: 1 }),
     }
 }
 
-/// The record, format 1, that stands at the front of a text, whatever follows it: the record ends with its line `steps N`.
+/// The record, of format 1 or 2, that stands at the front of a text, whatever follows it: the record ends with its line `steps N`.
 /// `BadLine` where none does.
 pub fn read_record(alloc: Global, text: &[u8]) -> Result<Recorded, RecordError>
     // What is read stands there.
     ensures found { IfOk result (BeginsWith text.now) }
-    // What stands there is read: the text of a record is read back as its own steps, whatever follows.
-    ensures read { (steps : List Step) (rest : List ℕ) → AreSteps steps → text.now ≡ spelling steps ++ rest → IsOrMemory result (Ok (record { steps = steps; end = length (spelling steps) })) }
+    // What stands there is read: a record of either format is read back as its own steps, whatever follows.
+    ensures read { (format : Format) (steps : List Step) (rest : List ℕ) → AreSteps steps → text.now ≡ spelling format steps ++ rest → IsOrMemory result (Ok (record { steps = steps; end = length (spelling format steps) })) }
+    // No other record stands there.
+    ensures one { HasOneRecord text.now }
     // The line is the first one outside the form.
     ensures bad_line { (line : ℕ) → IsErrOf result (BadLine line) → IsFault text.now line }
     // The first line outside the form is told.
