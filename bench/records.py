@@ -1,0 +1,72 @@
+#!/usr/bin/env python3
+"""Measures records of both formats: python3 bench/records.py [OTHER], from the repository's root, after `rt ci` or `./cell`.
+
+Of runs of a million steps it prints how many bytes the record has, what the run takes, files in and texts out, and what the check of its output takes; and
+of the same steps as a record of format 1 the bytes and the time of the check. OTHER is another program, such as that of an earlier state, of which the time
+of the run is measured in turn. Each time is the best of RUNS, in seconds.
+"""
+import pathlib
+import subprocess
+import sys
+import tempfile
+import time
+
+ROOT = pathlib.Path(__file__).resolve().parent.parent
+CELL = ROOT / "crates" / "cell_cli" / "out" / "cell_cli"
+RUNS = 7
+STEPS = 1_000_000
+MACHINES = [("arithmetic.s", 1, 1), ("arithmetic.s", 8, 1), ("transfer.s", 8, 128)]
+
+
+def in_format_1(output):
+    """The output of a run with its record in format 1."""
+    record, end, states = output.partition("\nsteps ")
+    lines = record.split("\n")
+    steps = []
+    for line in lines[1:]:
+        if line.startswith("x "):
+            letter, spe, count = line.split()
+            steps += [f"{letter} {spe}"] * int(count)
+        else:
+            steps.append(line)
+    return "\n".join(["cell-record 1", *steps]) + end + states
+
+
+def record_bytes(output):
+    """How many bytes the record in an output has."""
+    return output.index("\nend ") + 1
+
+
+def taken(command):
+    """The time of a command once."""
+    start = time.monotonic()
+    done = subprocess.run(command, cwd=ROOT, stdout=subprocess.DEVNULL, stderr=subprocess.DEVNULL)
+    if done.returncode not in (0, 1):
+        sys.exit(f"{' '.join(map(str, command))} failed")
+    return time.monotonic() - start
+
+
+def best(*commands):
+    """The best time of each of the commands, which are run in turn."""
+    times = [[taken(command) for command in commands] for _ in range(RUNS)]
+    return [min(column) for column in zip(*times)]
+
+
+def main():
+    others = sys.argv[1:2]
+    with tempfile.TemporaryDirectory(prefix="cell-bench-") as room:
+        folder = pathlib.Path(room)
+        for source, spes, lines in MACHINES:
+            machine, second, first = folder / "m", folder / "second", folder / "first"
+            machine.write_text(f"cell-machine 1\nlines {lines}\nbudget {STEPS}\n" + f"spe\nsource bench/{source}\n" * spes)
+            output = subprocess.run([CELL, "run", machine], cwd=ROOT, capture_output=True, text=True, check=True).stdout
+            second.write_text(output)
+            first.write_text(in_format_1(output))
+            runs = best(*([program, "run", machine] for program in (CELL, *others)))
+            checks = best([CELL, "check", machine, second], [CELL, "check", machine, first])
+            print(f"{source} on {spes}: run {' and '.join(f'{it:.3f}' for it in runs)}; format 2 {record_bytes(output)} bytes, check {checks[0]:.3f}; "
+                  f"format 1 {record_bytes(first.read_text())} bytes, check {checks[1]:.3f}")
+
+
+if __name__ == "__main__":
+    sys.exit(main())
