@@ -5,13 +5,21 @@ import tempfile
 
 from explaining import MOST, cell, in_latin
 
-HEAD = b"cell-record 1"
+HEADS = [b"cell-record 1", b"cell-record 2"]
+NEWEST = HEADS[-1]
 MACHINE = b"cell-machine 1\nlines 1\nbudget 1\nspe\n"  # the form of a record is judged before its steps
 SHOWN = 40  # characters of a line
-STEP = re.compile(rb"(x|a) \d+|(e|r) \d+ \d+|p \d+ \d+ \d+ \d+|h")
+OTHER = rb"a \d+|(e|r) \d+ \d+|p \d+ \d+ \d+ \d+|h"
+STEPS = {HEADS[0]: re.compile(rb"x \d+|" + OTHER), HEADS[1]: re.compile(rb"x \d+ \d+|" + OTHER)}
+STRETCH = re.compile(rb"x (\d+) (\d+)")
 COUNT = re.compile(rb"steps (\d+)")
-FORM = "a step is `x P`, `p P C E K`, `e P C`, `r P C`, `a P` or `h`, with decimal numbers and one blank before each"
+FORMS = {
+    HEADS[0]: "a step is `x P`, `p P C E K`, `e P C`, `r P C`, `a P` or `h`, with decimal numbers and one blank before each",
+    HEADS[1]: "a line is `x P N`, `p P C E K`, `e P C`, `r P C`, `a P` or `h`, with decimal numbers and one blank before each; "
+              "`x P` without N is of format 1",
+}
 RANGES = "P is at most 15, C at most 999999, E at most 2047 and K at most 128, without leading zeros; a record has at most 1000000 steps"
+MOST_STEPS = 1_000_000
 
 
 def is_record(name):
@@ -19,7 +27,7 @@ def is_record(name):
     if name.endswith(".out"):
         return True
     with open(name, "rb") as file:
-        return file.read(len(HEAD)).startswith(b"cell-record")
+        return file.read(len(NEWEST)).startswith(b"cell-record")
 
 
 class RecordFile:
@@ -27,6 +35,7 @@ class RecordFile:
 
     def __init__(self, name):
         self.lines = pathlib.Path(name).read_bytes().split(b"\n")
+        self.is_counted = True  # whether it is known how many steps the faulty lines stand for
 
     def asked(self):
         """What the program says of the record's form."""
@@ -47,12 +56,18 @@ class RecordFile:
                     yield None, said
                 return
             words, goes_on = self.mend(int(found[1]) - 1)
-            yield int(found[1]), words
+            if words:
+                yield int(found[1]), words
+
+    def steps_before(self, at):
+        """How many steps the lines before one stand for."""
+        found = (STRETCH.fullmatch(line) if self.lines[0] == HEADS[1] else None for line in self.lines[1:at])
+        return sum(int(stretch[2]) if stretch else 1 for stretch in found)
 
     def mend(self, at):
         """Takes the fault out of a line: what it was, and whether what stands behind it can be judged."""
-        steps = max(at - 1, 0)
         if at >= len(self.lines) or at == len(self.lines) - 1 and not self.lines[at]:
+            steps = self.steps_before(at)
             return f"the record was cut: behind its {steps} steps stands `steps {steps}`", False
         line = self.lines[at]
         if line.endswith(b"\r"):
@@ -60,21 +75,43 @@ class RecordFile:
             return "lines end with CR LF: a record has LF alone, `tr -d '\\r'` takes the others away", True
         if at == len(self.lines) - 1:
             return f"the record was cut within a line: `{in_latin(line)[:SHOWN]}` has no line feed", False
-        self.lines[at], words = mended(line, at)
+        self.lines[at], words = self.mended(line, at)
         return words, True
 
-
-def mended(line, at):
-    """A line as it might be, so that the program goes on behind it, and what is wrong with it."""
-    shown = in_latin(line)[:SHOWN]
-    if at == 0:
-        other = "a record of another format" if line.startswith(b"cell-record") else "no record"
-        return HEAD, f"{other}: the first line is `{in_latin(HEAD)}`; make the run again with this program"
-    if found := COUNT.fullmatch(line):
-        return b"steps %d" % (at - 1), f"the number of steps before it is {at - 1}, not {in_latin(found[1])}"
-    if STEP.fullmatch(line):
+    def mended(self, line, at):
+        """A line as it might be, so that the program goes on behind it, and what is wrong with it."""
+        shown = in_latin(line)[:SHOWN]
+        if at == 0:
+            other = "a record of another format" if line.startswith(b"cell-record") else "no record"
+            heads = " or ".join(f"`{in_latin(head)}`" for head in HEADS)
+            return self.likely_head(), f"{other}: the first line is {heads}; make the run again with this program"
+        steps = self.steps_before(at)
+        if found := COUNT.fullmatch(line):
+            return b"steps %d" % steps, self.is_counted and f"the number of steps before it is {steps}, not {in_latin(found[1])}"
+        if not STEPS[self.lines[0]].fullmatch(line):
+            self.is_counted = self.is_counted and self.lines[0] == HEADS[0]
+            return b"h", f"`{shown}` is no step: {FORMS[self.lines[0]]}"
+        if stretch := self.lines[0] == HEADS[1] and STRETCH.fullmatch(line):
+            return self.mended_stretch(stretch, at, steps)
         return b"h", f"a number of `{shown}` is out of its range: {RANGES}"
-    return b"h", f"`{shown}` is no step: {FORM}"
+
+    def mended_stretch(self, stretch, at, steps):
+        """The same of a line that has the form of a stretch."""
+        shown, before, count = in_latin(stretch[0])[:SHOWN], STRETCH.fullmatch(self.lines[at - 1]), int(stretch[2])
+        if before and before[1] == stretch[1]:
+            other = b"14" if stretch[1] == b"15" else b"15"
+            whole = count + int(before[2])
+            return b"x %s %d" % (other, count), f"`{shown}` goes on with the stretch of the line before it: one line `x {in_latin(stretch[1])} {whole}` has both"
+        self.is_counted = False
+        if count == 0:
+            return b"h", f"`{shown}` stands for no instruction: a stretch has at least one"
+        if int(stretch[1]) <= 15 and count + steps > MOST_STEPS:
+            return b"h", f"with `{shown}` there are {count + steps} steps, and a record has at most {MOST_STEPS}"
+        return b"h", f"a number of `{shown}` is out of its range: {RANGES}"
+
+    def likely_head(self):
+        """The head of the format that the lines are of."""
+        return HEADS[1] if any(STRETCH.fullmatch(line) for line in self.lines) else HEADS[0]
 
 
 def explain_record(name, report):
