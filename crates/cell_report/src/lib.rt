@@ -12,7 +12,7 @@ mod verdict;
 
 pub use error::TextError;
 pub use image::image_text;
-pub use record::{record_text, record_text_1};
+pub use record::{put_step, record_text, record_text_1};
 pub use states::states_text;
 pub use summary::summary_text;
 pub use verdict::verdict_text;

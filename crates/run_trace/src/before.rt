@@ -1,13 +1,12 @@
 //! The places that are ordered before one place of a run, counted from 0, as ranges: a line `FIRST LAST` each, in their order, which don't touch.
 
-ghost use Rattle.std.specs.Prelude.{◌≡◌, ◌+◌, ◌<◌, ◌≤◌, [], length};
+ghost use Rattle.std.specs.Prelude.{◌≡◌, ◌+◌, ◌<◌, ◌≤◌, length};
 ghost use Rattle.cell_machine.specs.Run.{Ran};
 ghost use Rattle.race_order.specs.OrderedRuns.{StandsForRun};
 
-use crate::following::{is_before, take_all};
+use crate::following::is_before;
 use crate::lines::Text;
 use anyhow::Result;
-use cell_base::Step;
 use cell_machine::Machine;
 use race_order::Orderer;
 
@@ -28,8 +27,8 @@ fn longer(range: Option<Range>, place: u32) -> Range {
 fn put_range(out: &mut Text, range: Option<Range>) {
     if let Some(range) = range {
         out.put_number(range.first);
-        out.numbers(&[range.last]);
-        out.put("\n");
+        out.number(range.last);
+        out.end_line();
     }
 }
 
@@ -53,7 +52,7 @@ fn put_ranges(out: &mut Text, orderer: &Orderer, machine: &Machine)
 }
 
 /// Prints the places that are ordered before the last step.
-fn print_ranges(rt: &HostRuntime, orderer: &Orderer, machine: &Machine) -> Result<()>
+pub fn print_ranges(rt: &HostRuntime, orderer: &Orderer, machine: &Machine) -> Result<()>
     ghost m: { Ran }
     requires same { m ≡ machine.now }
     requires stands { StandsForRun orderer.now m }
@@ -61,27 +60,4 @@ fn print_ranges(rt: &HostRuntime, orderer: &Orderer, machine: &Machine) -> Resul
     let mut out = Text::new(rt.alloc());
     put_ranges(&mut out, orderer, machine);
     out.print(rt)
-}
-
-/// Follows steps, and prints the places that are ordered before the last of them.
-fn show_ordered(
-    rt: &HostRuntime,
-    orderer: &mut Orderer,
-    machine: &mut Machine,
-    steps: &[Step],
-) -> Result<()>
-    ghost m: { Ran }
-    requires same { m ≡ machine.old }
-    requires stands { StandsForRun orderer.old m }
-{
-    take_all(orderer, machine, steps)?;
-    print_ranges(rt, orderer, machine)
-}
-
-/// Follows steps from a machine's start, and prints the places that are ordered before the last of them.
-pub fn show_before(rt: &HostRuntime, machine: &mut Machine, steps: &[Step]) -> Result<()>
-    requires { machine.old ≡ record { setup = machine.old.setup; steps = [] } }
-{
-    let mut orderer = Orderer::new(rt.alloc(), machine.setup())?;
-    show_ordered(rt, &mut orderer, machine, steps)
 }

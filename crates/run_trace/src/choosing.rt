@@ -1,13 +1,13 @@
 //! Runs on one thread, by choices.
 
 ghost use Rattle.std.specs.Prelude.{◌+◌, ◌*◌, ◌<◌, ◌≤◌};
-ghost use Rattle.std.specs.Iterator.{IsFinite};
 
-use crate::reading::{machine_of, numbers_of};
+use crate::performing::{Task, perform};
 use crate::showing::{show_record, show_run};
 use anyhow::Result;
 use cell_base::{Actor, Step};
 use cell_machine::Machine;
+use std::fs;
 
 /// The actor of a number, of so many processors: these, their flow controllers, the host.
 fn actor(spes: u8, number: u64) -> Actor
@@ -23,9 +23,8 @@ fn actor(spes: u8, number: u64) -> Actor
 }
 
 /// The step that the number chooses: its remainder the actor, and the rest one of its steps. Where the actor has none, the first that is allowed.
-fn chosen(machine: &Machine, spes: u8, number: u64) -> Option<Step>
-    requires { spes ≤ 8 }
-{
+fn chosen(machine: &Machine, number: u64) -> Option<Step> {
+    let spes = machine.setup().spes();
     let actors = 2 * u64::from(spes) + 1;
     let picked = machine.pick(actor(spes, number % actors), number / actors);
     if picked.is_some() {
@@ -35,31 +34,41 @@ fn chosen(machine: &Machine, spes: u8, number: u64) -> Option<Step>
     }
 }
 
-/// Makes the step that each number chooses, as long as one is allowed.
-fn make_steps<I: Iterator<Item = u64> + Drop>(machine: &mut Machine, numbers: I)
-    requires can { I.can_next numbers }
-    requires ends { IsFinite (I.remaining numbers) }
-{
-    let spes = machine.setup().spes();
-    for number in numbers {
-        let Some(step) = chosen(machine, spes, number) else {
-            return;
-        };
-        let _ = machine.step(step);
+/// Makes the step that the number chooses, and says whether one is allowed.
+fn make_chosen(machine: &mut Machine, number: u64) -> bool {
+    match chosen(machine, number) {
+        Some(step) => machine.step(step).is_ok(),
+        None => false,
     }
+}
+
+/// Makes the step that each number of a text chooses, as long as one is allowed. The numbers stand between blanks.
+fn make_all_chosen(machine: &mut Machine, numbers: &str) -> Result<()> {
+    for word in numbers.split_whitespace() {
+        make_chosen(machine, word.parse::<u64>()?);
+    }
+    Ok(())
+}
+
+/// Makes the run that the numbers of a text choose, and prints its record.
+pub fn run_chosen(rt: &HostRuntime, machine: &mut Machine, numbers: &str) -> Result<()> {
+    make_all_chosen(machine, numbers)?;
+    show_record(rt, machine)
 }
 
 /// Prints the record of the run that the numbers of a file choose.
 pub fn print_chosen(rt: &HostRuntime, machine: &str, choices: &str) -> Result<()> {
-    let numbers = numbers_of(rt, choices)?;
-    let mut machine = machine_of(rt, machine)?;
-    make_steps(&mut machine, numbers.into_iter());
-    show_record(rt, &machine)
+    let numbers = fs::read_to_string(rt, choices)?;
+    let numbers = numbers.as_str();
+    perform(rt, machine, Task::Choose { numbers })
 }
 
-/// Prints the record and the states of the run that the numbers from 0 on choose, to its end: the actors take turns.
-pub fn print_alone(rt: &HostRuntime, machine: &str) -> Result<()> {
-    let mut machine = machine_of(rt, machine)?;
-    make_steps(&mut machine, 0..u64::MAX);
-    show_run(rt, &machine)
+/// Makes the run that the numbers from 0 on choose to its end, and prints its record and the states: the actors take turns.
+pub fn run_alone(rt: &HostRuntime, machine: &mut Machine) -> Result<()> {
+    for number in 0..u64::MAX {
+        if !make_chosen(machine, number) {
+            break;
+        }
+    }
+    show_run(rt, machine)
 }

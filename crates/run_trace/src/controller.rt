@@ -1,7 +1,7 @@
 //! What a flow controller and its channels hold, as the steps of a run tell it.
 
 use crate::outstanding::Outstanding;
-use crate::watching::Made;
+use crate::watching::{Made, spe_of};
 use cell_base::{ChannelOp, Step};
 use cell_channels::{Channels, MFC_LSA, MFC_TAG_ID, MFC_WR_TAG_MASK, MFC_WR_TAG_UPDATE};
 use cell_machine::Note;
@@ -21,6 +21,9 @@ const PUTLLC_LOST: u32 = 1;
 const PUTLLUC_DONE: u32 = 2;
 
 const GETLLAR_DONE: u32 = 4;
+
+/// So many lines have all addresses of 32 bits: a command that the machine has issued lies in its memory.
+const ALL_LINES: u32 = 0x200_0000;
 
 /// A request of a tag status, with the mask as it stood when it was made.
 #[derive(Clone, Copy)]
@@ -49,6 +52,8 @@ pub struct Reservation {
 /// What one flow controller holds.
 #[derive(Drop)]
 pub struct Controller {
+    /// Its processor.
+    spe: u8,
     /// The parameters of the next command, the atomic slot, and the statuses of atomic commands and of stalled lists.
     pub channels: Channels,
     pub mask: u32,
@@ -56,8 +61,10 @@ pub struct Controller {
     pub request: Option<Request>,
     pub fixed: Option<Fixed>,
     pub reserved: Option<Reservation>,
+    /// The atomic command that was done by its latest step.
+    pub done: Option<AtomicOp>,
     /// How many commands were issued.
-    pub issued: u32,
+    issued: u32,
     /// The commands that aren't complete, the oldest first.
     pub queue: Vec<Outstanding>,
     pub inbound: Vec<u32>,
@@ -68,14 +75,16 @@ pub struct Controller {
 }
 
 impl Controller {
-    /// A controller at its start.
-    pub fn new(alloc: Global) -> Controller {
+    /// The controller of a processor at its start.
+    pub fn new(alloc: Global, spe: u8) -> Controller {
         Controller {
+            spe,
             channels: Channels::new(),
             mask: 0,
             request: None,
             fixed: None,
             reserved: None,
+            done: None,
             issued: 0,
             queue: Vec::new(alloc),
             inbound: Vec::new(alloc),
@@ -85,41 +94,60 @@ impl Controller {
         }
     }
 
-    /// Takes in a step of its processor, whose memory has so many lines.
-    pub fn follow(&mut self, lines: u32, made: &Made) {
+    /// Takes in a step of the run, which stores to these lines of main memory.
+    pub fn follow(&mut self, made: &Made, stored: Option<(u32, u32)>) {
+        if let Some((first, last)) = stored {
+            self.touch(first, last);
+        }
+        self.pass(made.effect.note, made.value);
+        if spe_of(made.step) == Some(self.spe) {
+            self.follow_own(made);
+        }
+    }
+
+    /// Takes in a step of its own or of its processor.
+    fn follow_own(&mut self, made: &Made) {
         if let Some(ChannelOp::Write { ch, value }) = made.channel {
             self.write(ch, value);
         }
-        self.hear(lines, made);
-        self.transfer(made);
-        self.queue.retain(|command| !command.is_complete());
+        self.hear(made.effect.note, made.value);
+        self.go_on(made);
+        self.end_atomic(made);
         if made.effect.fixed {
             self.fix();
         }
     }
 
-    /// The command that was issued last, if it isn't complete.
-    pub fn latest(&self) -> Option<Outstanding> {
-        self.queue.last().copied()
-    }
-
     /// Loses the reservation, where it is of one of these lines.
-    pub fn touch(&mut self, first: u32, last: u32) {
-        if let Some(reservation) = &mut self.reserved {
-            if first <= reservation.line && reservation.line <= last {
-                reservation.is_lost = true;
+    fn touch(&mut self, first: u32, last: u32) {
+        if let Some(Reservation { line, .. }) = self.reserved {
+            if first <= line && line <= last {
+                self.reserve(line, true);
             }
         }
     }
 
+    fn reserve(&mut self, line: u32, is_lost: bool) {
+        self.reserved = Some(Reservation { line, is_lost });
+    }
+
+    /// What goes into a mailbox of its processor or out of it.
+    fn pass(&mut self, note: Note, value: u32) {
+        match note {
+            Note::Put { spe, mailbox } if spe == self.spe => self.put(mailbox, value),
+            Note::Take { spe, mailbox } if spe == self.spe => self.take(mailbox),
+            _ => {}
+        }
+    }
+
     /// A value goes into a mailbox.
-    pub fn put(&mut self, mailbox: u8, value: u32) {
+    fn put(&mut self, mailbox: u8, value: u32) {
         let put = self.mailbox(mailbox).push(value);
-        self.lacks_memory = self.lacks_memory || put.is_err();
+        self.lacks_memory |= put.is_err();
     }
 
     /// The oldest value of a mailbox is taken.
-    pub fn take(&mut self, mailbox: u8) {
+    fn take(&mut self, mailbox: u8) {
         let values = self.mailbox(mailbox);
         if !values.is_empty() {
             values.remove(0);
@@ -147,22 +175,19 @@ impl Controller {
 
     /// Asks for a tag status.
     fn ask(&mut self, how: u32) {
-        self.request = Some(Request {
-            how,
-            mask: self.mask,
-        });
+        let mask = self.mask;
+        self.request = Some(Request { how, mask });
         self.fixed = None;
     }
 
-    /// What a step tells of commands and statuses.
-    fn hear(&mut self, lines: u32, made: &Made) {
-        match made.effect.note {
+    /// What a step tells of commands and statuses, with the value that it wrote.
+    fn hear(&mut self, note: Note, value: u32) {
+        match note {
             Note::Issue { cmd, command } => self.issue(cmd, command),
-            Note::AtomicIssue => self.issue_atomic(made.value, lines),
+            Note::AtomicIssue => self.issue_atomic(value),
             Note::TagRead { .. } => self.fixed = None,
             Note::StallRead { .. } => drop(self.channels.read_stall()),
             Note::AtomicRead => drop(self.channels.read_atomic()),
-            Note::Ack { tag } => self.resume(tag),
             _ => {}
         }
     }
@@ -171,13 +196,13 @@ impl Controller {
     fn issue(&mut self, number: u32, command: Command) {
         let high = self.channels.params().eah;
         let issued = self.queue.push(Outstanding::new(number, command, high));
-        self.lacks_memory = self.lacks_memory || issued.is_err();
+        self.lacks_memory |= issued.is_err();
         self.issued = number.wrapping_add(1);
     }
 
     /// The atomic command that an opcode asks for goes into the slot.
-    fn issue_atomic(&mut self, opcode: u32, lines: u32) {
-        if let Ok(Order::Atomic(atomic)) = check(self.channels.params(), opcode, lines) {
+    fn issue_atomic(&mut self, opcode: u32) {
+        if let Ok(Order::Atomic(atomic)) = check(self.channels.params(), opcode, ALL_LINES) {
             let _ = self.channels.set_slot(atomic);
         }
     }
@@ -188,71 +213,32 @@ impl Controller {
         channels.read_atomic().ok()
     }
 
-    /// Lets the lists of a tag go on that stall.
-    fn resume(&mut self, tag: u32) {
+    /// Takes a step into the outstanding commands, keeps the tags of the lists that stall by it, and ends what is complete.
+    fn go_on(&mut self, made: &Made) {
         for command in self.queue.iter_mut() {
-            if u32::from(command.command.tag) == tag {
-                command.is_stalled = false;
-            }
-        }
-    }
-
-    /// A step of the flow controller.
-    fn transfer(&mut self, made: &Made) {
-        match made.step {
-            Step::Piece { cmd, .. } => self.copy_part(cmd),
-            Step::Elem { cmd, .. } => self.read_element(cmd, made),
-            Step::Retire { cmd, .. } => self.queue.retain(|command| command.number != cmd),
-            Step::Atomic { .. } => self.end_atomic(made),
-            _ => {}
-        }
-    }
-
-    /// A part of a command is copied.
-    fn copy_part(&mut self, cmd: u32) {
-        for command in self.queue.iter_mut() {
-            if command.number == cmd {
-                command.copy_part();
-            }
-        }
-        self.end_elements();
-    }
-
-    /// The next element of a list is read, where it isn't at fault.
-    fn read_element(&mut self, cmd: u32, made: &Made) {
-        let Some(element) = made.element else {
-            return;
-        };
-        for command in self.queue.iter_mut() {
-            if command.number == cmd {
-                command.read_element(element);
-            }
-        }
-        self.end_elements();
-    }
-
-    /// Ends the elements of which no part is left, and keeps the tags of the lists that stall behind them.
-    fn end_elements(&mut self) {
-        for command in self.queue.iter_mut() {
-            if command.end_element() {
+            if command.follow(made) {
                 self.channels.stall(command.command.tag % 32);
             }
         }
+        self.queue.retain(|command| !command.is_complete());
     }
 
-    /// The atomic command is done: one that reserves its line, or gives up the reservation.
+    /// Ends the atomic command in the slot, where the step is that.
     fn end_atomic(&mut self, made: &Made) {
-        let Some(atomic) = self.channels.slot() else {
-            return;
-        };
-        self.channels.atomic_done(status_of(atomic, made));
+        self.done = None;
+        if let Step::Atomic { .. } = made.step {
+            self.done = self.channels.slot();
+        }
+        if let Some(atomic) = self.done {
+            self.channels.atomic_done(status_of(atomic, made));
+            self.keep_line(atomic);
+        }
+    }
+
+    /// An atomic command that is done reserves its line, or gives up the reservation.
+    fn keep_line(&mut self, atomic: AtomicOp) {
         match atomic.kind {
-            AtomicKind::GetLine => {
-                self.reserved = Some(Reservation {
-                    line: atomic.line,
-                    is_lost: false,
-                });
-            }
+            AtomicKind::GetLine => self.reserve(atomic.line, false),
             AtomicKind::PutCond => self.reserved = None,
             AtomicKind::PutLine => {}
         }
@@ -269,13 +255,12 @@ impl Controller {
 
     /// The status that was asked for is fixed.
     fn fix(&mut self) {
-        let Some(request) = self.request.take() else {
-            return;
-        };
-        self.fixed = Some(Fixed {
-            groups: request.mask & !self.busy(),
-            issued: self.issued,
-        });
+        if let Some(request) = self.request {
+            let groups = request.mask & !self.busy();
+            let issued = self.issued;
+            self.fixed = Some(Fixed { groups, issued });
+        }
+        self.request = None;
     }
 }
 

@@ -15,152 +15,157 @@
 use crate::controller::{Controller, INBOUND, OUTBOUND, status_of};
 use crate::controllers::Controllers;
 use crate::lines::Text;
-use crate::telling::{element_numbers, put_atomic, put_command};
+use crate::telling::{put_atomic, put_command, put_element};
 use crate::watching::{Made, watch};
 use anyhow::Result;
 use cell_base::{ChannelOp, Step};
 use cell_channels::{MFC_WR_TAG_MASK, MFC_WR_TAG_UPDATE};
-use cell_machine::{Machine, Note, Place, Span};
+use cell_machine::{Effect, Machine, Note, Place, Span};
 use mfc_command::AtomicOp;
+
+/// The place of bytes.
+fn put_place(out: &mut Text, place: Place) {
+    match place {
+        Place::Memory => out.word("mem"),
+        Place::Local(spe) => out.number(u32::from(spe)),
+    }
+}
 
 /// The bytes of a span, where it has some.
 fn put_span(out: &mut Text, name: &str, span: Span) {
-    if span.len == 0 {
-        return;
+    if span.len != 0 {
+        out.field(name);
+        put_place(out, span.place);
+        out.number(span.at);
+        out.number(span.len);
     }
-    out.field(name, &[]);
-    match span.place {
-        Place::Memory => out.word("mem"),
-        Place::Local(spe) => out.numbers(&[u32::from(spe)]),
-    }
-    out.numbers(&[span.at, span.len]);
 }
 
 /// The bytes that a step fetches, reads and writes.
-fn put_spans(out: &mut Text, made: &Made) {
-    put_span(out, "fetch", made.effect.fetch);
-    put_span(out, "read", made.effect.reads);
-    put_span(out, "write", made.effect.writes);
+fn put_spans(out: &mut Text, effect: &Effect) {
+    put_span(out, "fetch", effect.fetch);
+    put_span(out, "read", effect.reads);
+    put_span(out, "write", effect.writes);
 }
 
-/// What passed through a channel.
-fn put_channel(out: &mut Text, made: &Made) {
-    match made.channel {
-        Some(ChannelOp::Read { ch, .. }) => out.field("rdch", &[u32::from(ch), made.value]),
-        Some(ChannelOp::Count { ch, .. }) => out.field("rchcnt", &[u32::from(ch), made.value]),
-        Some(ChannelOp::Write { ch, .. }) => out.field("wrch", &[u32::from(ch), made.value]),
-        None => {}
+/// The name of what is asked of a channel, and the channel.
+fn channel_field(asked: ChannelOp) -> (&'static str, u8) {
+    match asked {
+        ChannelOp::Read { ch, .. } => ("rdch", ch),
+        ChannelOp::Count { ch, .. } => ("rchcnt", ch),
+        ChannelOp::Write { ch, .. } => ("wrch", ch),
     }
 }
 
 /// A mask that is set, or a request, with the mask that it is made with.
-fn put_tags(out: &mut Text, made: &Made, own: &Controller) {
-    match made.channel {
-        Some(
-            ChannelOp::Write {
-                ch: MFC_WR_TAG_MASK,
-                value,
-            },
-        ) => out.field("mask", &[value]),
-        Some(
-            ChannelOp::Write {
-                ch: MFC_WR_TAG_UPDATE,
-                value,
-            },
-        ) => out.field("request", &[value, own.mask]),
+fn put_tags(out: &mut Text, ch: u8, value: u32, mask: u32) {
+    match ch {
+        MFC_WR_TAG_MASK => out.field_of("mask", value),
+        MFC_WR_TAG_UPDATE => out.field_of_two("request", value, mask),
         _ => {}
     }
 }
 
-/// A field of the command that was issued last.
-fn put_issue(out: &mut Text, own: &Controller) {
-    if let Some(command) = own.latest() {
-        out.field("issue", &[]);
-        put_command(out, &command);
-    }
-}
-
-/// What a step tells of commands and their statuses.
-fn put_command_note(out: &mut Text, made: &Made, own: &Controller) {
-    match made.effect.note {
-        Note::Issue { .. } => put_issue(out, own),
-        Note::AtomicIssue => put_atomic(out, own.channels.slot()),
-        Note::TagRead { groups, issued } => out.field("tags", &[groups, issued]),
-        Note::StallRead { groups } => out.field("stalls", &[groups]),
-        Note::Ack { tag } => out.field("ack", &[tag]),
-        Note::AtomicRead => out.field("atomicread", &[]),
-        _ => {}
-    }
+/// What passed through a channel.
+fn put_channel(out: &mut Text, asked: ChannelOp, value: u32, mask: u32) {
+    let (name, ch) = channel_field(asked);
+    out.field_of_two(name, u32::from(ch), value);
+    put_tags(out, ch, value, mask);
 }
 
 /// The atomic command that is done, and its status.
-fn put_done(out: &mut Text, made: &Made, done: Option<AtomicOp>) {
-    put_atomic(out, done);
-    if let Some(atomic) = done {
-        out.field("status", &[status_of(atomic, made)]);
+fn put_done(out: &mut Text, made: &Made, atomic: AtomicOp) {
+    put_atomic(out, Some(atomic));
+    out.field_of("status", status_of(atomic, made));
+}
+
+/// What a processor or its flow controller did, which stands so after it, but for what its note tells.
+fn put_own(out: &mut Text, made: &Made, own: &Controller) {
+    if let Some(asked) = made.channel {
+        put_channel(out, asked, made.value, own.mask);
+    }
+    if let Some(atomic) = own.done {
+        put_done(out, made, atomic);
     }
 }
 
-/// The fields of what a processor or its flow controller did, which stands so after it.
-fn put_own(out: &mut Text, made: &Made, done: Option<AtomicOp>, own: Option<&Controller>) {
-    if let Some(own) = own {
-        put_channel(out, made);
-        put_tags(out, made, own);
-        put_command_note(out, made, own);
-        put_done(out, made, done);
+/// What a note tells of a command that was issued to a flow controller, which stands so after it.
+fn put_issued(out: &mut Text, note: Note, own: &Controller) {
+    match note {
+        Note::Issue { cmd, command } => {
+            out.field("issue");
+            put_command(out, cmd, command, own.channels.params().eah);
+        }
+        Note::AtomicIssue => put_atomic(out, own.channels.slot()),
+        _ => {}
+    }
+}
+
+/// What a note tells of statuses and of who runs.
+fn put_status(out: &mut Text, note: Note) {
+    match note {
+        Note::TagRead { groups, issued } => out.field_of_two("tags", groups, issued),
+        Note::StallRead { groups } => out.field_of("stalls", groups),
+        Note::Ack { tag } => out.field_of("ack", tag),
+        Note::AtomicRead => out.field("atomicread"),
+        Note::Ended => out.field("ended"),
+        Note::Awaited { spe } => out.field_of("awaited", u32::from(spe)),
+        _ => {}
+    }
+}
+
+fn mailbox_word(mailbox: u8) -> &'static str {
+    match mailbox {
+        INBOUND => "in",
+        OUTBOUND => "out",
+        _ => "intr",
     }
 }
 
 /// A field of a value that passes through a mailbox.
 fn put_mail(out: &mut Text, name: &str, spe: u8, mailbox: u8, value: u32) {
-    out.field(name, &[u32::from(spe)]);
-    out.word(match mailbox {
-        INBOUND => "in",
-        OUTBOUND => "out",
-        _ => "intr",
-    });
-    out.numbers(&[value]);
+    out.field_of(name, u32::from(spe));
+    out.word(mailbox_word(mailbox));
+    out.number(value);
 }
 
-/// What a step tells of mailboxes and of who runs.
-fn put_note(out: &mut Text, made: &Made) {
-    match made.effect.note {
-        Note::Put { spe, mailbox } => put_mail(out, "put", spe, mailbox, made.value),
-        Note::Take { spe, mailbox } => put_mail(out, "take", spe, mailbox, made.value),
-        Note::Ended => out.field("ended", &[]),
-        Note::Awaited { spe } => out.field("awaited", &[u32::from(spe)]),
+/// What a note tells of mailboxes.
+fn put_mails(out: &mut Text, note: Note, value: u32) {
+    match note {
+        Note::Put { spe, mailbox } => put_mail(out, "put", spe, mailbox, value),
+        Note::Take { spe, mailbox } => put_mail(out, "take", spe, mailbox, value),
         _ => {}
     }
-    if let Some(element) = made.element {
-        out.field("element", &element_numbers(element));
-    }
 }
 
-/// The line of a step.
-fn put_line(out: &mut Text, made: &Made, done: Option<AtomicOp>, own: Option<&Controller>) {
+/// The line of a step, of a processor or a flow controller that stands so after it, or of the host.
+fn put_line(out: &mut Text, made: &Made, own: Option<&Controller>) {
     out.step(made.step);
-    put_spans(out, made);
-    put_own(out, made, done, own);
-    put_note(out, made);
+    put_spans(out, &made.effect);
+    if let Some(own) = own {
+        put_own(out, made, own);
+        put_issued(out, made.effect.note, own);
+    }
+    put_status(out, made.effect.note);
+    put_mails(out, made.effect.note, made.value);
+    put_element(out, made.element);
     if made.effect.fixed {
-        out.field("fixed", &[]);
+        out.field("fixed");
     }
-    out.put("\n");
+    out.end_line();
 }
 
-/// The atomic command that a step does.
-fn done_by(controllers: &Controllers, step: Step) -> Option<AtomicOp> {
-    match step {
-        Step::Atomic { .. } => controllers.maker(step)?.channels.slot(),
-        _ => None,
-    }
-}
-
-/// Takes in a step, and writes its line.
-fn follow(out: &mut Text, controllers: &mut Controllers, made: &Made) {
-    let done = done_by(controllers, made.step);
-    controllers.follow(made);
-    put_line(out, made, done, controllers.maker(made.step));
+/// Makes a step, and writes its line.
+fn follow(
+    out: &mut Text,
+    controllers: &mut Controllers,
+    machine: &mut Machine,
+    step: Step,
+) -> Result<()> {
+    let made = watch(machine, step)?;
+    controllers.follow(&made);
+    put_line(out, &made, controllers.maker(step));
+    Ok(())
 }
 
 /// Makes the steps, and prints a line for each.
@@ -172,8 +177,7 @@ fn follow_all(
     steps: &[Step],
 ) -> Result<()> {
     for step in steps {
-        let made = watch(machine, *step)?;
-        follow(out, controllers, &made);
+        follow(out, controllers, machine, *step)?;
         out.print_pages(rt)?;
     }
     controllers.told()
@@ -181,7 +185,7 @@ fn follow_all(
 
 /// Prints the effects of steps from a machine's start, also where a later one isn't allowed.
 pub fn show_effects(rt: &HostRuntime, machine: &mut Machine, steps: &[Step]) -> Result<()> {
-    let mut controllers = Controllers::new(rt.alloc(), machine.setup());
+    let mut controllers = Controllers::new(rt.alloc(), machine.setup().spes())?;
     let mut out = Text::new(rt.alloc());
     let followed = follow_all(rt, &mut out, &mut controllers, machine, steps);
     out.print(rt)?;

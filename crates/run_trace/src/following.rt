@@ -4,7 +4,7 @@ ghost use Rattle.std.specs.Prelude.{◌≡◌, IfOk, OnOk};
 ghost use Rattle.cell_machine.specs.Run.{Ran};
 ghost use Rattle.race_order.specs.OrderedRuns.{StandsForRun};
 
-use anyhow::{Error, Result, anyhow, bail};
+use anyhow::{Error, Result, anyhow};
 use cell_base::Step;
 use cell_machine::{Effect, Machine};
 use race_order::Orderer;
@@ -26,9 +26,7 @@ pub fn make(machine: &mut Machine, step: Step) -> Result<Effect> {
 /// Makes steps.
 pub fn make_all(machine: &mut Machine, steps: &[Step]) -> Result<()> {
     for step in steps {
-        if machine.step(*step).is_err() {
-            return Err(refused(*step));
-        }
+        make(machine, *step)?;
     }
     Ok(())
 }
@@ -63,12 +61,17 @@ pub fn take_all(orderer: &mut Orderer, machine: &mut Machine, steps: &[Step]) ->
     Ok(())
 }
 
+/// The fault of a record that has fewer steps than are asked for.
+fn too_short(count: u32) -> Error {
+    anyhow!("the record has fewer than {count} steps")
+}
+
 /// The first so many steps, if there are so many.
 pub fn first_steps(steps: &[Step], count: u32) -> Result<&[Step]> {
-    match steps.split_at_checked(count as usize) {
-        Some((first, _)) => Ok(first),
-        None => bail!("the record has fewer than {count} steps"),
+    if count as usize > steps.len() {
+        return Err(too_short(count));
     }
+    Ok(&steps[..count as usize])
 }
 
 /// Whether step `i` is ordered before the last one; false where it isn't an earlier one.

@@ -1,11 +1,11 @@
 //! The lines that tools read: fields behind bars, each of words between blanks.
 
-use anyhow::{Result, bail};
+use crate::showing::{no_memory, print_bytes};
+use anyhow::Result;
 use cell_base::Step;
 use cell_base::line_text::put_decimal;
+use cell_report::put_step;
 use std::alloc::Global;
-use std::io;
-use std::io::Write;
 
 /// How many bytes are gathered before they are printed.
 const PAGE: usize = 65_536;
@@ -28,13 +28,13 @@ impl Text {
     /// Writes these characters.
     pub fn put(&mut self, characters: &str) {
         let written = self.bytes.extend_from_slice(characters.as_bytes());
-        self.lacks_memory = self.lacks_memory || written.is_err();
+        self.lacks_memory |= written.is_err();
     }
 
     /// Writes a number.
     pub fn put_number(&mut self, n: u32) {
         let written = put_decimal(&mut self.bytes, n);
-        self.lacks_memory = self.lacks_memory || written.is_err();
+        self.lacks_memory |= written.is_err();
     }
 
     /// Writes a word behind a blank.
@@ -43,52 +43,55 @@ impl Text {
         self.put(word);
     }
 
+    /// Writes a number behind a blank.
+    pub fn number(&mut self, n: u32) {
+        self.put(" ");
+        self.put_number(n);
+    }
+
     /// Writes numbers, each behind a blank.
     pub fn numbers(&mut self, numbers: &[u32]) {
         for n in numbers {
-            self.put(" ");
-            self.put_number(*n);
+            self.number(*n);
         }
     }
 
-    /// Begins a line by a word and numbers.
-    pub fn head(&mut self, word: &str, numbers: &[u32]) {
-        self.put(word);
-        self.numbers(numbers);
+    /// Begins a field by its name.
+    pub fn field(&mut self, name: &str) {
+        self.put(" | ");
+        self.put(name);
     }
 
-    /// Begins a field by its name and numbers.
-    pub fn field(&mut self, name: &str, numbers: &[u32]) {
-        self.put(" | ");
-        self.head(name, numbers);
+    /// Writes a field of one number.
+    pub fn field_of(&mut self, name: &str, n: u32) {
+        self.field(name);
+        self.number(n);
+    }
+
+    /// Writes a field of two numbers.
+    pub fn field_of_two(&mut self, name: &str, first: u32, second: u32) {
+        self.field_of(name, first);
+        self.number(second);
     }
 
     /// Begins a line by a step as its line in a record.
     pub fn step(&mut self, step: Step) {
-        match step {
-            Step::Exec { spe } => self.head("x", &[u32::from(spe)]),
-            Step::Piece {
-                spe,
-                cmd,
-                elem,
-                part,
-            } => self.head(
-                "p",
-                &[u32::from(spe), cmd, u32::from(elem), u32::from(part)],
-            ),
-            Step::Elem { spe, cmd } => self.head("e", &[u32::from(spe), cmd]),
-            Step::Retire { spe, cmd } => self.head("r", &[u32::from(spe), cmd]),
-            Step::Atomic { spe } => self.head("a", &[u32::from(spe)]),
-            Step::Host => self.put("h"),
-        }
+        let written = put_step(&mut self.bytes, step);
+        self.lacks_memory |= written.is_err();
+        // here the line goes on
+        self.bytes.pop();
+    }
+
+    pub fn end_line(&mut self) {
+        self.put("\n");
     }
 
     /// Prints the text, and begins it anew.
     pub fn print(&mut self, rt: &HostRuntime) -> Result<()> {
         if self.lacks_memory {
-            bail!("out of memory");
+            return Err(no_memory());
         }
-        io::writer(rt).write_all(self.bytes.as_slice())?;
+        print_bytes(rt, self.bytes.as_slice())?;
         self.bytes.clear();
         Ok(())
     }

@@ -18,7 +18,9 @@ mod effects;
 mod flows;
 mod following;
 mod lines;
+mod ordering;
 mod outstanding;
+mod performing;
 mod reading;
 mod showing;
 mod telling;
@@ -27,37 +29,35 @@ mod tracing;
 mod watching;
 mod words;
 
-use answering::{print_answer, print_times};
-use anyhow::{Result, bail};
-use choosing::{print_alone, print_chosen};
-use std::{env, io};
+use answering::print_answer;
+use anyhow::{Error, Result, anyhow};
+use choosing::print_chosen;
+use performing::{Task, perform};
+use std::env;
 use words::{Form, USAGE, form_of};
 
-/// The words of the command line.
-fn read_words(rt: &HostRuntime) -> io::Result<Vec<String>> {
-    let mut words = Vec::new(rt.alloc());
-    for word in env::args(rt)?.skip(1) {
-        words.push(word)?;
-    }
-    Ok(words)
+/// The fault of words that have no form.
+fn misused() -> Error {
+    anyhow!("{USAGE}")
 }
 
 /// Prints what the words ask for.
-fn obey(rt: &HostRuntime, words: &[String]) -> Result<()> {
-    match form_of(words) {
+fn obey(rt: &HostRuntime, form: Form<'_>) -> Result<()> {
+    match form {
+        Form::Alone { machine } => perform(rt, machine, Task::Alone),
         Form::Choose { machine, choices } => print_chosen(rt, machine, choices),
-        Form::Alone { machine } => print_alone(rt, machine),
         Form::Ask {
             question,
             machine,
             record,
         } => print_answer(rt, question, machine, record),
-        Form::Time { machine, record } => print_times(rt, machine, record),
-        Form::NoForm => bail!("{USAGE}"),
     }
 }
 
 fn main(rt: HostRuntime) -> Result<()> {
-    let words = read_words(&rt)?;
-    obey(&rt, words.as_slice())
+    let words: Vec<String> = env::args(&rt)?.skip(1).collect(rt.alloc())?;
+    match form_of(words.as_slice()) {
+        Some(form) => obey(&rt, form),
+        None => Err(misused()),
+    }
 }

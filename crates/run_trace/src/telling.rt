@@ -1,8 +1,8 @@
 //! The fields by which tools know commands and elements.
 
 use crate::lines::Text;
-use crate::outstanding::{Element, Outstanding};
-use mfc_command::{AtomicKind, AtomicOp, Kind, Mark};
+use crate::outstanding::Element;
+use mfc_command::{AtomicKind, AtomicOp, Command, Kind, Mark};
 
 fn kind_word(kind: Kind) -> &'static str {
     match kind {
@@ -31,36 +31,28 @@ fn atomic_word(kind: AtomicKind) -> &'static str {
 }
 
 /// Its number, kind, mark and tag, its addresses, of which the effective one in two halves, and its size.
-pub fn put_command(out: &mut Text, it: &Outstanding) {
-    let command = it.command;
-    out.numbers(&[it.number]);
+pub fn put_command(out: &mut Text, number: u32, command: Command, high: u32) {
+    out.number(number);
     out.word(kind_word(command.kind));
     out.word(mark_word(command.mark));
-    out.numbers(&[
-        u32::from(command.tag),
-        command.ls,
-        it.high,
-        command.ea,
-        command.size,
-    ]);
+    out.number(u32::from(command.tag));
+    out.numbers(&[command.ls, high, command.ea, command.size]);
 }
 
 /// A field of an atomic command: its kind, its local store address, and the number of its line.
 pub fn put_atomic(out: &mut Text, atomic: Option<AtomicOp>) {
     if let Some(atomic) = atomic {
-        out.field("atomic", &[]);
+        out.field("atomic");
         out.word(atomic_word(atomic.kind));
         out.numbers(&[atomic.ls, atomic.line]);
     }
 }
 
-/// Its number, in how many parts it is copied, whether the list stalls behind it, and its effective address and size.
-pub fn element_numbers(element: Element) -> [u32; 5] {
-    [
-        element.number,
-        element.parts,
-        u32::from(element.flagged),
-        element.ea,
-        element.size,
-    ]
+/// A field of an element: its number, in how many parts it is copied, whether the list stalls behind it, and its effective address and size.
+pub fn put_element(out: &mut Text, element: Option<Element>) {
+    if let Some(element) = element {
+        out.field("element");
+        out.numbers(&[element.number, element.parts, u32::from(element.flagged)]);
+        out.numbers(&[element.ea, element.size]);
+    }
 }

@@ -1,13 +1,13 @@
 //! The steps of a run with their effects, and what is ordered before each.
 
-ghost use Rattle.std.specs.Prelude.{◌≡◌, ◌+◌, ◌*◌, ◌<◌, ◌≤◌, [], length};
+ghost use Rattle.std.specs.Prelude.{◌≡◌, ◌+◌, ◌*◌, ◌<◌, ◌≤◌, length};
 ghost use Rattle.cell_machine.specs.Run.{Ran};
 ghost use Rattle.race_order.specs.OrderedRuns.{StandsForRun};
 
 use crate::following::{is_before, take};
 use anyhow::Result;
 use cell_base::Step;
-use cell_machine::Machine;
+use cell_machine::{Effect, Machine};
 use race_order::Orderer;
 use std::alloc::{AllocError, Global};
 
@@ -31,9 +31,31 @@ fn places_before(
     Ok(places)
 }
 
+/// Prints a step with its effect and the places that are ordered before it.
+fn print_step(rt: &HostRuntime, step: Step, effect: Effect, before: &[u32]) -> Result<()> {
+    println!(rt; "{step:?} | {effect:?} | {before:?}")?;
+    Ok(())
+}
+
+/// Prints the last step.
+fn print_last(
+    rt: &HostRuntime,
+    orderer: &Orderer,
+    machine: &Machine,
+    step: Step,
+    effect: Effect,
+) -> Result<()>
+    ghost m: { Ran }
+    requires same { m ≡ machine.now }
+    requires stands { StandsForRun orderer.now m }
+{
+    let before = places_before(rt.alloc(), orderer, machine)?;
+    print_step(rt, step, effect, before.as_slice())
+}
+
 /// Makes the steps, and prints each with its effect and the places of the steps that are ordered before it.
-fn print_steps<R: Print + AllocGlobal>(
-    rt: &R,
+pub fn print_steps(
+    rt: &HostRuntime,
     orderer: &mut Orderer,
     machine: &mut Machine,
     steps: &[Step],
@@ -44,16 +66,7 @@ fn print_steps<R: Print + AllocGlobal>(
 {
     for step in steps {
         let effect = take(orderer, machine, *step)?;
-        let before = places_before(rt.alloc(), orderer, machine)?;
-        println!(rt; "{step:?} | {effect:?} | {before:?}")?;
+        print_last(rt, orderer, machine, *step, effect)?;
     }
     Ok(())
-}
-
-/// Follows steps from a machine's start, and prints them with what is ordered before each.
-pub fn show_trace(rt: &HostRuntime, machine: &mut Machine, steps: &[Step]) -> Result<()>
-    requires { machine.old ≡ record { setup = machine.old.setup; steps = [] } }
-{
-    let mut orderer = Orderer::new(rt.alloc(), machine.setup())?;
-    print_steps(rt, &mut orderer, machine, steps)
 }

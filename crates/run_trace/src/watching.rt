@@ -6,7 +6,7 @@ use anyhow::Result;
 use cell_base::{ChannelOp, Step};
 use cell_host::HostAction;
 use cell_machine::{Effect, Machine, Note};
-use spu_decode::{Row, decode};
+use spu_decode::{Instr, Row, decode};
 
 /// How many bytes a local store has.
 const STORE_BYTES: u32 = 262_144;
@@ -28,6 +28,18 @@ pub struct Made {
     pub value: u32,
     /// The element of a list that it read.
     pub element: Option<Element>,
+}
+
+/// The processor that makes a step, or whose flow controller does.
+pub fn spe_of(step: Step) -> Option<u8> {
+    match step {
+        Step::Exec { spe } => Some(spe),
+        Step::Piece { spe, .. } => Some(spe),
+        Step::Elem { spe, .. } => Some(spe),
+        Step::Retire { spe, .. } => Some(spe),
+        Step::Atomic { spe } => Some(spe),
+        Step::Host => None,
+    }
 }
 
 /// Word 0 of a register, 0 where there is none.
@@ -52,33 +64,37 @@ fn next_word(machine: &Machine, spe: u8) -> Option<u32> {
     }
 }
 
+/// What an instruction asks of a channel, whose register RT has this word.
+fn operation(instruction: Instr, value: u32) -> Option<ChannelOp> {
+    let (rt, ch) = (instruction.rt, instruction.ra);
+    match instruction.row {
+        Row::Rdch => Some(ChannelOp::Read { rt, ch }),
+        Row::Rchcnt => Some(ChannelOp::Count { rt, ch }),
+        Row::Wrch => Some(ChannelOp::Write { ch, value }),
+        _ => None,
+    }
+}
+
 /// What the next instruction of a processor asks of a channel.
 fn asked_of(machine: &Machine, spe: u8) -> Option<ChannelOp> {
-    let instr = decode(next_word(machine, spe)?)?;
-    match instr.row {
-        Row::Rdch => Some(ChannelOp::Read {
-            rt: instr.rt,
-            ch: instr.ra,
-        }),
-        Row::Rchcnt => Some(ChannelOp::Count {
-            rt: instr.rt,
-            ch: instr.ra,
-        }),
-        Row::Wrch => Some(ChannelOp::Write {
-            ch: instr.ra,
-            value: register_of(machine, spe, instr.rt),
-        }),
-        _ => None,
+    let instruction = decode(next_word(machine, spe)?)?;
+    operation(instruction, register_of(machine, spe, instruction.rt))
+}
+
+/// The value that the host took last.
+fn value_taken(machine: &Machine) -> u32 {
+    match machine.host().took().last() {
+        Some(took) => took.value,
+        None => 0,
     }
 }
 
 /// What the action that the host did last sent or took.
 fn value_of_host(machine: &Machine) -> u32 {
     let done = machine.host().place() as usize;
-    let action = machine.setup().actions().get(done.saturating_sub(1));
-    match action {
+    match machine.setup().actions().get(done.saturating_sub(1)) {
         Some(HostAction::Send { value, .. }) => *value,
-        _ => machine.host().took().last().map_or(0, |took| took.value),
+        _ => value_taken(machine),
     }
 }
 
@@ -103,15 +119,12 @@ fn words_at(machine: &Machine, spe: u8, at: u32) -> (u32, u32) {
 }
 
 /// The element that a step read.
-fn element_of(machine: &Machine, step: Step, effect: &Effect) -> Option<Element> {
-    let (
-        Step::Elem { spe, .. },
-        Note::Element {
-            number,
-            parts,
-            flagged,
-        },
-    ) = (step, effect.note)
+fn element_of(machine: &Machine, spe: u8, effect: &Effect) -> Option<Element> {
+    let Note::Element {
+        number,
+        parts,
+        flagged,
+    } = effect.note
     else {
         return None;
     };
@@ -125,23 +138,34 @@ fn element_of(machine: &Machine, step: Step, effect: &Effect) -> Option<Element>
     })
 }
 
-/// Makes a step, and tells what it did.
-pub fn watch(machine: &mut Machine, step: Step) -> Result<Made> {
-    let channel = match step {
+/// What the next instruction asks of a channel, where the step is one.
+fn channel_of(machine: &Machine, step: Step) -> Option<ChannelOp> {
+    match step {
         Step::Exec { spe } => asked_of(machine, spe),
         _ => None,
+    }
+}
+
+/// What a step did, once it was made.
+fn made_by(machine: &Machine, step: Step, effect: Effect, channel: Option<ChannelOp>) -> Made {
+    let (value, element) = match step {
+        Step::Exec { spe } => (value_of(machine, spe, channel), None),
+        Step::Elem { spe, .. } => (0, element_of(machine, spe, &effect)),
+        Step::Host => (value_of_host(machine), None),
+        _ => (0, None),
     };
-    let effect = make(machine, step)?;
-    let value = match step {
-        Step::Exec { spe } => value_of(machine, spe, channel),
-        Step::Host => value_of_host(machine),
-        _ => 0,
-    };
-    Ok(Made {
+    Made {
         step,
         effect,
         channel,
         value,
-        element: element_of(machine, step, &effect),
-    })
+        element,
+    }
+}
+
+/// Makes a step, and tells what it did.
+pub fn watch(machine: &mut Machine, step: Step) -> Result<Made> {
+    let channel = channel_of(machine, step);
+    let effect = make(machine, step)?;
+    Ok(made_by(machine, step, effect, channel))
 }

@@ -9,23 +9,18 @@ pub const USAGE: &str =
 /// What the words ask for. Each name is that of a file.
 #[derive(Clone, Copy)]
 pub enum Form<'a> {
+    Alone {
+        machine: &'a str,
+    },
     Choose {
         machine: &'a str,
         choices: &'a str,
-    },
-    Alone {
-        machine: &'a str,
     },
     Ask {
         question: Question,
         machine: &'a str,
         record: &'a str,
     },
-    Time {
-        machine: &'a str,
-        record: &'a str,
-    },
-    NoForm,
 }
 
 /// The question that a word asks of all steps.
@@ -34,6 +29,7 @@ fn question_named(word: &str) -> Option<Question> {
         "effects" => Some(Question::Effects),
         "trace" => Some(Question::Trace),
         "states" => Some(Question::States),
+        "time" => Some(Question::Time),
         _ => None,
     }
 }
@@ -47,54 +43,50 @@ fn question_with(word: &str, number: u32) -> Option<Question> {
     }
 }
 
-/// The form of a question, if there is one.
-fn asking<'a>(question: Option<Question>, machine: &'a str, record: &'a str) -> Form<'a> {
-    match question {
-        Some(question) => Form::Ask {
-            question,
-            machine,
-            record,
-        },
-        None => Form::NoForm,
+/// The form of two words.
+fn form_of_two<'a>(form: &str, machine: &'a str) -> Option<Form<'a>> {
+    match form {
+        "alone" => Some(Form::Alone { machine }),
+        _ => None,
     }
 }
 
-/// The form that a word names which stands before these two files.
-fn form_named<'a>(form: &str, machine: &'a str, file: &'a str) -> Form<'a> {
+/// The form of three words, of which the last names a file.
+fn form_of_three<'a>(form: &str, machine: &'a str, file: &'a str) -> Option<Form<'a>> {
     match form {
-        "choose" => Form::Choose {
+        "choose" => Some(Form::Choose {
             machine,
             choices: file,
-        },
-        "time" => Form::Time {
+        }),
+        _ => Some(Form::Ask {
+            question: question_named(form)?,
             machine,
             record: file,
-        },
-        _ => asking(question_named(form), machine, file),
+        }),
     }
 }
 
 /// The form of four words, of which the last is a number.
-fn form_of_four<'a>(form: &str, machine: &'a str, record: &'a str, number: &str) -> Form<'a> {
-    match number.parse::<u32>() {
-        Ok(number) => asking(question_with(form, number), machine, record),
-        Err(_) => Form::NoForm,
-    }
+fn form_of_four<'a>(
+    form: &str,
+    machine: &'a str,
+    record: &'a str,
+    number: &str,
+) -> Option<Form<'a>> {
+    let number = number.parse::<u32>().ok()?;
+    Some(Form::Ask {
+        question: question_with(form, number)?,
+        machine,
+        record,
+    })
 }
 
-/// The form of the words.
-pub fn form_of(words: &[String]) -> Form<'_> {
+/// The form of the words, if they have one.
+pub fn form_of(words: &[String]) -> Option<Form<'_>> {
     match words {
-        [form, machine] if form.as_str() == "alone" => Form::Alone {
-            machine: machine.as_str(),
-        },
-        [form, machine, file] => form_named(form.as_str(), machine.as_str(), file.as_str()),
-        [form, machine, record, number] => form_of_four(
-            form.as_str(),
-            machine.as_str(),
-            record.as_str(),
-            number.as_str(),
-        ),
-        _ => Form::NoForm,
+        [form, machine] => form_of_two(form, machine),
+        [form, machine, file] => form_of_three(form, machine, file),
+        [form, machine, record, number] => form_of_four(form, machine, record, number),
+        _ => None,
     }
 }

@@ -1,7 +1,7 @@
 use Rattle.run_trace.proofs.timing.time_order.Given as goal
 
-abbrev pub ghost-time_taken : goal.ghost-time_taken
-ghost-time_taken a = a.machine.now
+abbrev pub ghost-follow_asking : goal.ghost-follow_asking
+ghost-follow_asking g a = g.m
 
-abbrev pub ghost-time_asked : goal.ghost-time_asked
-ghost-time_asked a = a.machine.now
+abbrev pub ghost-take_all : goal.ghost-take_all
+ghost-take_all g a = g.m

@@ -4,8 +4,8 @@ use Rattle.run_trace.proofs.tracing.print_steps.Given as goal
 abbrev pub ghost-take : goal.ghost-take
 ghost-take g a = a.machine.now
 
-abbrev pub ghost-places_before : goal.ghost-places_before
-ghost-places_before g a = a.machine.now
+abbrev pub ghost-print_last : goal.ghost-print_last
+ghost-print_last g a = a.machine.now
 
 -- the orderer stands for the machine's run
 abbrev pub invariant-loop-step : goal.invariant-loop-step

@@ -1,0 +1,13 @@
+use Rattle.run_trace.proofs.ordering.show_ordered.Given as goal
+
+abbrev pub ghost-print_steps : goal.ghost-print_steps
+ghost-print_steps g a = g.m
+
+abbrev pub ghost-take_all : goal.ghost-take_all
+ghost-take_all g a = g.m
+
+abbrev pub ghost-print_ranges : goal.ghost-print_ranges
+ghost-print_ranges g a = a.machine.now
+
+abbrev pub ghost-time_order : goal.ghost-time_order
+ghost-time_order g a = g.m

@@ -1,0 +1,63 @@
+//! What is told of the order of steps, which an orderer follows beside the machine.
+
+ghost use Rattle.std.specs.Prelude.{◌≡◌, []};
+ghost use Rattle.cell_machine.specs.Run.{Ran};
+ghost use Rattle.race_order.specs.OrderedRuns.{StandsForRun};
+
+use crate::before::print_ranges;
+use crate::following::take_all;
+use crate::timing::time_order;
+use crate::tracing::print_steps;
+use anyhow::Result;
+use cell_base::Step;
+use cell_machine::Machine;
+use race_order::Orderer;
+
+/// What is to be printed of the order of steps.
+#[derive(Clone, Copy)]
+pub enum Order {
+    /// Each step with its effect and the places that are ordered before it.
+    Trace,
+    /// The places that are ordered before the last step.
+    Before,
+    /// How long it takes to order them.
+    Time,
+    /// The same where questions are put at each step.
+    TimeAsking,
+}
+
+/// Follows steps, and prints something of their order.
+fn show_ordered(
+    rt: &HostRuntime,
+    order: Order,
+    orderer: &mut Orderer,
+    machine: &mut Machine,
+    steps: &[Step],
+) -> Result<()>
+    ghost m: { Ran }
+    requires same { m ≡ machine.old }
+    requires stands { StandsForRun orderer.old m }
+{
+    match order {
+        Order::Trace => print_steps(rt, orderer, machine, steps),
+        Order::Before => {
+            take_all(orderer, machine, steps)?;
+            print_ranges(rt, orderer, machine)
+        }
+        Order::Time => time_order(rt, false, orderer, machine, steps),
+        Order::TimeAsking => time_order(rt, true, orderer, machine, steps),
+    }
+}
+
+/// Follows steps from a machine's start, and prints something of their order.
+pub fn show_order(
+    rt: &HostRuntime,
+    order: Order,
+    machine: &mut Machine,
+    steps: &[Step],
+) -> Result<()>
+    requires { machine.old ≡ record { setup = machine.old.setup; steps = [] } }
+{
+    let mut orderer = Orderer::new(rt.alloc(), machine.setup())?;
+    show_ordered(rt, order, &mut orderer, machine, steps)
+}
