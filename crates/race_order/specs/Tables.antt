@@ -61,7 +61,7 @@ base_number (OfAtomic p) = 256 * p + 2
 base_number (OfEnd p) = 256 * p + 3
 base_number (OfBox q m r) = 256 * q + 4 + 4 * m + r
 base_number OfHost = 18
-base_number (OfLine a) = 4096 + a / 128
+base_number (OfLine a) = 256 * (a / 128 / 32 % 16) + 224 + a / 128 % 32
 
 abbrev pub number : QueueRole → ℕ
 number (Base r) = base_number r

@@ -1,6 +1,8 @@
 //! In which bucket a role's set stands.
 //!
-//! Each role that can come has a bucket of its own, but for commands of one processor whose numbers differ by a multiple of 64.
+//! Each role that can come has a bucket of its own, but for commands of one processor whose numbers differ by a multiple of 64, and for lines
+//! whose numbers differ by a multiple of 512. The lines take what the roles of the processors leave of each 256 numbers: there are as many
+//! buckets as the highest number says, and they are made anew for each run.
 
 ghost use Rattle.std.specs.Prelude.{◌≡◌, ℕ, ◌+◌, ◌*◌, ◌/◌, ◌%◌, ◌<◌, ◌^◌};
 ghost use Rattle.race_order.specs.Tables.{class_number, base_number, number};
@@ -34,7 +36,10 @@ fn base_number(role: Role) -> u64
             place,
         } => 256 * u64::from(spe) + 4 + 4 * u64::from(mailbox) + u64::from(place),
         Role::OfHost => 18,
-        Role::OfLine { address } => 4096 + u64::from(address) / 128,
+        Role::OfLine { address } => {
+            let line = u64::from(address) / 128;
+            256 * (line / 32 % 16) + 224 + line % 32
+        }
     }
 }
 
