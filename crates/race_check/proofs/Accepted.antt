@@ -1,19 +1,33 @@
 -- The verdict on a run, and a run without a race in each of its reorderings.
-use Rattle.std.proofs.Common.{◌≡◌, ℕ, ◌<◌, ◌≤◌, arith, length, Some, sym, ap, ◌∙◌, subst}
-use Rattle.std.proofs.lemmas.List.{length-map}
+use Rattle.std.proofs.Common.{◌≡◌, ℕ, zero, suc, ◌+◌, ◌<◌, ◌≤◌, ◌^◌, List, [], ◌∷◌, ◌++◌, true, false, arith, length, take, Some, refl, sym, ap, ◌∙◌, subst}
+use Rattle.std.specs.Prelude.{slice_get}
+use Rattle.std.proofs.lemmas.List.{length-map, length_push, take-append-le, take_all}
 use Rattle.std.proofs.lemmas.Option.{slice_get_within}
+use Rattle.cell_base.specs.declared.steps.Step.{Step}
+use Rattle.cell_machine.specs.Opening.{Opening}
+use Rattle.cell_machine.proofs.Same.{get-last}
 use Rattle.cell_machine.specs.Opening.{opening}
-use Rattle.cell_machine.specs.Run.{Ran}
+use Rattle.cell_machine.specs.Run.{Ran, IsRun}
 use Rattle.cell_machine.specs.Sound.{byte_of}
 use Rattle.cell_machine.specs.Traces.{trace_of}
+use Rattle.cell_machine.specs.declared.effect.Effect.{Effect}
+use Rattle.cell_machine.specs.Effects.{effect_in}
+use Rattle.cell_machine.proofs.Same.{some_same}
 use Rattle.race_order.specs.Rules.{Rule, Ordered}
 use Rattle.race_order.specs.Told.{trace_in}
+use Rattle.race_order.proofs.OrderedRuns.{follows, run-told as told-by}
 use Rattle.race_check.specs.declared.check.Verdict.TheVariants.{Accepted, Race as Racing}
 use Rattle.race_check.specs.Races.{access_of, IsLeast, IsVerdict, Race, RaceBy}
-use Rattle.race_check.specs.Walks.{IsOrdered, accesses_in, RaceIn}
+use Rattle.race_check.specs.Walks.{IsAt, IsOrdered, accesses_in, RaceIn, Stands}
 use Rattle.race_check.specs.Reorderings.{EveryReorderingAgrees, KeepsOrder}
 use Rattle.race_check.proofs.Agree.{agrees}
-use Rattle.race_check.proofs.Prefixes.{accesses-long, on_trace, run-acted}
+use Rattle.race_check.proofs.Prefixes.{access-within, accesses-long, first_of, on_trace, run-acted, run-told, trace-first, trace_in-first}
+use Rattle.race_check.proofs.Checks.{least_next, least_whole, none_next, shows_none, shows_whole}
+use Rattle.race_check.specs.declared.access.Access.{Access}
+use Rattle.race_check.specs.declared.search.Search.{Search}
+use Rattle.race_check.specs.declared.walk.Walk.{Walk}
+use Rattle.race_check.specs.Shows.{HasRace, Shows, StepTells}
+use Rattle.race_check.specs.Searches.{IsClear, Keeps, run_of}
 
 module _ (m : Ran) (is : trace_of m ≡ Some (trace_in m)) where
   -- the races of the run are those of its trace
@@ -23,13 +37,6 @@ module _ (m : Ran) (is : trace_of m ≡ Some (trace_in m)) where
   race_on : (i j : ℕ) → RaceIn m i j → Race (trace_in m) i j
   unfolding IsOrdered
   race_on i j race = record { below = race.below; unordered = λ o. race.unordered record { trace = trace_in m; is = is; so = o }; conflict = race.conflict }
-
-  -- the first n steps are all
-  pub none-of-all : (n : ℕ) → length m.steps ≤ n → ((i k : ℕ) → k < n → RaceIn m i k → ⊥) → (i k : ℕ) → RaceIn m i k → ⊥
-  none-of-all n all none i k race =
-      let low = slice_get_within (accesses_in m) k race.conflict.second race.conflict.second_at in
-      let long = accesses-long m is in
-      none i k (omega arith) race
 
   pub accepted : ((i j : ℕ) → RaceIn m i j → ⊥) → IsVerdict m Accepted
   accepted none = record { trace = trace_in m; is = is; so = λ i j race. none i j (race_of i j race) }
@@ -59,3 +66,129 @@ module _ (m : Ran) (is : trace_of m ≡ Some (trace_in m)) where
             agrees (Ordered Rule (trace_in m)) (byte_of (opening m.setup)) r.0 (subst (λ accesses. (i j : ℕ) → RaceBy (Ordered Rule (trace_in m)) accesses i j → ⊥) (sym r.2) free) order
             (subst (λ n. KeepsOrder (Ordered Rule (trace_in m)) n order) (sym many) keeps);
       }
+
+-- ---- the verdict on the first steps of a run
+
+length-take-most : {X : Type 0} (n : ℕ) (xs : List X) → length (take n xs) ≤ n
+length-take-most zero xs = omega arith
+length-take-most (suc n) [] = omega arith
+length-take-most (suc n) (x ∷ xs) = let rest = length-take-most n xs in omega (arith, rest)
+
+-- a verdict is on the run's trace
+least_of : (m : Ran) (i j : ℕ) → (is : trace_of m ≡ Some (trace_in m)) → IsVerdict m (Racing i j) → IsLeast (RaceIn m) i j
+least_of m i j is v =
+    let least : IsLeast (Race (trace_in m)) i j = subst (λ trace. IsLeast (Race trace) i j) (some_same v.trace (trace_in m) (sym v.is ∙ is)) v.so in
+    record {
+      holds = race_of m is i j least.holds;
+      least_second = λ k n race. least.least_second k n (race_on m is k n race);
+      least_first = λ k race. least.least_first k (race_on m is k j race);
+    }
+
+-- a race of the first steps is the least of all
+pub raced-whole : (m w : Ran) (n i j : ℕ) → IsRun m.setup m.steps → w ≡ first_of m n → IsVerdict w (Racing i j) → IsVerdict m (Racing i j)
+raced-whole m w n i j run made v =
+    let is = run-told m run in
+    let first : trace_of w ≡ Some (trace_in w) = subst (λ r. trace_of r ≡ Some (trace_in r)) (sym made) (trace-first m n is ∙ ap Some (sym (trace_in-first m n is))) in
+    let low : j < length w.steps = access-within w v.trace v.is j v.so.holds.conflict.second v.so.holds.conflict.second_at in
+    let few : length w.steps ≤ n = subst (λ (r : Ran). length r.steps ≤ n) (sym made) (length-take-most n m.steps) in
+    raced m is i j (least_whole m is n w made i j (omega arith) (least_of w i j first v))
+
+-- ---- a search
+
+-- what it keeps says that its run has no race
+pub clear : (s : Search) → Keeps s → IsClear s
+unfolding Stands
+clear s keeps =
+    let is = told-by s.walk.orderer (run_of s) keeps.stands in
+    record { accepted = accepted (run_of s) is keeps.none; agree = every-reordering-agrees (run_of s) is keeps.none; keeps = keeps }
+
+-- before the first step
+pub clear-none : (s : Search) (setup : Opening) → run_of s ≡ record { setup = setup; steps = [] } → Stands s.walk → s.shadow.lists.items ≡ [] → s.accesses.items ≡ [] → IsClear s
+unfolding Stands
+clear-none s setup start stands empty none =
+    let m : Ran = run_of s in
+    let is = told-by s.walk.orderer m stands in
+    let steps : m.steps ≡ [] = ap (λ (r : Ran). r.steps) start in
+    let long : length (accesses_in m) ≡ 0 = accesses-long m is ∙ ap length steps in
+    let zero : 0 ≡ length m.steps = sym (ap length steps) in
+    clear s record {
+      stands = stands;
+      accesses = none ∙ sym (nothing (accesses_in m) long);
+      shows = subst (Shows (IsOrdered m) (accesses_in m) s.shadow) zero (shows_none (IsOrdered m) (accesses_in m) s.shadow empty);
+      none = λ i j race. absurd (let low = slice_get_within (accesses_in m) j race.conflict.second race.conflict.second_at in omega (arith, low, long));
+    }
+  where
+    nothing : (xs : List Access) → length xs ≡ 0 → xs ≡ []
+    nothing [] e = refl
+    nothing (x ∷ xs) e = absurd (omega (arith, e))
+
+-- it has an access for each step
+pub counted : (s : Search) → Keeps s → length s.accesses.items ≡ length (run_of s).steps
+unfolding Stands
+counted s keeps = ap length keeps.accesses ∙ accesses-long (run_of s) (told-by s.walk.orderer (run_of s) keeps.stands)
+
+-- fewer than the budget, where one more is allowed
+pub counted-few : (s : Search) (step : Step) (e : Effect) → Keeps s → effect_in (run_of s) step ≡ Some e → length s.accesses.items < 2 ^ 32
+unfolding Stands
+counted-few s step e keeps effect =
+    let low = (follows (run_of s) step e effect).within in
+    let budget = keeps.stands.budget in
+    let long = counted s keeps in
+    omega (arith, low, budget, long)
+
+-- the place of the step
+pub step-at : (s : Search) (walk : Walk) (step : Step) (last : ℕ) → last ≡ length (run_of s).steps → walk.machine ≡ record (run_of s) { steps = (run_of s).steps ++ step ∷ [] } → Stands walk → IsAt walk last
+step-at s walk step last is made stands =
+    let long : length walk.machine.steps ≡ length (run_of s).steps + 1 = ap (λ (r : Ran). length r.steps) made ∙ length_push (run_of s).steps step in
+    record { stands = stands; last = omega (arith, is, long) }
+
+-- the search has made one step more, with this access
+pub record Advanced (old new : Search) (step : Step) (access : Access) : Type 0 where
+  pub keeps : Keeps old
+  pub made : run_of new ≡ record (run_of old) { steps = (run_of old).steps ++ step ∷ [] }
+  pub stands : Stands new.walk
+  pub more : accesses_in (run_of new) ≡ accesses_in (run_of old) ++ access ∷ []
+  pub put : new.accesses.items ≡ old.accesses.items ++ access ∷ []
+
+module _ (old new : Search) (step : Step) (access : Access) (a : Advanced old new step access) where
+  is : trace_of (run_of new) ≡ Some (trace_in (run_of new))
+  unfolding Stands
+  is = told-by new.walk.orderer (run_of new) a.stands
+
+  first : run_of old ≡ first_of (run_of new) (length (run_of old).steps)
+  first =
+      let steps = take-append-le (length (run_of old).steps) (run_of old).steps (step ∷ []) (omega arith) ∙ take_all (length (run_of old).steps) (run_of old).steps (omega arith) in
+      sym (ap (λ (r : Ran). first_of r (length (run_of old).steps)) a.made ∙ ap (λ (xs : List Step). let r : Ran = record (run_of old) { steps = xs } in r) steps)
+
+  long : length (run_of new).steps ≡ length (run_of old).steps + 1
+  long = ap (λ (r : Ran). length r.steps) a.made ∙ length_push (run_of old).steps step
+
+  at : slice_get (accesses_in (run_of new)) (length (run_of old).steps) ≡ Some access
+  unfolding Stands
+  at =
+      let many : length (run_of old).steps ≡ length (accesses_in (run_of old)) = sym (accesses-long (run_of old) (told-by old.walk.orderer (run_of old) a.keeps.stands)) in
+      ap (λ xs. slice_get xs (length (run_of old).steps)) a.more ∙ ap (slice_get (accesses_in (run_of old) ++ access ∷ [])) many ∙ get-last (accesses_in (run_of old)) access
+
+  shown : Shows (IsOrdered (run_of new)) (accesses_in (run_of new)) old.shadow (length (run_of old).steps)
+  shown = shows_whole (run_of new) is (length (run_of old).steps) (run_of old) first old.shadow (length (run_of old).steps) (omega arith) a.keeps.shows
+
+  -- the accesses, as they are kept
+  pub kept : new.accesses.items ≡ accesses_in (run_of new)
+  kept = a.put ∙ ap (λ xs. xs ++ access ∷ []) a.keeps.accesses ∙ sym a.more
+
+  -- the step races with none
+  pub clear-more : StepTells (IsOrdered (run_of new)) old.shadow new.shadow access (length (run_of old).steps) false → IsClear new
+  clear-more tells =
+      clear new record {
+        stands = a.stands;
+        accesses = kept;
+        shows = subst (Shows (IsOrdered (run_of new)) (accesses_in (run_of new)) new.shadow) (sym long) (tells.shows (accesses_in (run_of new)) at shown);
+        none = none_next (run_of new) (run_of old) is (length (run_of old).steps) first a.keeps.none (omega (arith, long)) (tells.none (accesses_in (run_of new)) at shown);
+      }
+
+  -- it races with one
+  pub has-race : StepTells (IsOrdered (run_of new)) old.shadow new.shadow access (length (run_of old).steps) true → HasRace (IsOrdered (run_of new)) (accesses_in (run_of new)) (length (run_of old).steps)
+  has-race tells = tells (accesses_in (run_of new)) at shown
+
+  pub raced-more : (i : ℕ) → RaceIn (run_of new) i (length (run_of old).steps) → ((k : ℕ) → k < i → RaceIn (run_of new) k (length (run_of old).steps) → ⊥) → IsVerdict (run_of new) (Racing i (length (run_of old).steps))
+  raced-more i race none = raced (run_of new) is i (length (run_of old).steps) (least_next (run_of new) (run_of old) is (length (run_of old).steps) first a.keeps.none i race none)

@@ -6,6 +6,7 @@ pub mod Meets
 pub mod Places
 pub mod CrowdLaws
 pub mod LineVisits
+pub mod Lists
 pub mod Visits
 pub mod Spans
 pub mod Steps

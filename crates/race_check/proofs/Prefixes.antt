@@ -1,8 +1,8 @@
 -- A run and its first steps: their traces, their order, and the actions that they are.
-use Rattle.std.proofs.Common.{◌≡◌, ℕ, zero, suc, ◌+◌, ◌<◌, List, [], ◌∷◌, ◌++◌, length, map, take, Bool, true, refl, sym, ap, ◌∙◌, subst, arith, Option, Some, None}
+use Rattle.std.proofs.Common.{◌≡◌, ℕ, zero, suc, ◌+◌, ◌<◌, ◌≤◌, List, [], ◌∷◌, ◌++◌, length, map, take, Bool, true, refl, sym, ap, ◌∙◌, subst, arith, Option, Some, None}
 use Rattle.std.specs.Prelude.{◌↔◌, IsTrue, nat_lt, slice_get, is_some, IsSome, option_map, option_and_then}
 use Rattle.std.proofs.lemmas.Bool.{lt-ltb}
-use Rattle.std.proofs.lemmas.List.{length-map, length-take-le, map-append, take-map, take-take, take_more}
+use Rattle.std.proofs.lemmas.List.{length-map, length-take-le, map-append, take-map, take-take, take_all, take_more}
 use Rattle.std.proofs.lemmas.Option.{get_or_from_slice_get, slice_get_within}
 use Rattle.cell_base.specs.declared.steps.Step.{Step}
 use Rattle.cell_machine.specs.State.{State}
@@ -14,7 +14,7 @@ use Rattle.cell_machine.specs.Effects.{effect_in, effect_of}
 use Rattle.cell_machine.specs.Traces.{Event, event, trace_from, trace_of}
 use Rattle.cell_machine.specs.ByteRuns.{Action, action_of, actions}
 use Rattle.cell_machine.proofs.EffectsDefined.{has-effects}
-use Rattle.cell_machine.proofs.Same.{get-last, some_same}
+use Rattle.cell_machine.proofs.Same.{some_same}
 use Rattle.cell_machine.proofs.StepBytes.{of_map, of_then}
 use Rattle.race_order.specs.Trace.{Trace}
 use Rattle.race_order.specs.Rules.{Rule, Edge, Ordered, One, Then}
@@ -131,7 +131,7 @@ says-ordered m i j b o = (λ t. record { trace = o.trace; is = o.is; so = o.so.0
 abbrev pub first_of : Ran → ℕ → Ran
 first_of m n = record m { steps = take n m.steps }
 
-trace-first : (m : Ran) (n : ℕ) → trace_of m ≡ Some (trace_in m) → trace_of (first_of m n) ≡ Some (take n (trace_in m))
+pub trace-first : (m : Ran) (n : ℕ) → trace_of m ≡ Some (trace_in m) → trace_of (first_of m n) ≡ Some (take n (trace_in m))
 trace-first m n is = trace-take (opening m.setup) m.steps (trace_in m) n is
 
 pub trace_in-first : (m : Ran) (n : ℕ) → trace_of m ≡ Some (trace_in m) → trace_in (first_of m n) ≡ take n (trace_in m)
@@ -156,19 +156,17 @@ accesses-next m s e is effect =
 
 -- ---- the step at j
 
--- the first j steps of a run were made again, and then the one at j
-pub record Made (m : Ran) (j : ℕ) (s : Step) (before after : Ran) (access : Access) : Type 0 where
-  pub first : before ≡ first_of m j
-  pub at : slice_get m.steps j ≡ Some s
-  pub more : after ≡ record before { steps = before.steps ++ s ∷ [] }
-  pub accesses : accesses_in after ≡ accesses_in before ++ access ∷ []
-
 take_one_more : (steps : List Step) (j : ℕ) (s : Step) → slice_get steps j ≡ Some s → take (j + 1) steps ≡ take j steps ++ s ∷ []
 take_one_more steps j s at = take_more steps j s (slice_get_within steps j s at) ∙ ap (λ x. take j steps ++ x ∷ []) (get_or_from_slice_get steps j s s at)
 
-pub made-first : (m : Ran) (j : ℕ) (s : Step) (before after : Ran) (access : Access) → Made m j s before after access → after ≡ first_of m (j + 1)
-made-first m j s before after access made =
-    made.more ∙ ap (λ (r : Ran). record r { steps = r.steps ++ s ∷ [] }) made.first ∙ ap (λ (steps : List Step). record m { steps = steps }) (sym (take_one_more m.steps j s made.at))
+-- the first j steps of a run were made again, and then the one at j
+pub first-more : (m : Ran) (j : ℕ) (s : Step) (before after : Ran) → before ≡ first_of m j → slice_get m.steps j ≡ Some s → after ≡ record before { steps = before.steps ++ s ∷ [] } → after ≡ first_of m (j + 1)
+first-more m j s before after first at more =
+    more ∙ ap (λ (r : Ran). record r { steps = r.steps ++ s ∷ [] }) first ∙ ap (λ (steps : List Step). record m { steps = steps }) (sym (take_one_more m.steps j s at))
+
+-- its first steps are all of them
+pub first-all : (m : Ran) (n : ℕ) → length m.steps ≤ n → first_of m n ≡ m
+first-all m n all = ap (λ (steps : List Step). let r : Ran = record m { steps = steps } in r) (take_all n m.steps all)
 
 -- a run has an access for each step
 pub accesses-long : (m : Ran) → trace_of m ≡ Some (trace_in m) → length (accesses_in m) ≡ length m.steps
@@ -182,14 +180,7 @@ access-within m trace is j a at =
     let long : length trace ≡ length m.steps = trace-long (opening m.setup) m.steps trace is in
     omega arith
 
-pub made-access : (m : Ran) (j : ℕ) (s : Step) (before after : Ran) (access : Access) → trace_of m ≡ Some (trace_in m) → Made m j s before after access → slice_get (accesses_in after) j ≡ Some access
-made-access m j s before after access is made =
-    let low : j < length m.steps = slice_get_within m.steps j s made.at in
-    let all : length (accesses_in m) ≡ length m.steps = accesses-long m is in
-    let long : length (accesses_in before) ≡ j = ap (λ r. length (accesses_in r)) made.first ∙ ap length (accesses_in-first m j is) ∙ length-take-le j (accesses_in m) (omega arith) in
-    ap (λ accesses. slice_get accesses j) made.accesses ∙ ap (slice_get (accesses_in before ++ access ∷ [])) (sym long) ∙ get-last (accesses_in before) access
-
--- it may be made
+-- the step at j may be made
 pub may-make : (m : Ran) (j : ℕ) (s : Step) (before : Ran) → IsRun m.setup m.steps → before ≡ first_of m j → slice_get m.steps j ≡ Some s → IsSome (next_of before s)
 may-make m j s before run first at =
     let end = there (replay (opening m.setup) m.steps) run.0 in

@@ -6,7 +6,7 @@ use Rattle.cell_machine.specs.declared.effect.Span.{Span}
 use Rattle.cell_machine.specs.Sound.{covers}
 use Rattle.race_check.specs.declared.access.Access.{Access}
 use Rattle.race_check.specs.declared.entry.Entry.{Entry}
-use Rattle.race_check.specs.declared.line.Line.{Line}
+use Rattle.race_check.specs.declared.shadow.Shadow.{Shadow}
 use Rattle.race_check.specs.Entries.{Holds}
 use Rattle.race_check.specs.Crowds.{IsSafe}
 use Rattle.race_check.specs.Shows.{AreReal, EntryTells, HasRace, IsAccess, IsReal, IsSpanOf, Kept, KeepsAll, TakesEntry, TakesSpan}
@@ -15,21 +15,21 @@ pub below_end : (s : Span) (p : Place) (x : ℕ) → covers s p x ≡ true → x
 below_end s p x e = let parts = and_parts _ _ e in let inner = and_parts _ _ parts.1 in ltb-true _ _ inner.1
 
 -- the bytes of a span in the lines below `line` were taken in
-pub record TakesBelow (Before : ℕ → ℕ → Type 0) (before after : List Line) (span : Span) (step : ℕ) (writes : Bool) (line : ℕ) : Type 0 where
+pub record TakesBelow (Before : ℕ → ℕ → Type 0) (before after : Shadow) (span : Span) (step : ℕ) (writes : Bool) (line : ℕ) : Type 0 where
   pub keeps : KeepsAll Before before after
   pub own : (p : Place) (x : ℕ) → covers span p x ≡ true → x / 128 < line → Kept Before after step p x writes
   pub real : (steps : List Access) → IsSpanOf steps step span writes → AreReal steps before (step + 1) → AreReal steps after (step + 1)
   pub clear : (i : ℕ) (p : Place) (x : ℕ) (w : Bool) → Kept Before before i p x w → covers span p x ≡ true → x / 128 < line → (w ≡ true) ⊎ (writes ≡ true) → IsSafe Before i step
 
-pub none_below : (Before : ℕ → ℕ → Type 0) (lines : List Line) (span : Span) (step : ℕ) (writes : Bool) (line : ℕ) → ((p : Place) (x : ℕ) → covers span p x ≡ true → x / 128 < line → ⊥) → TakesBelow Before lines lines span step writes line
-none_below Before lines span step writes line none = record {
+pub none_below : (Before : ℕ → ℕ → Type 0) (shadow : Shadow) (span : Span) (step : ℕ) (writes : Bool) (line : ℕ) → ((p : Place) (x : ℕ) → covers span p x ≡ true → x / 128 < line → ⊥) → TakesBelow Before shadow shadow span step writes line
+none_below Before shadow span step writes line none = record {
   keeps = record { keeps = λ i p x w k. k };
   own = λ p x c low. absurd (none p x c low);
   real = λ steps of real. real;
   clear = λ i p x w k c low one. absurd (none p x c low);
 }
 
-pub all_below : (Before : ℕ → ℕ → Type 0) (before after : List Line) (span : Span) (step : ℕ) (writes : Bool) (line : ℕ) → ((p : Place) (x : ℕ) → covers span p x ≡ true → x / 128 < line) → TakesBelow Before before after span step writes line → TakesSpan Before before after span step writes
+pub all_below : (Before : ℕ → ℕ → Type 0) (before after : Shadow) (span : Span) (step : ℕ) (writes : Bool) (line : ℕ) → ((p : Place) (x : ℕ) → covers span p x ≡ true → x / 128 < line) → TakesBelow Before before after span step writes line → TakesSpan Before before after span step writes
 all_below Before before after span step writes line all takes = record {
   keeps = takes.keeps;
   own = λ p x c. takes.own p x c (all p x c);
@@ -38,7 +38,7 @@ all_below Before before after span step writes line all takes = record {
 }
 
 -- the entry has the bytes of the span in the line
-module _ (Before : ℕ → ℕ → Type 0) (first before after : List Line) (span : Span) (step : ℕ) (writes : Bool) (line : ℕ) (entry : Entry) (is_step : entry.step ≡ step)
+module _ (Before : ℕ → ℕ → Type 0) (first before after : Shadow) (span : Span) (step : ℕ) (writes : Bool) (line : ℕ) (entry : Entry) (is_step : entry.step ≡ step)
     (holds : (p : Place) (x : ℕ) → covers span p x ≡ true → x / 128 ≡ line → Holds entry p x) (only : (p : Place) (x : ℕ) → Holds entry p x → covers span p x ≡ true) (below : TakesBelow Before first before span step writes line) where
   entry_access : (steps : List Access) → IsSpanOf steps step span writes → IsAccess steps entry writes
   entry_access steps of p x w h flags = subst (λ s. IsReal steps s p x w) (sym is_step) (of p x w (only p x h) flags)

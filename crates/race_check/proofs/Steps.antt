@@ -5,14 +5,14 @@ use Rattle.std.proofs.lemmas.Bool.{cases_lt}
 use Rattle.std.proofs.lemmas.Option.{same_Some}
 use Rattle.cell_machine.specs.declared.effect.Place.{Place}
 use Rattle.race_check.specs.declared.access.Access.{Access}
-use Rattle.race_check.specs.declared.line.Line.{Line}
+use Rattle.race_check.specs.declared.shadow.Shadow.{Shadow}
 use Rattle.race_check.specs.Races.{Conflict, ConflictAt, RaceBy}
 use Rattle.race_check.specs.Crowds.{IsSafe}
 use Rattle.race_check.specs.Lines.{InLine}
 use Rattle.race_check.specs.Shows.{AreReal, IsSpanOf, Kept, Shows, SpanTells, StepTells, TakesSpan, Touch, Fetched, Reads, Writes}
 
-real_next : (steps : List Access) (lines : List Line) (j : ℕ) → AreReal steps lines j → AreReal steps lines (j + 1)
-real_next steps lines j real = record { below = λ k line w s p x is has. let low = real.below k line w s p x is has in omega arith; real = real.real }
+real_next : (steps : List Access) (shadow : Shadow) (j : ℕ) → AreReal steps shadow j → AreReal steps shadow (j + 1)
+real_next steps shadow j real = record { below = λ k line w s p x is has. let low = real.below k line w s p x is has in omega arith; real = real.real }
 
 -- the spans of the step's access
 module _ (steps : List Access) (a : Access) (step : ℕ) (at : slice_get steps step ≡ Some a) where
@@ -34,14 +34,14 @@ module _ (steps : List Access) (a : Access) (step : ℕ) (at : slice_get steps s
   writes_of p x w c flags = record { access = a; at = at; touch = Writes c }
 
 -- a race with the fetch, with the reads, or with the writes
-pub fetch_races : (Before : ℕ → ℕ → Type 0) (l0 l1 after : List Line) (a : Access) (step : ℕ) → SpanTells Before l0 l1 a.fetch step false true → StepTells Before l0 after a step true
+pub fetch_races : (Before : ℕ → ℕ → Type 0) (l0 l1 after : Shadow) (a : Access) (step : ℕ) → SpanTells Before l0 l1 a.fetch step false true → StepTells Before l0 after a step true
 fetch_races Before l0 l1 after a step found steps at shows = found steps (fetch_of steps a step at) (real_next steps l0 step shows.real)
 
-pub reads_races : (Before : ℕ → ℕ → Type 0) (l0 l1 l2 after : List Line) (a : Access) (step : ℕ) → TakesSpan Before l0 l1 a.fetch step false → SpanTells Before l1 l2 a.reads step false true → StepTells Before l0 after a step true
+pub reads_races : (Before : ℕ → ℕ → Type 0) (l0 l1 l2 after : Shadow) (a : Access) (step : ℕ) → TakesSpan Before l0 l1 a.fetch step false → SpanTells Before l1 l2 a.reads step false true → StepTells Before l0 after a step true
 reads_races Before l0 l1 l2 after a step fetch found steps at shows =
     found steps (reads_of steps a step at) (fetch.real steps (fetch_of steps a step at) (real_next steps l0 step shows.real))
 
-module _ (Before : ℕ → ℕ → Type 0) (l0 l1 l2 l3 : List Line) (a : Access) (step : ℕ) (fetch : TakesSpan Before l0 l1 a.fetch step false) (reads : TakesSpan Before l1 l2 a.reads step false) where
+module _ (Before : ℕ → ℕ → Type 0) (l0 l1 l2 l3 : Shadow) (a : Access) (step : ℕ) (fetch : TakesSpan Before l0 l1 a.fetch step false) (reads : TakesSpan Before l1 l2 a.reads step false) where
   real2 : (steps : List Access) → slice_get steps step ≡ Some a → Shows Before steps l0 step → AreReal steps l2 (step + 1)
   real2 steps at shows = reads.real steps (reads_of steps a step at) (fetch.real steps (fetch_of steps a step at) (real_next steps l0 step shows.real))
 

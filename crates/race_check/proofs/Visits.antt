@@ -1,6 +1,6 @@
 -- What one visit of a line keeps, adds and tells.
-use Rattle.std.proofs.Common.{◌≡◌, ℕ, zero, suc, ◌+◌, ◌/◌, ◌<◌, Bool, true, false, List, [], ◌∷◌, length, set, ◌⊎◌, inl, inr, Some, refl, sym, ap, ◌∙◌, subst, arith, length-set}
-use Rattle.std.specs.Prelude.{slice_get}
+use Rattle.std.proofs.Common.{◌≡◌, ℕ, ◌+◌, ◌/◌, ◌<◌, Bool, true, false, List, length, set, ◌⊎◌, inl, inr, Some, refl, sym, ap, ◌∙◌, subst, arith}
+use Rattle.std.specs.Prelude.{slice_get, slice_index}
 use Rattle.std.proofs.lemmas.Bool.{cases_eq}
 use Rattle.std.proofs.lemmas.Option.{same_Some}
 use Rattle.cell_machine.specs.declared.effect.Place.{Place}
@@ -9,10 +9,13 @@ use Rattle.cell_machine.specs.Sound.{covers}
 use Rattle.race_check.specs.Races.{Conflict, WritesInto}
 use Rattle.race_check.specs.declared.entry.Entry.{Entry}
 use Rattle.race_check.specs.declared.line.Line.{Line}
+use Rattle.race_check.specs.declared.shadow.Shadow.{Shadow}
 use Rattle.race_check.specs.Entries.{Holds}
 use Rattle.race_check.specs.Crowds.{IsSafe}
 use Rattle.race_check.specs.Lines.{HasLineClash, InLine, IsVisited, VisitTells}
-use Rattle.race_check.specs.Shows.{AreReal, EntryTells, HasRace, IsAccess, IsReal, Kept, TakesEntry, Touch, Fetched, Reads, Writes, slot_of}
+use Rattle.race_check.proofs.Lists.{get_set_same, get_set_other}
+use Rattle.race_check.specs.Shows.{AreReal, EntryTells, HasRace, IsAccess, IsReal, Kept, TakesEntry, Touch, Fetched, Reads, Writes, list_of}
+use Rattle.race_check.specs.Slots.{slot_of}
 
 -- what is before a step that is before another is before that one
 abbrev pub IsTransitive : (ℕ → ℕ → Type 0) → Type 0
@@ -22,18 +25,6 @@ safe_trans : (Before : ℕ → ℕ → Type 0) → IsTransitive Before → (i m 
 safe_trans Before trans i m j (inl e) s = subst (λ k. IsSafe Before k j) (sym e) s
 safe_trans Before trans i m j (inr o) (inl e) = inr (subst (Before i) e o)
 safe_trans Before trans i m j (inr o) (inr q) = inr (trans i m j o q)
-
-get_set_same : {X : Type 0} (xs : List X) (i : ℕ) (x : X) → i < length xs → slice_get (set xs i x) i ≡ Some x
-get_set_same [] i x low = absurd (omega arith)
-get_set_same (y ∷ ys) zero x low = refl
-get_set_same (y ∷ ys) (suc i) x low = get_set_same ys i x (omega arith)
-
-get_set_other : {X : Type 0} (xs : List X) (i j : ℕ) (x : X) → (j ≡ i → ⊥) → slice_get (set xs i x) j ≡ slice_get xs j
-get_set_other [] i j x ne = refl
-get_set_other (y ∷ ys) zero zero x ne = absurd (ne refl)
-get_set_other (y ∷ ys) zero (suc j) x ne = refl
-get_set_other (y ∷ ys) (suc i) zero x ne = refl
-get_set_other (y ∷ ys) (suc i) (suc j) x ne = get_set_other ys i j x (λ e. ne (ap suc e))
 
 -- two touches of one byte, of which one writes
 touch_writes : (a : Access) (p : Place) (x : ℕ) (w : Bool) → Touch a p x w → w ≡ true → covers a.writes p x ≡ true
@@ -50,39 +41,43 @@ conflict_of : (a b : Access) (p : Place) (x : ℕ) (v w : Bool) → Touch a p x 
 conflict_of a b p x v w t u (inl e) = inl (writes_into a b p x w (touch_writes a p x v t e) u)
 conflict_of a b p x v w t u (inr e) = inr (writes_into b a p x v (touch_writes b p x w u e) t)
 
--- the list s of a line has become `new`
-module _ (Before : ℕ → ℕ → Type 0) (trans : IsTransitive Before) (lines : List Line) (s : ℕ) (old new : Line) (e : Entry) (writes : Bool) (line : ℕ) (inside : s < length lines) (at : slice_get lines s ≡ Some old) (is : s ≡ slot_of (length lines) e.place line) where
-  abbrev after : List Line
-  after = set lines s new
+-- the list s has become `new`
+module _ (Before : ℕ → ℕ → Type 0) (trans : IsTransitive Before) (before after : Shadow) (s : ℕ) (old new : Line) (e : Entry) (writes : Bool) (line : ℕ) (inside : s < length before.lists.items) (numbers : after.numbers.items ≡ before.numbers.items)
+    (lists : after.lists.items ≡ set before.lists.items s new) (at : slice_get before.lists.items s ≡ Some old) (is : s ≡ list_of before e.place line) where
+  same_list : (p : Place) (l : ℕ) → list_of after p l ≡ list_of before p l
+  same_list p l = ap (λ (ns : List ℕ). slice_index ns (slot_of (length ns) p l)) numbers
 
-  same_length : length after ≡ length lines
-  same_length = length-set lines s new
+  got_new : slice_get after.lists.items s ≡ Some new
+  got_new = ap (λ ls. slice_get ls s) lists ∙ get_set_same before.lists.items s new inside
 
-  here : (p : Place) (x : ℕ) → slot_of (length lines) p (x / 128) ≡ s → slice_get after (slot_of (length after) p (x / 128)) ≡ Some new
-  here p x q = ap (λ n. slice_get after (slot_of n p (x / 128))) same_length ∙ (ap (slice_get after) q ∙ get_set_same lines s new inside)
+  got_other : (k : ℕ) → (k ≡ s → ⊥) → slice_get after.lists.items k ≡ slice_get before.lists.items k
+  got_other k ne = ap (λ ls. slice_get ls k) lists ∙ get_set_other before.lists.items s k new ne
 
-  is_old : (k : ℕ) (l : Line) → k ≡ s → slice_get lines k ≡ Some l → l ≡ old
-  is_old k l q got = same_Some _ _ (sym got ∙ (ap (slice_get lines) q ∙ at))
+  here : (p : Place) (x : ℕ) → list_of before p (x / 128) ≡ s → slice_get after.lists.items (list_of after p (x / 128)) ≡ Some new
+  here p x q = ap (slice_get after.lists.items) (same_list p (x / 128) ∙ q) ∙ got_new
 
-  is_new : (k : ℕ) (l : Line) → k ≡ s → slice_get after k ≡ Some l → l ≡ new
-  is_new k l q got = same_Some _ _ (sym got ∙ (ap (slice_get after) q ∙ get_set_same lines s new inside))
+  is_old : (k : ℕ) (l : Line) → k ≡ s → slice_get before.lists.items k ≡ Some l → l ≡ old
+  is_old k l q got = same_Some _ _ (sym got ∙ (ap (slice_get before.lists.items) q ∙ at))
+
+  is_new : (k : ℕ) (l : Line) → k ≡ s → slice_get after.lists.items k ≡ Some l → l ≡ new
+  is_new k l q got = same_Some _ _ (sym got ∙ (ap (slice_get after.lists.items) q ∙ got_new))
 
   -- a byte of the entry in the line is in that list
-  in_list : (p : Place) (x : ℕ) → Holds e p x → x / 128 ≡ line → slot_of (length lines) p (x / 128) ≡ s
-  in_list p x h l = ap (slot_of (length lines) p) l ∙ (ap (λ q. slot_of (length lines) q line) (sym h.place) ∙ sym is)
+  in_list : (p : Place) (x : ℕ) → Holds e p x → x / 128 ≡ line → list_of before p (x / 128) ≡ s
+  in_list p x h l = ap (list_of before p) l ∙ (ap (λ q. list_of before q line) (sym h.place) ∙ sym is)
 
   module _ (visited : IsVisited Before e writes old new) where
     own : (p : Place) (x : ℕ) → Holds e p x → x / 128 ≡ line → Kept Before after e.step p x writes
     own p x h l = record { line = new; at = here p x (in_list p x h l); step = e.step; inside = visited.own p x h; safe = inl refl }
 
-    keeps : (i : ℕ) (p : Place) (x : ℕ) (w : Bool) → Kept Before lines i p x w → Kept Before after i p x w
-    keeps i p x w k = go (cases_eq (slot_of (length lines) p (x / 128)) s)
+    keeps : (i : ℕ) (p : Place) (x : ℕ) (w : Bool) → Kept Before before i p x w → Kept Before after i p x w
+    keeps i p x w k = go (cases_eq (list_of before p (x / 128)) s)
       where
-        go : (slot_of (length lines) p (x / 128) ≡ s) ⊎ (slot_of (length lines) p (x / 128) ≡ s → ⊥) → Kept Before after i p x w
+        go : (list_of before p (x / 128) ≡ s) ⊎ (list_of before p (x / 128) ≡ s → ⊥) → Kept Before after i p x w
         go (inr ne) =
             record {
               line = k.line;
-              at = ap (λ n. slice_get after (slot_of n p (x / 128))) same_length ∙ (get_set_other lines s (slot_of (length lines) p (x / 128)) new ne ∙ k.at);
+              at = ap (slice_get after.lists.items) (same_list p (x / 128)) ∙ (got_other (list_of before p (x / 128)) ne ∙ k.at);
               step = k.step;
               inside = k.inside;
               safe = k.safe;
@@ -93,33 +88,33 @@ module _ (Before : ℕ → ℕ → Type 0) (trans : IsTransitive Before) (lines 
             cases (inl has) = record { line = new; at = here p x q; step = k.step; inside = has; safe = k.safe }
             cases (inr (has, safe)) = record { line = new; at = here p x q; step = e.step; inside = has; safe = safe_trans Before trans i k.step e.step k.safe safe }
 
-    real : (steps : List Access) → IsAccess steps e writes → AreReal steps lines (e.step + 1) → AreReal steps after (e.step + 1)
+    real : (steps : List Access) → IsAccess steps e writes → AreReal steps before (e.step + 1) → AreReal steps after (e.step + 1)
     real steps access was = record { below = λ k l w t p x got has. below k l w t p x got has (cases_eq k s); real = λ k l w t p x got has. touches k l w t p x got has (cases_eq k s) }
       where
-        below : (k : ℕ) (l : Line) (w : Bool) (t : ℕ) (p : Place) (x : ℕ) → slice_get after k ≡ Some l → InLine l w t p x → (k ≡ s) ⊎ (k ≡ s → ⊥) → t < e.step + 1
-        below k l w t p x got has (inr ne) = was.below k l w t p x (sym (get_set_other lines s k new ne) ∙ got) has
+        below : (k : ℕ) (l : Line) (w : Bool) (t : ℕ) (p : Place) (x : ℕ) → slice_get after.lists.items k ≡ Some l → InLine l w t p x → (k ≡ s) ⊎ (k ≡ s → ⊥) → t < e.step + 1
+        below k l w t p x got has (inr ne) = was.below k l w t p x (sym (got_other k ne) ∙ got) has
         below k l w t p x got has (inl q) = at_new (visited.rest w t p x (subst (λ l. InLine l w t p x) (is_new k l q got) has))
           where
             at_new : InLine old w t p x ⊎ ((w ≡ true → writes ≡ true) × Holds e p x × (t ≡ e.step)) → t < e.step + 1
-            at_new (inl before) = was.below s old w t p x at before
+            at_new (inl had) = was.below s old w t p x at had
             at_new (inr (flags, h, same)) = omega (arith, same)
 
-        touches : (k : ℕ) (l : Line) (w : Bool) (t : ℕ) (p : Place) (x : ℕ) → slice_get after k ≡ Some l → InLine l w t p x → (k ≡ s) ⊎ (k ≡ s → ⊥) → IsReal steps t p x w
-        touches k l w t p x got has (inr ne) = was.real k l w t p x (sym (get_set_other lines s k new ne) ∙ got) has
+        touches : (k : ℕ) (l : Line) (w : Bool) (t : ℕ) (p : Place) (x : ℕ) → slice_get after.lists.items k ≡ Some l → InLine l w t p x → (k ≡ s) ⊎ (k ≡ s → ⊥) → IsReal steps t p x w
+        touches k l w t p x got has (inr ne) = was.real k l w t p x (sym (got_other k ne) ∙ got) has
         touches k l w t p x got has (inl q) = at_new (visited.rest w t p x (subst (λ l. InLine l w t p x) (is_new k l q got) has))
           where
             at_new : InLine old w t p x ⊎ ((w ≡ true → writes ≡ true) × Holds e p x × (t ≡ e.step)) → IsReal steps t p x w
-            at_new (inl before) = was.real s old w t p x at before
+            at_new (inl had) = was.real s old w t p x at had
             at_new (inr (flags, h, same)) = subst (λ t. IsReal steps t p x w) (sym same) (access p x w h flags)
 
-    clear : (i : ℕ) (p : Place) (x : ℕ) (w : Bool) → Kept Before lines i p x w → Holds e p x → x / 128 ≡ line → (w ≡ true) ⊎ (writes ≡ true) → IsSafe Before i e.step
+    clear : (i : ℕ) (p : Place) (x : ℕ) (w : Bool) → Kept Before before i p x w → Holds e p x → x / 128 ≡ line → (w ≡ true) ⊎ (writes ≡ true) → IsSafe Before i e.step
     clear i p x w k h l one =
         safe_trans Before trans i k.step e.step k.safe (visited.clear w k.step p x (subst (λ l. InLine l w k.step p x) (is_old _ k.line (in_list p x h l) k.at) k.inside) h one)
 
-    taken : TakesEntry Before lines after e writes line
+    taken : TakesEntry Before before after e writes line
     taken = record { keeps = record { keeps = keeps }; own = own; real = real; clear = clear }
 
-  found : HasLineClash Before e writes old → (steps : List Access) → IsAccess steps e writes → AreReal steps lines (e.step + 1) → HasRace Before steps e.step
+  found : HasLineClash Before e writes old → (steps : List Access) → IsAccess steps e writes → AreReal steps before (e.step + 1) → HasRace Before steps e.step
   found c steps access was =
       record {
         first = c.step;
@@ -155,6 +150,6 @@ module _ (Before : ℕ → ℕ → Type 0) (trans : IsTransitive Before) (lines 
           at_step (inl q) = absurd (unsafe (inl q))
           at_step (inr ne) = omega (arith, low)
 
-  pub entry_tells : (races : Bool) → VisitTells Before e writes old new races → EntryTells Before lines after e writes line races
+  pub entry_tells : (races : Bool) → VisitTells Before e writes old new races → EntryTells Before before after e writes line races
   entry_tells true clash = found clash
   entry_tells false visited = taken visited

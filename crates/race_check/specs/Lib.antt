@@ -4,4 +4,6 @@ pub mod Walks
 pub mod Entries
 pub mod Crowds
 pub mod Lines
+pub mod Slots
 pub mod Shows
+pub mod Searches

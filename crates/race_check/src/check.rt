@@ -1,15 +1,12 @@
 //! The least race of a run.
 
-ghost use Rattle.std.specs.Prelude.{◌≡◌, ℕ, ◌<◌, ◌↔◌, IsTrue, IfOk, length};
-ghost use Rattle.race_check.specs.Races.{IsVerdict, RaceBy};
+ghost use Rattle.std.specs.Prelude.{◌≡◌, [], IfOk};
+ghost use Rattle.race_check.specs.Races.{IsVerdict};
 ghost use Rattle.race_check.specs.Reorderings.{EveryReorderingAgrees};
-ghost use Rattle.race_check.specs.Shows.{HasRace};
-ghost use Rattle.race_check.specs.Walks.{IsOrdered, IsAt};
+ghost use Rattle.race_check.specs.Searches.{IsClear, run_of};
 
-use crate::access::{Access, conflicts};
 use crate::error::RaceError;
-use crate::shadow::Shadow;
-use crate::walk::Walk;
+use crate::search::Search;
 use cell_machine::Machine;
 use std::alloc::Global;
 
@@ -23,30 +20,23 @@ pub enum Verdict {
     Race { first: u32, second: u32 },
 }
 
-/// Whether the step at i races with the last one that was made.
-fn is_race(accesses: &[Access], i: u32, last: u32, walk: &Walk) -> bool
-    requires below { i < last }
-    requires inside { last < length accesses.now }
-    requires last { IsAt walk.now last }
-    ensures { IsTrue result ↔ RaceBy (IsOrdered walk.now.machine) accesses.now i last }
+/// Makes a machine's run again, until one of its steps races with an earlier one, and answers the verdict on the run.
+fn search_again(search: &mut Search, m: &Machine) -> Result<Verdict, RaceError>
+    requires begun { run_of search.old ≡ record m.now { steps = [] } }
+    requires clear { IsClear search.old }
+    ensures verdict { IfOk result (IsVerdict m.now) }
+    ensures agree { IfOk result (λ v. v ≡ Verdict.Accepted → EveryReorderingAgrees m.now) }
 {
-    conflicts(&accesses[i as usize], &accesses[last as usize]) && !walk.before(i)
-}
-
-/// The first step that races with the last one that was made.
-fn first_race(accesses: &[Access], last: u32, walk: &Walk) -> u32
-    requires inside { last < length accesses.now }
-    requires last { IsAt walk.now last }
-    requires some { HasRace (IsOrdered walk.now.machine) accesses.now last }
-    ensures race { RaceBy (IsOrdered walk.now.machine) accesses.now result last }
-    ensures first { (k : ℕ) → k < result → RaceBy (IsOrdered walk.now.machine) accesses.now k last → ⊥ }
-{
-    for i in 0..last {
-        if is_race(accesses, i, last, walk) {
-            return i;
+    for step in m.steps() {
+        let Some(effect) = search.machine().effect(*step) else {
+            unreachable!()
+        };
+        let verdict = search.advance(*step, effect)?;
+        if let Verdict::Race { .. } = verdict {
+            return Ok(verdict);
         }
     }
-    unreachable!()
+    Ok(Verdict::Accepted)
 }
 
 /// The least race of the machine's run: of the pairs of steps of which one writes a byte that the other fetches, reads or writes, and that
@@ -58,21 +48,6 @@ pub fn check_races(alloc: Global, m: &Machine) -> Result<Verdict, RaceError>
     ensures verdict { IfOk result (IsVerdict m.now) }
     ensures agree { IfOk result (λ v. v ≡ Verdict.Accepted → EveryReorderingAgrees m.now) }
 {
-    let steps = m.steps();
-    let setup = m.setup();
-    let mut walk = Walk::new(alloc, setup)?;
-    let mut shadow = Shadow::new(alloc, setup.spes(), setup.lines())?;
-    let mut accesses = Vec::with_capacity(alloc, steps.len())?;
-    for (j, step) in steps.iter().enumerate() {
-        let last = j as u32;
-        let access = walk.advance(*step)?;
-        accesses.push(access)?;
-        if shadow.visit(&access, last, &walk)? {
-            return Ok(Verdict::Race {
-                first: first_race(accesses.as_slice(), last, &walk),
-                second: last,
-            });
-        }
-    }
-    Ok(Verdict::Accepted)
+    let mut search = Search::new(alloc, m.setup())?;
+    search_again(&mut search, m)
 }

@@ -1,12 +1,10 @@
 //! What is kept of the accesses of a run, by lines of 128 bytes.
 
-ghost use Rattle.std.specs.Prelude.{◌≡◌, ℕ, ◌/◌, ◌^◌, ◌<◌, true, [], Some, length, slice_get, IfOk};
+ghost use Rattle.std.specs.Prelude.{◌≡◌, ℕ, ◌/◌, ◌^◌, ◌<◌, true, [], length, IfOk, OnOk};
 ghost use Rattle.cell_machine.specs.declared.effect.Place.{Place};
 ghost use Rattle.cell_machine.specs.Sound.{covers};
-ghost use Rattle.race_check.specs.declared.line.Line.{Line as ALine};
-ghost use Rattle.race_check.specs.Walks.{IsOrdered, IsAt};
 ghost use Rattle.race_check.specs.Entries.{Holds};
-ghost use Rattle.race_check.specs.Shows.{EntryTells, SpanTells, StepTells, slot_of};
+ghost use Rattle.race_check.specs.Slots.{slot_of};
 
 use crate::access::Access;
 use crate::entry::Entry;
@@ -16,8 +14,11 @@ use crate::walk::Walk;
 use cell_machine::{Place, Span};
 use std::alloc::Global;
 
-/// The list, of `count` lists, that has the entries of a line of a place: local stores have the first
-/// ones, and main memory the last ones, counted from the end. It is no harm where two lines share one.
+/// The number that no list has.
+const NONE: usize = usize::MAX;
+
+/// Which of `count` slots says the list of a line of a place: local stores have the first ones, and main memory the last ones, counted
+/// from the end. It is no harm where two lines share one.
 fn slot(count: usize, place: Place, line: u64) -> usize
     requires count { 0 < count }
     requires line { line < 2 ^ 40 }
@@ -49,100 +50,105 @@ fn clip(span: &Span, line: u64, step: u32) -> Entry
     }
 }
 
-/// Takes the entry, whose bytes are in the line, into its list, or says that something races with it.
-fn visit_line(
-    lines: &mut [Line],
-    alloc: Global,
-    entry: &Entry,
-    writes: bool,
-    line: u64,
-    walk: &Walk,
-) -> Result<bool, RaceError>
-    requires some { 0 < length lines.old }
-    requires line { line < 2 ^ 40 }
-    requires last { IsAt walk.now entry.now.step }
-    ensures { IfOk result (EntryTells (IsOrdered walk.now.machine) lines.old lines.new entry.now writes line) }
-{
-    let at = slot(lines.len(), entry.place, line);
-    let races = lines[at].visit(alloc, entry, writes, walk)?;
-    Ok(races)
-}
-
-/// Takes the bytes of the span, which the step at `step` reads or writes, into the lists, or says that something races with them.
-fn visit_span(
-    lines: &mut [Line],
-    alloc: Global,
-    span: &Span,
-    writes: bool,
-    step: u32,
-    walk: &Walk,
-) -> Result<bool, RaceError>
-    requires some { 0 < length lines.old }
-    requires last { IsAt walk.now step }
-    ensures { IfOk result (SpanTells (IsOrdered walk.now.machine) lines.old lines.new span.now step writes) }
-{
-    // a span of no byte is at 0, and so in no line
-    let first = u64::from(span.at) / 128;
-    let end = (u64::from(span.at) + u64::from(span.len) + 127) / 128;
-    for line in first..end {
-        let entry = clip(span, line, step);
-        if visit_line(lines, alloc, &entry, writes, line, walk)? {
-            return Ok(true);
-        }
-    }
-    Ok(false)
-}
-
-/// Takes what the step at `step` fetches, reads and writes into the lists, or says that an earlier step races with it.
-fn visit_access(
-    lines: &mut [Line],
-    alloc: Global,
-    access: &Access,
-    step: u32,
-    walk: &Walk,
-) -> Result<bool, RaceError>
-    requires some { 0 < length lines.old }
-    requires last { IsAt walk.now step }
-    ensures { IfOk result (StepTells (IsOrdered walk.now.machine) lines.old lines.new access.now step) }
-{
-    if visit_span(lines, alloc, &access.fetch, false, step, walk)? {
-        return Ok(true);
-    }
-    if visit_span(lines, alloc, &access.reads, false, step, walk)? {
-        return Ok(true);
-    }
-    let races = visit_span(lines, alloc, &access.writes, true, step, walk)?;
-    Ok(races)
-}
-
-/// What is kept of the accesses of a run so far.
+/// What is kept of the accesses of a run so far. A list is made when a step first touches a line of its slot, since a run touches few of all.
 #[derive(Drop)]
 pub struct Shadow {
     alloc: Global,
-    lines: Vec<Line>,
-    ghost some: { 0 < length lines.items },
+    // the number of each slot's list
+    numbers: Vec<usize>,
+    lists: Vec<Line>,
+    ghost some: { 0 < length numbers.items },
 }
 
 impl Shadow {
-    /// The shadow of no step, of so many processors, with main memory of `memory` lines: a list for each line, and one more.
+    ghost use Rattle.race_check.specs.Walks.{IsOrdered, IsAt};
+    ghost use Rattle.race_check.specs.Shows.{EntryTells, IsLengthened, SpanTells, StepTells, list_of};
+
+    /// The shadow of no step, of so many processors, with main memory of `memory` lines: a slot for each line, and one more.
     pub fn new(alloc: Global, spes: u8, memory: u32) -> Result<Shadow, RaceError>
-        ensures { IfOk result (λ shadow. (k : ℕ) (line : ALine) → slice_get shadow.lines.items k ≡ Some line → (line.writes.items ≡ []) × (line.reads.items ≡ [])) }
+        ensures { IfOk result (λ shadow. shadow.lists.items ≡ []) }
     {
-        let mut lines = Vec::new(alloc);
-        for _ in 0..2048 * u64::from(spes) + u64::from(memory) + 1 {
-            lines.push(Line::new(alloc))?;
+        let count = 2048 * u64::from(spes) + u64::from(memory) + 1;
+        let numbers = vec![in alloc; NONE; count as usize]?;
+        Ok(Shadow {
+            alloc,
+            numbers,
+            lists: Vec::new(alloc),
+        })
+    }
+
+    /// The number of the list that has the entries of a line of a place. It is made where there is none.
+    fn list(&mut self, place: Place, line: u64) -> Result<usize, RaceError>
+        requires { line < 2 ^ 40 }
+        ensures number { IfOk result (λ number. number ≡ list_of self.new place line) }
+        ensures inside { IfOk result (λ number. number < length self.new.lists.items) }
+        ensures lengthened { OnOk result (IsLengthened self.old self.new) }
+    {
+        let slot = slot(self.numbers.len(), place, line);
+        let number = self.numbers[slot];
+        if number < self.lists.len() {
+            return Ok(number);
         }
-        Ok(Shadow { alloc, lines })
+        let number = self.lists.len();
+        self.lists.push(Line::new(self.alloc))?;
+        self.numbers[slot] = number;
+        Ok(number)
+    }
+
+    /// Takes the entry, whose bytes are in the line, into its list, or says that something races with it.
+    fn visit_line(
+        &mut self,
+        entry: &Entry,
+        writes: bool,
+        line: u64,
+        walk: &Walk,
+    ) -> Result<bool, RaceError>
+        requires line { line < 2 ^ 40 }
+        requires last { IsAt walk.now entry.now.step }
+        ensures { IfOk result (EntryTells (IsOrdered walk.now.machine) self.old self.new entry.now writes line) }
+    {
+        let number = self.list(entry.place, line)?;
+        let alloc = self.alloc;
+        let races = self.lists[number].visit(alloc, entry, writes, walk)?;
+        Ok(races)
+    }
+
+    /// Takes the bytes of the span, which the step at `step` reads or writes, into the lists, or says that something races with them.
+    fn visit_span(
+        &mut self,
+        span: &Span,
+        writes: bool,
+        step: u32,
+        walk: &Walk,
+    ) -> Result<bool, RaceError>
+        requires { IsAt walk.now step }
+        ensures { IfOk result (SpanTells (IsOrdered walk.now.machine) self.old self.new span.now step writes) }
+    {
+        // a span of no byte is at 0, and so in no line
+        let first = u64::from(span.at) / 128;
+        let end = (u64::from(span.at) + u64::from(span.len) + 127) / 128;
+        for line in first..end {
+            let entry = clip(span, line, step);
+            if self.visit_line(&entry, writes, line, walk)? {
+                return Ok(true);
+            }
+        }
+        Ok(false)
     }
 
     /// Takes what the step at `step` fetches, reads and writes into the shadow, or says that an earlier step races with it.
     /// Then it is only dropped.
     pub fn visit(&mut self, access: &Access, step: u32, walk: &Walk) -> Result<bool, RaceError>
         requires { IsAt walk.now step }
-        ensures { IfOk result (StepTells (IsOrdered walk.now.machine) self.old.lines.items self.new.lines.items access.now step) }
+        ensures { IfOk result (StepTells (IsOrdered walk.now.machine) self.old self.new access.now step) }
     {
-        let lines = self.lines.as_mut_slice();
-        let races = visit_access(lines, self.alloc, access, step, walk)?;
+        if self.visit_span(&access.fetch, false, step, walk)? {
+            return Ok(true);
+        }
+        if self.visit_span(&access.reads, false, step, walk)? {
+            return Ok(true);
+        }
+        let races = self.visit_span(&access.writes, true, step, walk)?;
         Ok(races)
     }
 }

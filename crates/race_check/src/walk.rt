@@ -1,20 +1,21 @@
-//! A run that is made again, with the order of its steps.
+//! A run as it is made, with the order of its steps.
 
-ghost use Rattle.std.specs.Prelude.{◌≡◌, ◌+◌, ◌-◌, ◌<◌, ◌↔◌, [], ◌∷◌, ◌++◌, length, IfOk, IsTrue, IsSome};
-ghost use Rattle.cell_machine.specs.Run.{Ran, next_of};
+ghost use Rattle.std.specs.Prelude.{◌≡◌, ◌+◌, ◌-◌, ◌<◌, ◌↔◌, [], ◌∷◌, ◌++◌, length, IfOk, IsTrue, Some};
+ghost use Rattle.cell_machine.specs.Effects.{effect_in};
+ghost use Rattle.cell_machine.specs.Run.{Ran};
 ghost use Rattle.race_check.specs.Walks.{IsOrdered, IsAt, Stands, accesses_in};
 
 use crate::access::Access;
 use crate::error::RaceError;
 use cell_base::Step;
-use cell_machine::{Machine, Setup};
+use cell_machine::{Effect, Machine, Setup};
 use race_order::Orderer;
 use std::alloc::Global;
 
-/// A machine that makes a run again, and the order of the steps that it made.
+/// A machine, and the order of the steps that it made.
 #[derive(Drop)]
 pub struct Walk {
-    machine: Machine,
+    pub machine: Machine,
     orderer: Orderer,
 }
 
@@ -31,19 +32,16 @@ impl Walk {
         Ok(Walk { machine, orderer })
     }
 
-    /// Makes the next step, and answers what it fetches, reads and writes.
-    pub fn advance(&mut self, step: Step) -> Result<Access, RaceError>
+    /// Makes the next step, of which the machine tells this effect, and answers what it fetches, reads and writes.
+    pub fn advance(&mut self, step: Step, effect: Effect) -> Result<Access, RaceError>
         ghost m: { Ran }
         requires same { m ≡ self.old.machine }
         requires stands { Stands self.old }
-        requires allowed { IsSome (next_of m step) }
+        requires effect { effect_in m step ≡ Some effect }
         ensures stands { IfOk result (λ _. Stands self.new) }
         ensures made { IfOk result (λ _. self.new.machine ≡ record m { steps = m.steps ++ step ∷ [] }) }
         ensures access { IfOk result (λ access. accesses_in self.new.machine ≡ accesses_in m ++ access ∷ []) }
     {
-        let Some(effect) = self.machine.effect(step) else {
-            unreachable!()
-        };
         self.orderer.advance(step, effect)?;
         let Ok(_) = self.machine.step(step) else {
             unreachable!()

@@ -1,7 +1,7 @@
 use Rattle.std.proofs.lemmas.Bool.{both_ways}
 use Rattle.race_check.specs.Walks.{IsOrdered}
 use Rattle.race_check.proofs.Checks.{race_if, no_conflict}
-use Rattle.race_check.proofs.check.is_race.Goals as goal
+use Rattle.race_check.proofs.search.is_race.Goals as goal
 
 pub returns-then-conflicts : goal.returns-then-conflicts
 returns-then-conflicts c =

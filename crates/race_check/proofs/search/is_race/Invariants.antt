@@ -1,4 +1,4 @@
-use Rattle.race_check.proofs.check.is_race.Given as goal
+use Rattle.race_check.proofs.search.is_race.Given as goal
 
 abbrev pub ghost-before : goal.ghost-before
 ghost-before a = a.self.now.machine

@@ -1,7 +1,8 @@
-use Rattle.std.proofs.Common.{◌≡◌, [], ◌∷◌, ◌++◌, sym, ap, ◌∙◌, subst}
-use Rattle.std.specs.Prelude.{Some}
+use Rattle.std.proofs.Common.{◌≡◌, [], ◌∷◌, ◌++◌, refl, sym, ap, ◌∙◌, subst, true≢false}
+use Rattle.std.specs.Prelude.{Some, IsOk}
 use Rattle.cell_machine.specs.Run.{Ran}
 use Rattle.cell_machine.specs.Effects.{effect_in}
+use Rattle.cell_machine.proofs.MachineEffects.{effect-allowed}
 use Rattle.race_order.specs.OrderedRuns.{StandsForRun}
 use Rattle.race_check.specs.Walks.{Stands, accesses_in}
 use Rattle.race_order.proofs.OrderedRuns.{run-told}
@@ -12,8 +13,14 @@ pub advance-requires : goal.advance-requires
 unfolding Stands
 advance-requires g c = (
   subst (StandsForRun c.args.self.now.orderer) (sym c.requires.0) c.requires.1.0,
-  ap (λ m. effect_in m c.args.step) c.requires.0 ∙ sym c.in-Some.ensures.effect,
+  c.requires.1.1,
 )
+
+pub unreachable-requires : goal.unreachable-requires
+unreachable-requires g c =
+    let effect : effect_in c.args.self.now.machine c.args.step ≡ Some c.args.effect = ap (λ m. effect_in m c.args.step) (sym c.requires.0) ∙ c.requires.1.1 in
+    let allowed = (effect-allowed c.args.self.now.machine c.args.step (Some c.args.effect) (sym effect)).0 refl in
+    true≢false (sym (subst IsOk c.in_default.is (c.step.ensures.allowed.1 allowed)))
 
 pub returns-clause-stands : goal.returns-clause-stands
 unfolding Stands
@@ -24,5 +31,4 @@ pub returns-clause-access : goal.returns-clause-access
 unfolding Stands
 returns-clause-access g c =
     let stands = subst (StandsForRun c.args.self.now.orderer) (sym c.requires.0) c.requires.1.0 in
-    let effect : effect_in g.m c.args.step ≡ Some c.in-Some.effect = ap (λ m. effect_in m c.args.step) c.requires.0 ∙ sym c.in-Some.ensures.effect in
-    ap accesses_in (c.in-Ok.ensures.made.1 ∙ ap (λ (m : Ran). record m { steps = m.steps ++ c.args.step ∷ [] }) (sym c.requires.0)) ∙ accesses-next g.m c.args.step c.in-Some.effect (run-told c.args.self.now.orderer g.m stands) effect
+    ap accesses_in (c.in-Ok.ensures.made.1 ∙ ap (λ (m : Ran). record m { steps = m.steps ++ c.args.step ∷ [] }) (sym c.requires.0)) ∙ accesses-next g.m c.args.step c.args.effect (run-told c.args.self.now.orderer g.m stands) c.requires.1.1

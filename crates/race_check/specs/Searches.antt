@@ -1,0 +1,26 @@
+-- What is kept of a run that is searched as it is made.
+use Rattle.std.specs.Prelude.{◌≡◌, ℕ, length}
+use Rattle.cell_machine.specs.Run.{Ran}
+use Rattle.race_check.specs.declared.search.Search.{Search}
+use Rattle.race_check.specs.declared.check.Verdict.TheVariants.{Accepted}
+use Rattle.race_check.specs.Races.{IsVerdict}
+use Rattle.race_check.specs.Reorderings.{EveryReorderingAgrees}
+use Rattle.race_check.specs.Shows.{Shows}
+use Rattle.race_check.specs.Walks.{IsOrdered, accesses_in, RaceIn, Stands}
+
+-- the run that its machine made
+abbrev pub run_of : Search → Ran
+run_of s = s.walk.machine
+
+-- it has the order and the accesses of the run's steps, its shadow shows what they did, and none of them races with an earlier one
+pub record Keeps (s : Search) : Type 0 where
+  pub stands : Stands s.walk
+  pub accesses : s.accesses.items ≡ accesses_in (run_of s)
+  pub shows : Shows (IsOrdered (run_of s)) (accesses_in (run_of s)) s.shadow (length (run_of s).steps)
+  pub none : (i j : ℕ) → RaceIn (run_of s) i j → ⊥
+
+-- the run has no race, and so is the same in every order that keeps its ordered pairs; the search can go on
+pub record IsClear (s : Search) : Type 0 where
+  pub accepted : IsVerdict (run_of s) Accepted
+  pub agree : EveryReorderingAgrees (run_of s)
+  pub keeps : Keeps s

@@ -1,0 +1,104 @@
+//! A run that is searched for races as it is made.
+
+ghost use Rattle.std.specs.Prelude.{◌≡◌, ℕ, ◌<◌, ◌↔◌, [], ◌∷◌, ◌++◌, IsTrue, IfOk, Some, length};
+ghost use Rattle.cell_machine.specs.Effects.{effect_in};
+ghost use Rattle.race_check.specs.Races.{IsVerdict, RaceBy};
+ghost use Rattle.race_check.specs.Shows.{HasRace};
+ghost use Rattle.race_check.specs.Walks.{IsOrdered, IsAt};
+ghost use Rattle.race_check.specs.Searches.{IsClear, run_of};
+
+use crate::access::{Access, conflicts};
+use crate::check::Verdict;
+use crate::error::RaceError;
+use crate::shadow::Shadow;
+use crate::walk::Walk;
+use cell_base::Step;
+use cell_machine::{Effect, Machine, Setup};
+use std::alloc::Global;
+
+/// Whether the step at i races with the last one that was made.
+fn is_race(accesses: &[Access], i: u32, last: u32, walk: &Walk) -> bool
+    requires below { i < last }
+    requires inside { last < length accesses.now }
+    requires last { IsAt walk.now last }
+    ensures { IsTrue result ↔ RaceBy (IsOrdered walk.now.machine) accesses.now i last }
+{
+    conflicts(&accesses[i as usize], &accesses[last as usize]) && !walk.before(i)
+}
+
+/// The first step that races with the last one that was made.
+fn first_race(accesses: &[Access], last: u32, walk: &Walk) -> u32
+    requires inside { last < length accesses.now }
+    requires last { IsAt walk.now last }
+    requires some { HasRace (IsOrdered walk.now.machine) accesses.now last }
+    ensures race { RaceBy (IsOrdered walk.now.machine) accesses.now result last }
+    ensures first { (k : ℕ) → k < result → RaceBy (IsOrdered walk.now.machine) accesses.now k last → ⊥ }
+{
+    for i in 0..last {
+        if is_race(accesses, i, last, walk) {
+            return i;
+        }
+    }
+    unreachable!()
+}
+
+/// A machine whose steps are searched for races as they are made.
+#[derive(Drop)]
+pub struct Search {
+    walk: Walk,
+    shadow: Shadow,
+    accesses: Vec<Access>,
+}
+
+impl Search {
+    /// Before the first step of a run, from a setup that has a processor. Want of memory is the only refusal.
+    pub fn new(alloc: Global, setup: &Setup) -> Result<Search, RaceError>
+        requires { 0 < length setup.now.entries }
+        ensures run { IfOk result (λ search. run_of search ≡ record { setup = setup.now; steps = [] }) }
+        ensures clear { IfOk result IsClear }
+    {
+        let walk = Walk::new(alloc, setup)?;
+        let shadow = Shadow::new(alloc, setup.spes(), setup.lines())?;
+        Ok(Search {
+            walk,
+            shadow,
+            accesses: Vec::new(alloc),
+        })
+    }
+
+    /// The machine, which has made the steps so far.
+    pub fn machine(&self) -> &Machine
+        ensures { result.now ≡ run_of self.now }
+    {
+        &self.walk.machine
+    }
+
+    /// Makes the next step of a run without a race, of which the machine tells this effect, and answers the verdict on the run with it:
+    /// where the step races, the least race of every run that begins so. Want of memory is the only refusal; after it, as after a race,
+    /// no further step is made.
+    pub fn advance(&mut self, step: Step, effect: Effect) -> Result<Verdict, RaceError>
+        requires clear { IsClear self.old }
+        requires effect { effect_in (run_of self.old) step ≡ Some effect }
+        ensures run { IfOk result (λ _. run_of self.new ≡ record (run_of self.old) { steps = (run_of self.old).steps ++ step ∷ [] }) }
+        ensures verdict { IfOk result (IsVerdict (run_of self.new)) }
+        ensures clear { IfOk result (λ v. v ≡ Verdict.Accepted → IsClear self.new) }
+    {
+        let last = self.accesses.len() as u32;
+        let access = self.walk.advance(step, effect)?;
+        self.accesses.push(access)?;
+        if !self.shadow.visit(&access, last, &self.walk)? {
+            return Ok(Verdict::Accepted);
+        }
+        Ok(Verdict::Race {
+            first: first_race(self.accesses.as_slice(), last, &self.walk),
+            second: last,
+        })
+    }
+
+    /// The machine alone.
+    pub fn into_machine(self) -> Machine
+        ensures { result ≡ run_of self }
+    {
+        self.walk.machine
+    }
+}
