@@ -43,7 +43,7 @@ passes_under true None a choice s e = absurd (none-some s e)
 passes_under false o a choice s e = absurd (none-some s e)
 
 -- a chosen step is allowed, so the run isn't over
-not_over : (m : Ran) (c : Choices) (s : Step) → IsChosen m c s → IsOver m → ⊥
+pub not_over : (m : Ran) (c : Choices) (s : Step) → IsChosen m c s → IsOver m → ⊥
 not_over m c s best over =
     let allowed : is_some (next_of m s) ≡ true = passes_under (nat_lt (length m.steps) m.setup.budget) (state_of m) _ c.choice s best.is in
     true≢false (sym allowed ∙ ap is_some (over s))

@@ -1,11 +1,12 @@
 mod Words
 mod Overs
 mod Bests
-mod Making
 mod Determined
+mod Making
 mod Places
 mod Counted
 mod Taking
 mod Inside
 mod Same
+mod Tellings
 mod Origins

@@ -1,24 +1,20 @@
 -- One step more is looked at.
 use Rattle.std.proofs.Common.{◌≡◌, ℕ, ◌+◌, ◌<◌, ◌≤◌, ap, refl, sym, ◌∙◌, subst, arith, List, length, take, inl, inr, true≢false}
-use Rattle.std.specs.Prelude.{Bool, true, false, ◌&&◌, ◌||◌, ◌==◌, nat_lt, Option, Some, None, IsSome, IfSome, IsSomeAnd, get_or, ◌⊎◌, slice_get, if◌then◌else◌}
-use Rattle.std.specs.Option.{option_and_then}
+use Rattle.std.specs.Prelude.{Bool, true, false, ◌&&◌, ◌||◌, ◌==◌, nat_lt, Some, get_or, ◌⊎◌, slice_get, if◌then◌else◌}
 use Rattle.std.proofs.lemmas.Bool.{cases_lt}
 use Rattle.std.proofs.lemmas.Bool.Decides.{nat_tests}
-use Rattle.std.proofs.lemmas.Option.{same_Some, slice_get_past, slice_get-get_or}
+use Rattle.std.proofs.lemmas.Option.{same_Some, slice_get-get_or}
 use Rattle.cell_base.specs.declared.steps.Step.{Step}
 use Rattle.cell_base.specs.declared.steps.Step.TheVariants.{Exec, Piece, Elem, Retire, Atomic, Host}
 use Rattle.cell_machine.specs.declared.effect.Effect.{Effect}
 use Rattle.cell_machine.specs.declared.effect.Note.{Note}
 use Rattle.cell_machine.specs.Effects.{effect_in}
-use Rattle.cell_machine.specs.Spe.{Spe}
-use Rattle.cell_machine.specs.State.{State}
-use Rattle.cell_machine.specs.Opening.{Opening}
-use Rattle.cell_machine.specs.Run.{Ran, IsRun, next_of, spe_of}
+use Rattle.cell_machine.specs.Run.{Ran}
 use Rattle.cell_hunt.specs.declared.site.Sought.{Sought}
-use Rattle.std.proofs.lemmas.List.{take_more, length-take-le}
+use Rattle.std.proofs.lemmas.List.{length-take-le}
 use Rattle.std.proofs.lemmas.List.Sums.{count_by_more_yes, count_by_more_no, count_by-le-length}
-use Rattle.race_check.proofs.Prefixes.{may-make}
-use Rattle.cell_hunt.specs.Runs.{with_step}
+use Rattle.cell_hunt.specs.declared.telling.Telling.{Telling}
+use Rattle.cell_hunt.specs.Tellings.{IsTelling}
 use Rattle.cell_hunt.specs.Sites.{up_to, is_action, HasPc, Issues, IsOrigin, actions_before, issues_for}
 use Rattle.cell_hunt.specs.Sought.{is_told, looked, IsTold}
 
@@ -176,32 +172,16 @@ told-all m n s low told =
       issue = λ k p below issues last. told.issue k p (omega (arith, below, low)) below issues (λ l q a b c d. last l q a c d);
     }
 
-pub some-if : (P : Spe → Type 0) (o : Option Spe) → IsSomeAnd o P → IfSome o P
-some-if P (Some x) h = h
-some-if P None h = absurd h
-
-pub none-if : (P : Spe → Type 0) (o : Option State) (n p : ℕ) → IsSomeAnd o (λ M. length M.spes ≡ n) → n ≤ p → IfSome (option_and_then (λ M. slice_get M.spes p) o) P
-none-if P (Some M) n p long past =
-    let none : slice_get M.spes p ≡ None = slice_get_past M.spes p (omega (arith, long, past)) in
-    subst (λ o. IfSome o P) (sym none) tt
-none-if P None n p long past = tt
-
--- ---- the run that is made again
-
-pub step-allowed : (m : Ran) (n : ℕ) (d : Step) (again : Ran) → IsRun m.setup m.steps → again ≡ up_to m n → n < length m.steps → IsSome (next_of again (get_or m.steps n d))
-step-allowed m n d again run is inside = may-make m n (get_or m.steps n d) again run is (slice_get-get_or m.steps n d inside)
-
-pub again-more : (m : Ran) (n : ℕ) (d : Step) (again new : Ran) → again ≡ up_to m n → n < length m.steps → new ≡ with_step again (get_or m.steps n d) → new ≡ up_to m (n + 1)
-again-more m n d again new is inside made =
-    made ∙ ap (λ (r : Ran). with_step r (get_or m.steps n d)) is ∙ ap (λ (xs : List Step). let r : Ran = record m { steps = xs } in r) (sym (take_more m.steps n d inside))
+-- ---- the steps that are looked at
 
 actions-by : (m : Ran) (n : ℕ) (d : Step) (b : Bool) → n < length m.steps → is_action (get_or m.steps n d) ≡ b → (if b then actions_before m n + 1 else actions_before m n) ≡ actions_before m (n + 1)
 actions-by m n d true inside is = sym (count_by_more_yes is_action m.steps n d inside is)
 actions-by m n d false inside is = sym (count_by_more_no is_action m.steps n d inside is)
 
-pub actions-more : (m : Ran) (n : ℕ) (d : Step) (old new : ℕ) → n < length m.steps → old ≡ actions_before m n → new ≡ (if is_action (get_or m.steps n d) then old + 1 else old) → new ≡ actions_before m (n + 1)
-actions-more m n d old new inside is counts =
-    counts ∙ ap (λ (k : ℕ). if is_action (get_or m.steps n d) then k + 1 else k) is ∙ actions-by m n d (is_action (get_or m.steps n d)) inside refl
+pub actions-more : (m : Ran) (n : ℕ) (steps : List Step) (d : Step) (old new : ℕ) → steps ≡ m.steps → n < length steps → old ≡ actions_before m n → new ≡ (if is_action (get_or steps n d) then old + 1 else old) → new ≡ actions_before m (n + 1)
+actions-more m n steps d old new same inside is counts =
+    let low : n < length m.steps = subst (λ xs. n < length xs) same inside in
+    counts ∙ ap (λ xs. if is_action (get_or xs n d) then old + 1 else old) same ∙ ap (λ (k : ℕ). if is_action (get_or m.steps n d) then k + 1 else k) is ∙ actions-by m n d (is_action (get_or m.steps n d)) low refl
 
 pub actions-few : (m : Ran) (n actions : ℕ) → n ≤ length m.steps → actions ≡ actions_before m n → actions ≤ n
 actions-few m n actions inside is =
@@ -209,16 +189,18 @@ actions-few m n actions inside is =
     let long = length-take-le n m.steps inside in
     omega (arith, is, all, long)
 
-pub here-of : (m : Ran) (n : ℕ) (d : Step) (again : Ran) (result : Option Effect) (effect : Effect) (at actions : ℕ) → n < length m.steps → again ≡ up_to m n → result ≡ effect_in again (get_or m.steps n d) → result ≡ Some effect
-    → ((p : ℕ) → get_or m.steps n d ≡ Exec p → IfSome (spe_of again p) (λ P. P.pc ≡ at)) → (get_or m.steps n d ≡ Host → at ≡ actions) → actions ≡ actions_before m n → Here m n (get_or m.steps n d) effect.note at
-here-of m n d again result effect at actions inside is told some pc action counts =
+pub here-of : (m : Ran) (n : ℕ) (steps : List Step) (d : Step) (t : Telling) (at actions : ℕ) → steps ≡ m.steps → n < length steps → IsTelling m n t → ((p : ℕ) → get_or steps n d ≡ Exec p → at ≡ t.pc) → (get_or steps n d ≡ Host → at ≡ actions) → actions ≡ actions_before m n
+    → Here m n (get_or steps n d) t.note at
+here-of m n steps d t at actions run inside told pc action counts =
+    let there : slice_get m.steps n ≡ Some (get_or steps n d) = ap (λ xs. slice_get xs n) (sym run) ∙ slice_get-get_or steps n d inside in
+    let same : told.step ≡ get_or steps n d = same_Some told.step (get_or steps n d) (sym told.is ∙ there) in
     record {
-      effect = effect;
-      is = slice_get-get_or m.steps n d inside;
-      told = ap (λ (r : Ran). effect_in r (get_or m.steps n d)) (sym is) ∙ sym told ∙ some;
-      note_is = refl;
-      pc = λ p same. subst (λ (r : Ran). IfSome (spe_of r p) (λ P. P.pc ≡ at)) is (pc p same);
-      action = λ same. action same ∙ counts;
+      effect = told.effect;
+      is = there;
+      told = ap (effect_in (up_to m n)) (sym same) ∙ told.told;
+      note_is = told.note;
+      pc = λ p exec. subst (HasPc m n p) (sym (pc p exec)) (told.pc p (same ∙ exec));
+      action = λ host. action host ∙ counts;
     }
 
 pub kept-of : (steps : List Step) (old new : Sought) → new.place ≡ old.place → new.of ≡ old.of → slice_get steps old.place ≡ Some old.of → slice_get steps new.place ≡ Some new.of
@@ -229,7 +211,3 @@ origin-of m n s place of is low own told at =
     let same : s.of ≡ of = same_Some s.of of (sym own ∙ ap (slice_get m.steps) is ∙ at) in
     let all : IsOrigin m s.place s.of s.at = told-all m n s (omega (arith, is, low)) told in
     subst (λ k. IsOrigin m k of s.at) is (subst (λ x. IsOrigin m s.place x s.at) same all)
-
-pub same-run : (m again : Ran) (steps : List Step) → again.setup ≡ m.setup → steps ≡ m.steps → (let r : Ran = record again { steps = steps } in r) ≡ m
-same-run m again steps setup is =
-    ap (λ (x : Opening). let r : Ran = record { setup = x; steps = steps } in r) setup ∙ ap (λ (xs : List Step). let r : Ran = record { setup = m.setup; steps = xs } in r) is

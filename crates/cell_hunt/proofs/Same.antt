@@ -39,13 +39,13 @@ none-more races i d sites r same is none k f below at has = elim (cases_lt k i) 
 ]
 
 pub site-at : (m : Ran) (steps : List Step) (place address : ℕ) (d : Step) (site : Site) → steps ≡ m.steps → place < length m.steps
-    → ((of : Step) → slice_get steps place ≡ Some of → IsOrigin m place of address) → site ≡ site_of (get_or steps place d) address → IsSite m place site
+    → ((of : Step) → slice_get m.steps place ≡ Some of → IsOrigin m place of address) → site ≡ site_of (get_or steps place d) address → IsSite m place site
 site-at m steps place address d site same inside origin told =
     let at : slice_get steps place ≡ Some (get_or steps place d) = slice_get-get_or steps place d (subst (λ xs. place < length xs) (sym same) inside) in
     record {
       of = get_or steps place d;
       address = address;
       at = ap (λ xs. slice_get xs place) (sym same) ∙ at;
-      origin = origin (get_or steps place d) at;
+      origin = origin (get_or steps place d) (ap (λ xs. slice_get xs place) (sym same) ∙ at);
       told = told;
     }

@@ -5,9 +5,11 @@ pub mod Better
 pub mod Choices
 pub mod Ends
 pub mod Runs
+pub mod Goings
 pub mod Counts
 pub mod Outcomes
 pub mod Hunts
 pub mod Takes
 pub mod Sites
 pub mod Sought
+pub mod Tellings

@@ -73,8 +73,8 @@ pub fn outcome_of_seed(
     requires { 0 < length setup.now.entries }
     ensures { IfOk result (IsOutcomeOfSeed setup.now seed run) }
 {
-    let machine = run_of_seed(alloc, setup, seed, run)?;
-    outcome_of(alloc, &machine)
+    let run = run_of_seed(alloc, setup, seed, run)?;
+    Ok(outcome_of(&run))
 }
 
 impl Hunted {

@@ -12,11 +12,12 @@ mod found;
 mod outcome;
 mod running;
 mod site;
+mod telling;
 mod way;
 
 pub use error::HuntError;
 pub use found::{Found, Hunted, outcome_of_seed};
 pub use outcome::{Outcome, outcome_of};
-pub use running::run_of_seed;
+pub use running::{SeedRun, run_of_seed};
 pub use site::{Site, Sites};
 pub use way::{WAYS, Way};

@@ -1,14 +1,15 @@
 //! Where a step comes from.
 
-ghost use Rattle.std.specs.Prelude.{◌≡◌, ℕ, ◌+◌, ◌^◌, ◌<◌, ◌↔◌, [], if◌then◌else◌, IsTrue, IfOk, IfSome, Some, length, slice_get};
-ghost use Rattle.cell_machine.specs.Run.{IsRun, spe_of};
-ghost use Rattle.cell_hunt.specs.Sites.{parts_of, site_of, is_action, issues_command, issues_for, IsOrigin, AreSites};
+ghost use Rattle.std.specs.Prelude.{◌≡◌, ℕ, ◌+◌, ◌^◌, ◌<◌, ◌≤◌, ◌↔◌, if◌then◌else◌, IsTrue, Some, length, slice_get};
+ghost use Rattle.race_check.specs.Races.{IsVerdict};
+ghost use Rattle.cell_hunt.specs.Sites.{parts_of, site_of, is_action, issues_command, issues_for, up_to, IsOrigin, AreSites};
+ghost use Rattle.cell_hunt.specs.Tellings.{AreTellings};
 ghost use Rattle.cell_hunt.specs.Sought.{is_told, looked};
 
-use crate::error::HuntError;
+use crate::telling::Telling;
 use cell_base::Step;
 use cell_machine::{Machine, Note};
-use std::alloc::Global;
+use race_check::Verdict;
 
 /// Where a step comes from.
 #[derive(Clone, Copy)]
@@ -152,19 +153,14 @@ impl Sought {
     }
 }
 
-/// The address of the instruction that is the machine's next step, and of any other step how many actions stood before it.
-fn told_at(machine: &Machine, step: Step, actions: u32) -> u32
-    ensures pc { (p : ℕ) → step ≡ Step.Exec p → IfSome (spe_of machine.now p) (λ P. P.pc ≡ result) }
+/// The address of the instruction that a step is, before which its processor's PC was this, and of any other step how many actions stood
+/// before it.
+fn told_at(step: Step, pc: u32, actions: u32) -> u32
+    ensures pc { (p : ℕ) → step ≡ Step.Exec p → result ≡ pc }
     ensures action { step ≡ Step.Host → result ≡ actions }
 {
     match step {
-        Step::Exec { spe } => {
-            if spe < machine.setup().spes() {
-                machine.pc(spe)
-            } else {
-                0
-            }
-        }
+        Step::Exec { .. } => pc,
         _ => actions,
     }
 }
@@ -180,49 +176,42 @@ fn counted(actions: u32, step: Step) -> u32
     }
 }
 
-/// Makes a run again up to the later one of two steps, and finds the address of the instruction, or the number of the action, of each.
-fn find_origins(again: &mut Machine, steps: &[Step], first: u32, second: u32) -> (u32, u32)
-    requires none { again.old.steps ≡ [] }
-    requires run { IsRun again.old.setup steps.now }
+/// Looks at a run up to the later one of two steps, and finds the address of the instruction, or the number of the action, of each.
+fn find_origins(machine: &Machine, tellings: &[Telling], first: u32, second: u32) -> (u32, u32)
+    requires tellings { AreTellings machine.now tellings.now }
     requires below { first < second }
-    requires inside { second < length steps.now }
-    requires few { second + 1 < 2 ^ 32 }
-    ensures first { (of : Step) → slice_get steps.now first ≡ Some of → IsOrigin (record again.old { steps = steps.now }) first of result.0 }
-    ensures second { (of : Step) → slice_get steps.now second ≡ Some of → IsOrigin (record again.old { steps = steps.now }) second of result.1 }
+    requires inside { second < length tellings.now }
+    requires long { length tellings.now ≤ length machine.now.steps }
+    ensures first { (of : Step) → slice_get machine.now.steps first ≡ Some of → IsOrigin machine.now first of result.0 }
+    ensures second { (of : Step) → slice_get machine.now.steps second ≡ Some of → IsOrigin machine.now second of result.1 }
 {
+    let steps = machine.steps();
     let mut one = Sought::new(steps, first);
     let mut other = Sought::new(steps, second);
     let mut actions: u32 = 0;
     for place in 0..second + 1 {
         let step = steps[place as usize];
-        let Some(effect) = again.effect(step) else {
-            unreachable!()
-        };
-        let at = told_at(again, step, actions);
-        one.look(place, step, effect.note, at);
-        other.look(place, step, effect.note, at);
+        let telling = tellings[place as usize];
+        let at = told_at(step, telling.pc, actions);
+        one.look(place, step, telling.note, at);
+        other.look(place, step, telling.note, at);
         actions = counted(actions, step);
-        let _ = again.step(step);
     }
     (one.at, other.at)
 }
 
-/// The sites of two steps of a run, which is made again up to the later one.
-pub fn sites_of(
-    alloc: Global,
-    machine: &Machine,
-    first: u32,
-    second: u32,
-) -> Result<Sites, HuntError>
-    requires below { first < second }
-    requires inside { second < length machine.now.steps }
-    ensures { IfOk result (λ s. AreSites machine.now first second s) }
+/// The sites of the least race of a run, which is that of its first steps, by what these tell.
+pub fn sites_of(machine: &Machine, tellings: &[Telling], first: u32, second: u32) -> Sites
+    requires tellings { AreTellings machine.now tellings.now }
+    requires long { length tellings.now ≤ length machine.now.steps }
+    requires race { IsVerdict (up_to machine.now (length tellings.now)) (Verdict.Race first second) }
+    ensures race { IsVerdict machine.now (Verdict.Race first second) }
+    ensures sites { AreSites machine.now first second result }
 {
     let steps = machine.steps();
-    let mut again = Machine::new(alloc, machine.setup().copy(alloc)?)?;
-    let (one, other) = find_origins(&mut again, steps, first, second);
-    Ok(Sites {
+    let (one, other) = find_origins(machine, tellings, first, second);
+    Sites {
         first: Site::new(steps[first as usize], one),
         second: Site::new(steps[second as usize], other),
-    })
+    }
 }

@@ -46,8 +46,8 @@ pub fn hunt(rt: &HostRuntime, setup: &Setup, runs: u32, seed: u64) -> Result<boo
 fn tell_run(rt: &HostRuntime, setup: &Setup, seed: u64, run: u32) -> Result<bool, Fault>
     requires { 0 < length setup.now.entries }
 {
-    let machine = run_of_seed(rt.alloc(), setup, seed, run)?;
-    let outcome = outcome_of(rt.alloc(), &machine)?;
+    let searched = run_of_seed(rt.alloc(), setup, seed, run)?;
+    let outcome = outcome_of(&searched);
     print_outcome(rt, run, outcome)?;
     Ok(outcome.race.is_some())
 }
@@ -67,6 +67,6 @@ pub fn tell_each(rt: &HostRuntime, setup: &Setup, runs: u32, seed: u64) -> Resul
 pub fn print_record(rt: &HostRuntime, setup: &Setup, run: u32, seed: u64) -> Result<(), Fault>
     requires { 0 < length setup.now.entries }
 {
-    let machine = run_of_seed(rt.alloc(), setup, seed, run)?;
-    print_run(rt, &machine)
+    let searched = run_of_seed(rt.alloc(), setup, seed, run)?;
+    print_run(rt, searched.machine())
 }
