@@ -380,8 +380,8 @@ module _ (text : List ℕ) (line : ℕ) (f : IsFirstFault text line) where
           let small = took.small in
           let within = f.are_steps.0 in
           absurd (f.none (line_text f.format (s, n)) more
-            (inl (all_steps (lines f.format f.before ++ (s, n) ∷ []), (s, n), (omega (arith, count, all, small, within), lines_in_bounds f.format None (lines f.format f.before ++ (s, n) ∷ []) are), lines_again f.format None (lines f.format f.before ++ (s, n) ∷ []) are, refl))
-            took.is)
+          (inl (all_steps (lines f.format f.before ++ (s, n) ∷ []), (s, n), (omega (arith, count, all, small, within), lines_in_bounds f.format None (lines f.format f.before ++ (s, n) ∷ []) are), lines_again f.format None (lines f.format f.before ++ (s, n) ∷ []) are, refl))
+          took.is)
 
 pub record_faulted : (text : List ℕ) (line : ℕ) → IsFault text line → record_at text ≡ Err line
 record_faulted text line (inl f) = of (head_of text)

@@ -11,8 +11,8 @@ ghost use Rattle.run_record.specs.declared.error.RecordError.TheVariants.{BadLin
 
 use crate::error::RecordError;
 use crate::recorded::Recorded;
-use cell_base::{Format, Step};
 use cell_base::line_text::number_at;
+use cell_base::{Format, Step};
 use std::alloc::{AllocError, Global};
 
 /// How many steps a record may have, and the greatest number in each field of a step's line.
@@ -219,11 +219,7 @@ fn push_all(steps: &mut Vec<Step>, step: Step, count: u32) -> Result<(), AllocEr
 }
 
 /// The steps whose lines stand here, and the bytes after the line with their number.
-fn steps_of(
-    alloc: Global,
-    format: Format,
-    bytes: &[u8],
-) -> Result<(Vec<Step>, &[u8]), RecordError>
+fn steps_of(alloc: Global, format: Format, bytes: &[u8]) -> Result<(Vec<Step>, &[u8]), RecordError>
     ensures { Gives (λ x. (x.0.items, x.1.now)) result (lines_at format 1000000 0 0 None bytes.now) }
 {
     let mut steps = Vec::new(alloc);
