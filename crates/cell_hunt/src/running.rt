@@ -116,7 +116,7 @@ pub fn run_of_seed(alloc: Global, setup: &Setup, seed: u64, run: u32) -> Result<
 {
     let words = Pcg32::new(seed, u64::from(run));
     let mut chooser = Chooser::new(way_of(run), words);
-    let mut search = Search::new(alloc, setup)?;
+    let mut search = Search::new(alloc, setup, 0)?;
     let mut tellings = Vec::new(alloc);
     let verdict = search_on(&mut search, &mut chooser, &mut tellings)?;
     let mut machine = search.into_machine();

@@ -48,6 +48,6 @@ pub fn check_races(alloc: Global, m: &Machine) -> Result<Verdict, RaceError>
     ensures verdict { IfOk result (IsVerdict m.now) }
     ensures agree { IfOk result (λ v. v ≡ Verdict.Accepted → EveryReorderingAgrees m.now) }
 {
-    let mut search = Search::new(alloc, m.setup())?;
+    let mut search = Search::new(alloc, m.setup(), m.steps().len())?;
     search_again(&mut search, m)
 }

@@ -42,7 +42,7 @@ fn first_race(accesses: &[Access], last: u32, walk: &Walk) -> u32
     unreachable!()
 }
 
-/// A machine whose steps are searched for races as they are made.
+/// A machine whose steps are searched for races as they are made, up to the first that races with an earlier one.
 #[derive(Drop)]
 pub struct Search {
     walk: Walk,
@@ -51,18 +51,20 @@ pub struct Search {
 }
 
 impl Search {
-    /// Before the first step of a run, from a setup that has a processor. Want of memory is the only refusal.
-    pub fn new(alloc: Global, setup: &Setup) -> Result<Search, RaceError>
+    /// Before the first step of a run, from a setup that has a processor, with room for what so many steps touch. Want of memory is the
+    /// only refusal.
+    pub fn new(alloc: Global, setup: &Setup, room: usize) -> Result<Search, RaceError>
         requires { 0 < length setup.now.entries }
         ensures run { IfOk result (λ search. run_of search ≡ record { setup = setup.now; steps = [] }) }
         ensures clear { IfOk result IsClear }
     {
         let walk = Walk::new(alloc, setup)?;
         let shadow = Shadow::new(alloc, setup.spes(), setup.lines())?;
+        let accesses = Vec::with_capacity(alloc, room)?;
         Ok(Search {
             walk,
             shadow,
-            accesses: Vec::new(alloc),
+            accesses,
         })
     }
 
@@ -73,9 +75,8 @@ impl Search {
         &self.walk.machine
     }
 
-    /// Makes the next step of a run without a race, of which the machine tells this effect, and answers the verdict on the run with it:
-    /// where the step races, the least race of every run that begins so. Want of memory is the only refusal; after it, as after a race,
-    /// no further step is made.
+    /// Makes the next step of a run without a race, of which the machine tells this effect, and answers the verdict on the run with it.
+    /// Only after `Accepted` can the search go on. Want of memory is the only refusal.
     pub fn advance(&mut self, step: Step, effect: Effect) -> Result<Verdict, RaceError>
         requires clear { IsClear self.old }
         requires effect { effect_in (run_of self.old) step ≡ Some effect }
