@@ -12,6 +12,11 @@ import tempfile
 import time
 
 ROOT = pathlib.Path(__file__).resolve().parent.parent
+sys.path.insert(0, str(ROOT / "tools"))
+sys.dont_write_bytecode = True
+
+from records import steps_in  # noqa: E402
+
 CELL = ROOT / "crates" / "cell_cli" / "out" / "cell_cli"
 RUNS = 7
 STEPS = 1_000_000
@@ -20,16 +25,8 @@ MACHINES = [("arithmetic.s", 1, 1), ("arithmetic.s", 8, 1), ("transfer.s", 8, 12
 
 def in_format_1(output):
     """The output of a run with its record in format 1."""
-    record, end, states = output.partition("\nsteps ")
-    lines = record.split("\n")
-    steps = []
-    for line in lines[1:]:
-        if line.startswith("x "):
-            letter, spe, count = line.split()
-            steps += [f"{letter} {spe}"] * int(count)
-        else:
-            steps.append(line)
-    return "\n".join(["cell-record 1", *steps]) + end + states
+    _, end, states = output.partition("\nsteps ")
+    return "\n".join(["cell-record 1", *steps_in(output)]) + end + states
 
 
 def record_bytes(output):

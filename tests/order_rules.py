@@ -7,6 +7,7 @@ sys.dont_write_bytecode = True
 
 from debug_text import Step  # noqa: E402, F401  (of what `trace` prints, for tests that compare it with `effects`)
 from order import RULES, Trace, shared_bytes  # noqa: E402
+from records import steps_in  # noqa: E402, F401
 
 
 def trace_of_lines(lines):
