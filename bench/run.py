@@ -2,11 +2,12 @@
 """Measures `cell`: python3 bench/run.py, from the repository's root, after `./cell` was built.
 
 Prints instructions per second of two loops of a million steps; steps per second of a whole run, file in
-and text out, with one and with eight processors; the greatest memory of the widest machine; steps per
-second of eight processors that transfer without a pause, by single commands and by lists, and that raise
-one counter on the widest machine, and the time of one of their steps in runs of three lengths; steps per
-second and the greatest memory of the check of the output of such runs, with the search for races, beside
-those of the run; and the time and the greatest memory that assembling three sources of 4 MB takes. Each figure is the best of five runs; the time of a run of one step is taken off that of the
+and text out, with one, eight and sixteen processors; the greatest memory of the widest machine; steps per
+second of eight and of sixteen processors that transfer without a pause, by single commands and by lists,
+and that raise one counter on the widest machine, and the time of one of their steps in runs of three
+lengths; steps per second and the greatest memory of the check of the output of such runs, with the search
+for races, beside those of the run; and the time and the greatest memory that assembling three sources of
+4 MB takes. Each figure is the best of five runs; the time of a run of one step is taken off that of the
 loops and of the commands, so that starting the program isn't counted.
 """
 import os
@@ -123,12 +124,15 @@ def main():
         loop(folder, "bench/memory.s")
         whole_run(folder, "bench/arithmetic.s", 1, 1)
         whole_run(folder, "bench/arithmetic.s", 8, 1)
-        whole_run(folder, "bench/memory.s", 8, 32_768)
-        commands(folder, "bench/transfer.s", 8, 128)
-        commands(folder, "bench/lists.s", 8, 128)
-        commands(folder, "bench/counter.s", 8, 32_768)
+        whole_run(folder, "bench/arithmetic.s", 16, 1)
+        whole_run(folder, "bench/memory.s", 16, 524_288)
+        for spes in (8, 16):
+            commands(folder, "bench/transfer.s", spes, 128)
+            commands(folder, "bench/lists.s", spes, 128)
+        commands(folder, "bench/counter.s", 16, 524_288)
         checking(folder, "bench/arithmetic.s", 1, 1)
         checking(folder, "bench/transfer.s", 8, 128)
+        checking(folder, "bench/transfer.s", 16, 128)
         assembling(folder, "65,536 instructions with labels and comments", commented())
         assembling(folder, "labels alone", short())
         assembling(folder, "line feeds alone", empty())

@@ -6,13 +6,13 @@ from explain_source import explain_source
 from explaining import MOST, STORE, cell, cell_of, in_latin
 
 LINE = 128  # bytes of a line of main memory
-HEADS = {"cell-machine": 1, "lines": 32_768, "budget": 1_000_000}  # each with its greatest number
+HEADS = {"cell-machine": 1, "lines": 524_288, "budget": 1_000_000}  # each with its greatest number
 LINES = {
     "spe": "", "code": "A HEX", "bytes": "A HEX", "source": "NAME", "entry": "A", "mem": "A HEX", "host send": "P V",
     "host take": "P", "host takeintr": "P", "host await": "P", "host store": "A HEX", "show ls": "P A N",
     "show mem": "A N",
 }  # fmt: skip
-MOST_LINES = {"spe": 8, "source": 32, "host": 4096, "show": 64}
+MOST_LINES = {"spe": 16, "source": 32, "host": 4096, "show": 64}
 MACHINE_NUMBER = re.compile(r"0|[1-9]\d*|0x[0-9A-Fa-f]{1,8}", re.A)
 
 

@@ -39,11 +39,6 @@ class Step:
         ways = (("fetches", self.fetch), ("reads", self.reads), ("writes", self.writes))
         return [(way, span) for way, span in ways if span]
 
-    def lines(self):
-        """The addresses of the lines of main memory that an atomic step is on."""
-        spans = (self.reads, self.writes)
-        return {span.at for span in spans if self.kind == "atomic" and span and span.spe is None and span.size == MEMORY_LINE}
-
     def is_instruction_of(self, spe, field=None):
         return self.kind == "instruction" and self.spe == spe and (field is None or field in self.told)
 
@@ -112,6 +107,14 @@ class Trace:
         wanted = re.compile(rf" \| {name}\b")
         end = len(self.lines) if end is None else min(end, len(self.lines))
         return [place for place in range(start, end) if wanted.search(self.lines[place])]
+
+    def whole_lines(self, place):
+        """The addresses of the lines of main memory that the step at the place moves whole: that of an atomic command, or the piece of a PUTQLLUC."""
+        step = self.steps[place]
+        command = self.commands.get(step.command_key())
+        if step.kind != "atomic" and not (step.kind == "piece" and command and command.kind == "putqlluc"):
+            return set()
+        return {span.at for span in (step.reads, step.writes) if span and span.spe is None and span.size == MEMORY_LINE}
 
     def element_of(self, place):
         """The processor, command and number of the element of which the step at the place is one."""
@@ -208,7 +211,7 @@ def atomic_seen(t, i, j):
 
 
 def line(t, i, j):
-    return bool(t.steps[i].lines() & t.steps[j].lines())
+    return bool(t.whole_lines(i) & t.whole_lines(j))
 
 
 def passed(t, i, j):

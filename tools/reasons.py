@@ -76,7 +76,7 @@ class Race:
     def of_line(self):
         """Of an atomic command and a transfer of another processor, on one line."""
         piece = self.first if self.one.kind == "piece" else self.second
-        return [f"{self.teller.command(piece)} is no atomic command: only two atomic commands on one line are ordered by it (Line)"]
+        return [f"{self.teller.command(piece)} is neither an atomic command nor a PUTQLLUC: only two of these on one line are ordered by it (Line)"]
 
     def of_later(self):
         """Of a first step behind all that its side did before the second."""
@@ -158,7 +158,7 @@ class Race:
         return [f"the second's command, {name}, has a {two.mark} that waits for commands of its own tag, {two.tag}: the first's has tag {one.tag}"]
 
     def of_words(self):
-        """What the two sides did that could order them: atomic commands on lines that both use, and values of mailboxes."""
+        """What the two sides did that could order them: steps that move lines whole, and values of mailboxes."""
         words = [k for k in range(max(self.last, 0), self.second) if self.is_word(k)]
         taken = [k for k in range(self.anchor - 1, -1, -1) if self.is_word(k) and self.trace.steps[k].spe == self.two.spe][:1]
         words = sorted({*words, *taken})
@@ -180,7 +180,7 @@ class Race:
     def is_word(self, place):
         """Whether a step of one of the two sides passes something on or takes it."""
         line = self.trace.lines[place]
-        passes = line.startswith("a ") or " | put " in line or " | take " in line or " | awaited " in line
+        passes = line.startswith("a ") or bool(self.trace.whole_lines(place)) or " | put " in line or " | take " in line or " | awaited " in line
         return passes and self.trace.steps[place].spe in (self.one.spe, self.two.spe)
 
     # ---- what would

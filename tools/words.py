@@ -4,7 +4,7 @@ import re
 from order import has_group
 from sites import callers
 
-COMMANDS = {"put": "PUT", "get": "GET", "putl": "PUTL", "getl": "GETL", "barrier": "BARRIER"}
+COMMANDS = {"put": "PUT", "get": "GET", "putl": "PUTL", "getl": "GETL", "barrier": "BARRIER", "putqlluc": "PUTQLLUC"}
 MARKS = {"-": "", "fence": "F", "barrier": "B"}
 ATOMIC = {"getllar": "GETLLAR", "putllc": "PUTLLC", "putlluc": "PUTLLUC"}
 OUTCOMES = {("putllc", 0): "stored", ("putllc", 1): "lost its line and didn't store"}
@@ -150,10 +150,10 @@ class Teller:
         return names.get(found, "an instruction")
 
     def word(self, place):
-        """What passes something on, or takes it: an atomic command, or a value of a mailbox."""
+        """What passes something on, or takes it: a step that moves a line whole, or a value of a mailbox."""
         step = self.trace.steps[place]
-        if step.kind == "atomic":
-            return f"{with_article(self.atomic(place))}, by {self.who(place)}"
+        if step.kind in ("atomic", "piece"):
+            return self.what(place)
         if "awaited" in step.told:
             return f"the host finds that processor {step.number('awaited')} doesn't run"
         spe, box, value = step.told.get("put") or step.told["take"]

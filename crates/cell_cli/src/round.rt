@@ -13,8 +13,8 @@ use std::sync::Wait;
 use std::sync::atomic::{AtomicU64, Ordering};
 use std::time::Duration;
 
-/// How many workers a run has at most: one for each of eight processors and their flow controllers, and the host's.
-const WORKERS: usize = 17;
+/// How many workers a run has at most: one for each of sixteen processors and their flow controllers, and the host's.
+const WORKERS: usize = 33;
 
 /// How many turns a worker takes with the baton, in the mean: few at first, where most programs do what can come in another order, and then
 /// more, since each handing on takes some microseconds.

@@ -3,11 +3,12 @@ use Rattle.std.proofs.Common.{◌≡◌, ℕ, ◌+◌, ◌<◌, ◌≤◌, Bool,
 use Rattle.std.specs.Prelude.{count_by, slice_get, cond, is_some, ◌++◌, ◌∷◌, []}
 use Rattle.std.specs.Option.{option_map_or}
 use Rattle.std.proofs.lemmas.List.Sums.{count_by_more_yes, count_by_more_no, sum_by-take-le}
+use Rattle.std.proofs.lemmas.List.Elements.{All-nil, All-cons, All-same, All-weaker, All-append}
 use Rattle.std.proofs.lemmas.Option.{slice_get-get_or}
 use Rattle.cell_host.specs.declared.HostAction.{HostAction}
 use Rattle.cell_host.specs.declared.HostAction.TheVariants.{Await}
 use Rattle.cell_host.specs.declared.Took.{Took}
-use Rattle.cell_host.specs.Script.{takes, next_takes, advanced, Progress, IsSound}
+use Rattle.cell_host.specs.Script.{takes, next_takes, advanced, Progress, IsSound, ArePlaced}
 
 count-take-le : (script : List HostAction) (n : ℕ) → count_by takes (take n script) ≤ count_by takes script
 count-take-le script n = sum_by-take-le (λ a. cond (takes a) 1 0) script n
@@ -43,6 +44,14 @@ sound_done script done taken room sound left is = record {
   each = sound.each ∙ sym (count_by_more_no takes script done (Await 0) left (sym (takes-at script done left) ∙ is));
   enough = sound.enough;
 }
+
+pub placed_within : (done all : ℕ) (took : List Took) → done ≤ all → ArePlaced done took → ArePlaced all took
+placed_within done all took low placed = All-weaker (λ (t : Took). t.action < done) (λ (t : Took). t.action < all) (λ t h. omega arith) took placed
+
+pub placed_taken : (done value : ℕ) (took more : List Took) → more ≡ took ++ record { action = done; value = value } ∷ [] → ArePlaced done took → ArePlaced (done + 1) more
+placed_taken done value took more is placed =
+    let last : ArePlaced (done + 1) (record { action = done; value = value } ∷ []) = All-cons (λ (t : Took). t.action < done + 1) (record { action = done; value = value }) [] (omega arith) (All-nil (λ (t : Took). t.action < done + 1)) in
+    All-same (λ (t : Took). t.action < done + 1) more (took ++ record { action = done; value = value } ∷ []) is (All-append (λ (t : Took). t.action < done + 1) took (record { action = done; value = value } ∷ []) (placed_within done (done + 1) took (omega arith) placed) last)
 
 -- what the next step needs, seen from the fields
 pub left_inside : (p q : Progress) → p ≡ q → q.done < length q.script → p.done < length p.script

@@ -1,5 +1,5 @@
 -- A script and how far it has come.
-use Rattle.std.specs.Prelude.{◌≡◌, ℕ, ◌+◌, ◌≤◌, Bool, true, false, List, [], ◌∷◌, ◌++◌, length, take, Option, Some, None, slice_get, count_by}
+use Rattle.std.specs.Prelude.{◌≡◌, ℕ, ◌+◌, ◌<◌, ◌≤◌, Bool, true, false, List, [], ◌∷◌, ◌++◌, length, take, Option, Some, None, slice_get, count_by, All as Each}
 use Rattle.std.specs.Option.{option_map_or}
 use Rattle.cell_host.specs.declared.Took.{Took}
 use Rattle.cell_host.specs.declared.HostAction.{HostAction}
@@ -31,6 +31,10 @@ opening script = record { script = script; done = 0; took = [] }
 abbrev pub advanced : Progress → Option ℕ → Progress
 advanced p None = record { script = p.script; done = p.done + 1; took = p.took }
 advanced p (Some value) = record { script = p.script; done = p.done + 1; took = p.took ++ record { action = p.done; value = value } ∷ [] }
+
+-- each value was taken by an action that was done
+abbrev pub ArePlaced : ℕ → List Took → Type 0
+ArePlaced done took = Each (λ t. t.action < done) took
 
 -- each action that was done and takes a value has taken one, and there is room for the values of all
 pub record IsSound (script : List HostAction) (done taken room : ℕ) : Type 0 where

@@ -2,7 +2,7 @@
 #![tactic(auto)]
 
 ghost use Rattle.std.specs.Prelude.{◌≡◌, ◌<◌, ◌≤◌, List, ℕ, [], length, IfOk, slice_get, is_some, count_by};
-ghost use Rattle.cell_host.specs.Script.{opening, advanced, next_takes, takes};
+ghost use Rattle.cell_host.specs.Script.{opening, advanced, next_takes, takes, ArePlaced};
 
 use std::alloc::{AllocError, Global};
 use std::marker::Model;
@@ -54,13 +54,13 @@ pub struct Host {
 
 impl Model for Host {
     ghost use Rattle.std.specs.Prelude.{vec_len, vec_capacity};
-    ghost use Rattle.cell_host.specs.Script.{Progress, IsSound};
+    ghost use Rattle.cell_host.specs.Script.{Progress, IsSound, ArePlaced};
 
     ghost Value = { Progress };
 
     ghost view = { λ h. record { script = h.script.items; done = h.done; took = h.took.items } };
 
-    ghost invariant = { λ h. IsSound h.script.items h.done (vec_len h.took) (vec_capacity h.took) };
+    ghost invariant = { λ h. IsSound h.script.items h.done (vec_len h.took) (vec_capacity h.took) × ArePlaced h.done h.took.items };
 }
 
 impl Host {
@@ -112,6 +112,7 @@ impl Host {
     pub fn took(&self) -> &[Took]
         ensures took { result.now ≡ self.now.took }
         ensures few { length result.now ≤ MAX_ACTIONS }
+        ensures placed { ArePlaced MAX_ACTIONS result.now }
     {
         self.took.as_slice()
     }

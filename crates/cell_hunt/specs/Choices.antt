@@ -24,11 +24,11 @@ pub record Choices : Type 0 where
 
 -- all keys are drawn
 abbrev pub with_keys : Choices → Lcg → Choices
-with_keys c g = record c { words = after 17 g; keys = next_words 17 g }
+with_keys c g = record c { words = after 33 g; keys = next_words 33 g }
 
 -- before the first step
 abbrev pub opened : Way → Lcg → Choices
-opened way g = record { way = way; words = after 17 g; keys = next_words 17 g; choice = 0 }
+opened way g = record { way = way; words = after 33 g; keys = next_words 33 g; choice = 0 }
 
 -- run `run` of a seed: the generator has the seed as its state, and the run's number as its stream
 abbrev pub words_of : ℕ → ℕ → Lcg

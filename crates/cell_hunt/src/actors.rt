@@ -10,7 +10,7 @@ use cell_machine::Machine;
 
 /// The actor of a number, of so many processors: these, their flow controllers, the host.
 pub fn actor(spes: u8, number: u8) -> Actor
-    requires { spes ≤ 8 }
+    requires { spes ≤ 16 }
     ensures { result ≡ actor_of spes number }
 {
     if number < spes {

@@ -35,7 +35,7 @@ impl Model for Chooser {
 
     ghost view = { λ c. record { way = c.way; words = c.words; keys = c.keys; choice = c.choice } };
 
-    ghost invariant = { λ c. length c.keys ≡ 17 };
+    ghost invariant = { λ c. length c.keys ≡ 33 };
 }
 
 impl Chooser {
@@ -65,7 +65,7 @@ impl Chooser {
 
     /// The key of an actor, of so many processors.
     fn key(&self, spes: u8, number: u8) -> u64
-        requires spes { spes ≤ 8 }
+        requires spes { spes ≤ 16 }
         requires number { number < 2 * spes + 1 }
         ensures { result ≡ key_of self.now spes number }
     {

@@ -58,7 +58,7 @@ walk_ends_well k s (line ∷ lines) entries is = by_step (λ t es h. walk_ends_w
     by_step go (Ok (Some x)) o is = by_rest x.0 x.1 (step_admits s line x.0 x.1 o) (walk line_step lacks (suc k) x.1 lines) (λ es h. go x.1 es h) is
     by_step go (Err f) o is = absurd cc
 
--- ---- there are at most eight processors
+-- ---- there are at most sixteen processors
 
 pub only_if-ok : {A : Type 0} (b : Bool) (next : Result A Refusal) (d : A) → only_if b next ≡ Ok d → (b ≡ true) × (next ≡ Ok d)
 only_if-ok true next d is = (refl, is)
@@ -71,10 +71,10 @@ limited-ok false next d is = absurd cc
 pub ok_same : (c d : Counts) → ◌≡◌ {A = Result Counts Refusal} (Ok c) (Ok d) → c ≡ d
 ok_same c d is = cc
 
--- a line counts its processor, and there are never more than eight
+-- a line counts its processor, and there are never more than sixteen
 pub record CountsSpe (before after : ℕ) (e : Entry) : Type 0 where
   pub counts : after ≡ spes_after before e
-  pub few : before ≤ 8 → after ≤ 8
+  pub few : before ≤ 16 → after ≤ 16
 
 same_spes : (c d : Counts) (e : Entry) → c.spes ≡ d.spes → spes_after c.spes e ≡ c.spes → CountsSpe c.spes d.spes e
 same_spes c d e same none = record { counts = sym same ∙ sym none; few = λ few. omega (arith, same, few) }
@@ -83,10 +83,10 @@ pub counted-spes : (c : Counts) (e : Entry) (d : Counts) → counted c e ≡ Ok 
 unfolding counted
 counted-spes c Spe d is =
     let next : Counts = record c { spes = c.spes + 1; entry = false } in
-    let h = limited-ok (nat_lt c.spes 8) next d is in
+    let h = limited-ok (nat_lt c.spes 16) next d is in
     let more : c.spes + 1 ≡ d.spes = ap (λ (x : Counts). x.spes) h.1 in
-    let test : nat_lt c.spes 8 ≡ true = h.0 in
-    let less : c.spes < 8 = grind (arith, nat_tests) in
+    let test : nat_lt c.spes 16 ≡ true = h.0 in
+    let less : c.spes < 16 = grind (arith, nat_tests) in
     record { counts = sym more; few = λ few. omega (arith, more, less) }
 counted-spes c (Entrance at) d is = same_spes c d (Entrance at) (ap (λ (x : Counts). x.spes) (ok_same _ d (only_if-ok _ _ d is).1)) refl
 counted-spes c (Code at bytes) d is = same_spes c d (Code at bytes) (ap (λ (x : Counts). x.spes) (ok_same _ d (only_if-ok _ _ d is).1)) refl
@@ -125,18 +125,18 @@ admit-spes (Body c) e t is = by_counts (counted c e) refl is
         let same : Body d ≡ t = cc in
         subst (λ (x : Stage). CountsSpe c.spes (spes_of x) e) same (counted-spes c e d o)
 
-few_from : (s : Stage) (entries : List Entry) → ends_well (admit_all s entries) ≡ true → spes_of s ≤ 8 → spes_of s + spes_in entries ≤ 8
+few_from : (s : Stage) (entries : List Entry) → ends_well (admit_all s entries) ≡ true → spes_of s ≤ 16 → spes_of s + spes_in entries ≤ 16
 unfolding admit_all spes_in
 few_from s [] ends few = omega (arith, few)
 few_from s (e ∷ es) ends few = by_next (λ t h f. few_from t es h f) (admit s e) refl ends
   where
-    by_next : ((t : Stage) → ends_well (admit_all t es) ≡ true → spes_of t ≤ 8 → spes_of t + spes_in es ≤ 8) → (o : Result Stage Refusal) → admit s e ≡ o → ends_well (o >>= λ n. admit_all n es) ≡ true → spes_of s + spes_after (spes_in es) e ≤ 8
+    by_next : ((t : Stage) → ends_well (admit_all t es) ≡ true → spes_of t ≤ 16 → spes_of t + spes_in es ≤ 16) → (o : Result Stage Refusal) → admit s e ≡ o → ends_well (o >>= λ n. admit_all n es) ≡ true → spes_of s + spes_after (spes_in es) e ≤ 16
     by_next go (Err f) o ends = absurd cc
     by_next go (Ok t) o ends =
         let one = admit-spes s e t o in
         omega (arith, go t ends (one.few few), one.counts, spes_after-add (spes_of s) (spes_in es) e)
 
-pub few_spes : (entries : List Entry) → IsMachine entries → spes_in entries ≤ 8
+pub few_spes : (entries : List Entry) → IsMachine entries → spes_in entries ≤ 16
 few_spes entries whole = omega (arith, few_from Start entries whole (lit≤ tt))
 
 -- ---- there are at most thirty-two sources

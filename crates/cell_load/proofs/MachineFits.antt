@@ -497,7 +497,7 @@ record Sizes (entries : List Entry) : Type 0 where
   lines : ℕ
   rest : List Entry
   is : entries ≡ Lines lines ∷ rest
-  limits : (0 < lines) × (lines ≤ 32768)
+  limits : (0 < lines) × (lines ≤ 524288)
   ends : ends_well (admit_all (Sized lines) rest) ≡ true
 
 record Budgets (lines : ℕ) (entries : List Entry) : Type 0 where
@@ -510,14 +510,14 @@ record Budgets (lines : ℕ) (entries : List Entry) : Type 0 where
 sizes : (entries : List Entry) → ends_well (admit_all Headed entries) ≡ true → Sizes entries
 unfolding admit_all admit
 sizes [] ends = absurd cc
-sizes (Lines n ∷ es) ends = by_limits (nat_le 1 n && nat_le n 32768) refl ends
+sizes (Lines n ∷ es) ends = by_limits (nat_le 1 n && nat_le n 524288) refl ends
   where
-    by_limits : (b : Bool) → (nat_le 1 n && nat_le n 32768) ≡ b → ends_well (limited b (Sized n) >>= λ s. admit_all s es) ≡ true → Sizes (Lines n ∷ es)
+    by_limits : (b : Bool) → (nat_le 1 n && nat_le n 524288) ≡ b → ends_well (limited b (Sized n) >>= λ s. admit_all s es) ≡ true → Sizes (Lines n ∷ es)
     by_limits false e ends = absurd cc
     by_limits true e ends =
-        let t = both (nat_le 1 n) (nat_le n 32768) e in
+        let t = both (nat_le 1 n) (nat_le n 524288) e in
         let low : nat_le 1 n ≡ true = t.0 in
-        let high : nat_le n 32768 ≡ true = t.1 in
+        let high : nat_le n 524288 ≡ true = t.1 in
         record { lines = n; rest = es; is = refl; limits = (grind (arith, nat_tests), grind (arith, nat_tests)); ends = ends }
 sizes (other ∷ es) ends = absurd cc
 
@@ -553,7 +553,7 @@ whole_file (other ∷ es) ends = absurd cc
 
 -- ---- the whole
 
-opening_of : (lines budget n : ℕ) (loads : List Load) (memory : List InMemory) (actions : List HostAction) (shows : List Show) → AreMachineLimits lines budget → n ≤ 8 → Each (FitsLoad n) loads
+opening_of : (lines budget n : ℕ) (loads : List Load) (memory : List InMemory) (actions : List HostAction) (shows : List Show) → AreMachineLimits lines budget → n ≤ 16 → Each (FitsLoad n) loads
     → Each (FitsMemory lines) memory → Each (FitsAction lines n) actions → length actions ≤ 4096 → Each (FitsShow lines n) shows → length shows ≤ 64
     → IsOpening (record { lines = lines; budget = budget; entries = starts_of loads n; placed = placed_of loads; memory = memory; actions = actions; shows = shows })
 opening_of lines budget n loads memory actions shows limits few placed filled acts acted ranges shown =
@@ -620,7 +620,7 @@ idle_budget n = record { parts = parts; images = images; spes = λ k. refl }
     images [] = refl
     images (i ∷ is) = refl
 
-body_opening : (lines budget : ℕ) (body : List Entry) (images : List Image) → AreMachineLimits lines budget → ends_well (admit_all (Body (nothing lines)) body) ≡ true → spes_in body ≤ 8
+body_opening : (lines budget : ℕ) (body : List Entry) (images : List Image) → AreMachineLimits lines budget → ends_well (admit_all (Body (nothing lines)) body) ≡ true → spes_in body ≤ 16
     → AllTakeFit body images → IsOpening (machine_of (Head ∷ Lines lines ∷ Budget budget ∷ body) (loads_from 0 body images))
 unfolding first_of spes_in
 body_opening lines budget body images limits ends few takes =
@@ -635,7 +635,7 @@ body_opening lines budget body images limits ends few takes =
     (each_fits shown_range (FitsShow lines (spes_in body)) lines (spes_in body) (show_fits lines (spes_in body)) (nothing lines) body refl ends (omega (arith, n)))
     shown
 
-file_opening : (lines budget : ℕ) (body : List Entry) (images : List Image) → AreMachineLimits lines budget → ends_well (admit_all (Body (nothing lines)) body) ≡ true → spes_in body ≤ 8
+file_opening : (lines budget : ℕ) (body : List Entry) (images : List Image) → AreMachineLimits lines budget → ends_well (admit_all (Body (nothing lines)) body) ≡ true → spes_in body ≤ 16
     → AllTakeFit (Head ∷ Lines lines ∷ Budget budget ∷ body) images → IsOpening (machine_of (Head ∷ Lines lines ∷ Budget budget ∷ body) (loads_of (Head ∷ Lines lines ∷ Budget budget ∷ body) images))
 file_opening lines budget body images limits ends few takes =
     let same : loads_from 0 (Head ∷ Lines lines ∷ Budget budget ∷ body) images ≡ loads_from 0 body images =
@@ -652,7 +652,7 @@ body_spes lines budget body = refl
 pub is_opening : (entries : List Entry) (images : List Image) → IsMachine entries → AllTakeFit entries images → IsOpening (machine_of entries (loads_of entries images))
 is_opening entries images whole takes =
     let w = whole_file entries whole in
-    let few : spes_in w.body ≤ 8 = omega (arith, few_spes entries whole, ap spes_in w.is, body_spes w.lines w.budget w.body) in
+    let few : spes_in w.body ≤ 16 = omega (arith, few_spes entries whole, ap spes_in w.is, body_spes w.lines w.budget w.body) in
     subst (λ es. IsOpening (machine_of es (loads_of es images))) (sym w.is)
     (file_opening w.lines w.budget w.body images w.limits w.ends few (subst (λ es. AllTakeFit es images) w.is takes))
 

@@ -28,7 +28,7 @@ rest_at lines i x within at =
     ∙ ap (λ y. entry_of y ∷ map entry_of (drop (suc i) lines)) (sym at)
     ∙ ap (λ k. entry_of x ∷ map entry_of (drop k lines)) e
 
-pub next_few : (spes : ℕ) (entries : List Entry) (e : Entry) (rest : List Entry) → entries ≡ e ∷ rest → spes + spes_in entries ≤ 8 → spes_after spes e + spes_in rest ≤ 8
+pub next_few : (spes : ℕ) (entries : List Entry) (e : Entry) (rest : List Entry) → entries ≡ e ∷ rest → spes + spes_in entries ≤ 16 → spes_after spes e + spes_in rest ≤ 16
 unfolding spes_in
 next_few spes entries e rest cut few =
     let here : spes + spes_in entries ≡ spes + spes_after (spes_in rest) e = ap (λ es. spes + spes_in es) cut in

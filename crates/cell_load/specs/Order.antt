@@ -52,7 +52,7 @@ nothing lines = record { lines = lines; spes = 0; entry = false; sources = 0; ac
 
 -- the counts after a line that stands behind the first three
 unfoldable pub counted : Counts → Entry → Result Counts Refusal
-counted c Spe = limited (nat_lt c.spes 8) (record c { spes = c.spes + 1; entry = false })
+counted c Spe = limited (nat_lt c.spes 16) (record c { spes = c.spes + 1; entry = false })
 counted c (Entrance at) = only_if (has_spe c && not c.entry && at % 4 == 0 && nat_lt at 262144) (Ok (record c { entry = true }))
 counted c (Code at bytes) = only_if (has_spe c && at % 4 == 0 && length bytes % 4 == 0 && in_local at (length bytes)) (Ok c)
 counted c (Bytes at bytes) = only_if (has_spe c && in_local at (length bytes)) (Ok c)
@@ -70,7 +70,7 @@ in_body (Err e) = Err e
 -- the stage after a line, or why it has no place
 unfoldable pub admit : Stage → Entry → Result Stage Refusal
 admit Start Head = Ok Headed
-admit Headed (Lines n) = limited (nat_le 1 n && nat_le n 32768) (Sized n)
+admit Headed (Lines n) = limited (nat_le 1 n && nat_le n 524288) (Sized n)
 admit (Sized lines) (Budget n) = limited (nat_le 1 n && nat_le n 1000000) (Body (nothing lines))
 admit (Body c) entry = in_body (counted c entry)
 admit stage other = Err Form

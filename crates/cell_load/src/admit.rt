@@ -70,7 +70,7 @@ fn only_if(holds: bool, counts: Counts) -> Result<Counts, Refusal>
 fn count_spe(counts: Counts) -> Result<Counts, Refusal>
     ensures { result ≡ counted counts Spe }
 {
-    if counts.spes >= 8 {
+    if counts.spes >= 16 {
         return Err(Refusal::Limit);
     }
     let mut next = counts;
@@ -231,7 +231,7 @@ fn admit_lines(line: &Line) -> Result<Stage, Refusal>
 {
     match line {
         Line::Lines { n } => {
-            if 1 <= *n && *n <= 32_768 {
+            if 1 <= *n && *n <= 524_288 {
                 Ok(Stage::Sized { lines: *n })
             } else {
                 Err(Refusal::Limit)

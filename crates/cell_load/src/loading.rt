@@ -99,7 +99,7 @@ fn budget_number(lines: &[Line]) -> u32
 
 /// Adds a processor with its start address.
 fn add_spe(setup: &mut Setup, at: u32) -> Result<(), AllocError>
-    requires room { length setup.old.entries < 8 }
+    requires room { length setup.old.entries < 16 }
     requires place { (at < 262144) × (at % 4 ≡ 0) }
     ensures { OnOk result (setup.new ≡ record setup.old { entries = setup.old.entries ++ at ∷ [] }) }
 {
@@ -116,7 +116,7 @@ fn add_spe(setup: &mut Setup, at: u32) -> Result<(), AllocError>
 /// Adds so many processors, each with its start address.
 fn add_spes(setup: &mut Setup, loads: &[Load], spes: u8) -> Result<(), AllocError>
     requires none { setup.old.entries ≡ [] }
-    requires few { spes ≤ 8 }
+    requires few { spes ≤ 16 }
     requires places { All (λ at. (at < 262144) × (at % 4 ≡ 0)) (starts_of (map load_of loads.now) spes) }
     ensures { OnOk result (setup.new ≡ record setup.old { entries = starts_of (map load_of loads.now) spes }) }
 {
@@ -212,7 +212,7 @@ fn add_actions(setup: &mut Setup, lines: &[Line]) -> Result<(), AllocError>
 
 /// Adds the range that a line shows.
 fn add_show(setup: &mut Setup, line: &Line) -> Result<(), AllocError>
-    requires few { length setup.old.entries ≤ 8 }
+    requires few { length setup.old.entries ≤ 16 }
     requires may { IfSome (shown_range (entry_of line.now)) (MayShow setup.old) }
     ensures { OnOk result (setup.new ≡ record setup.old { shows = setup.old.shows ++ option_to_list (shown_range (entry_of line.now)) }) }
 {
@@ -233,7 +233,7 @@ fn add_show(setup: &mut Setup, line: &Line) -> Result<(), AllocError>
 
 /// Adds the ranges that the lines show in their order.
 fn add_shows(setup: &mut Setup, lines: &[Line]) -> Result<(), AllocError>
-    requires few { length setup.old.entries ≤ 8 }
+    requires few { length setup.old.entries ≤ 16 }
     requires room { length setup.old.shows + length (filter_map shown_range (map entry_of lines.now)) ≤ 64 }
     requires fits { All (FitsShow setup.old.lines (length setup.old.entries)) (filter_map shown_range (map entry_of lines.now)) }
     ensures { OnOk result (setup.new ≡ record setup.old { shows = setup.old.shows ++ filter_map shown_range (map entry_of lines.now) }) }

@@ -111,7 +111,7 @@ pub(crate) fn loads_in<'a>(
     lines: &'a [Line],
     images: &'a [Image],
 ) -> Result<Vec<Load<'a>>, AllocError>
-    requires { spes_in (map entry_of lines.now) ≤ 8 }
+    requires { spes_in (map entry_of lines.now) ≤ 16 }
     ensures all { IfOk result (λ loads. map load_of loads.items ≡ loads_of (map entry_of lines.now) images.now) }
     ensures fits { OnOk result (AllTakeFit (map entry_of lines.now) images.now) }
 {
@@ -177,7 +177,7 @@ pub(crate) fn start_of(loads: &[Load], spe: u8) -> u32
 
 /// How many processors these lines begin.
 pub(crate) fn spes_in(lines: &[Line]) -> u8
-    requires { spes_in (map entry_of lines.now) ≤ 8 }
+    requires { spes_in (map entry_of lines.now) ≤ 16 }
     ensures { result ≡ spes_in (map entry_of lines.now) }
 {
     let mut spes: u8 = 0;

@@ -43,7 +43,7 @@ fn keep_source(sources: &mut Vec<SourceName>, spes: u8, line: &Line) -> Result<u
 
 /// The sources of these lines in order, each of the latest processor before it.
 pub(crate) fn sources_in(alloc: Global, lines: &[Line]) -> Result<Vec<SourceName>, AllocError>
-    requires { spes_in (map entry_of lines.now) ≤ 8 }
+    requires { spes_in (map entry_of lines.now) ≤ 16 }
     ensures { IfOk result (λ sources. map named sources.items ≡ sources_of (map entry_of lines.now)) }
 {
     let mut sources = Vec::new(alloc);

@@ -8,7 +8,7 @@ use Rattle.std.proofs.lemmas.List.Elements.{All-append}
 use Rattle.mfc_command.specs.declared.command.AtomicOp.{AtomicOp}
 use Rattle.mfc_command.specs.declared.command.Command.{Command}
 use Rattle.mfc_command.specs.declared.command.Kind.{Kind}
-use Rattle.mfc_command.specs.declared.command.Kind.TheVariants.{Put, Get, PutList, GetList, Barrier}
+use Rattle.mfc_command.specs.declared.command.Kind.TheVariants.{Put, Get, PutList, GetList, Barrier, PutQueued}
 use Rattle.mfc_command.specs.declared.command.Order.{Order}
 use Rattle.mfc_command.specs.declared.command.Order.TheVariants.{Queued, Atomic as AtomicOrder}
 use Rattle.mfc_command.specs.declared.command.DmaFault.{DmaFault as Fault}
@@ -118,6 +118,7 @@ kind-small lines d Get fits = let s = fits.size in let m = fits.memory in (s, λ
 kind-small lines d PutList fits = let s = fits.size in let m = fits.store in (s, λ u l. omega arith)
 kind-small lines d GetList fits = let s = fits.size in let m = fits.store in (s, λ u l. omega arith)
 kind-small lines d Barrier fits = let z : d.size ≡ 0 = fits in (omega arith, λ u l. omega arith)
+kind-small lines d PutQueued fits = let s = fits.fits.size in let m = fits.fits.memory in (s, λ u l. omega arith)
 
 -- ---- instructions
 

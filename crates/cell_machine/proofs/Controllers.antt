@@ -4,7 +4,7 @@ use Rattle.std.specs.Prelude.{Option, Some, None, All, slice_get, cond, if◌the
 use Rattle.std.specs.List.{last_or}
 use Rattle.mfc_command.specs.declared.command.Command.{Command}
 use Rattle.mfc_command.specs.declared.command.Kind.{Kind}
-use Rattle.mfc_command.specs.declared.command.Kind.TheVariants.{Put, Get, PutList, GetList, Barrier}
+use Rattle.mfc_command.specs.declared.command.Kind.TheVariants.{Put, Get, PutList, GetList, Barrier, PutQueued}
 use Rattle.mfc_command.specs.declared.command.DmaFault.{DmaFault as Fault}
 use Rattle.mfc_command.specs.Check.{KindFits, transfer_fault}
 use Rattle.mfc_command.specs.Order.{is_list, is_barrier}
@@ -103,6 +103,7 @@ element-fits lines n P c d x bounded at moved p = by (is_list d.kind) refl
     whole_fits PutList l b f = absurd (true≢false l)
     whole_fits GetList l b f = absurd (true≢false l)
     whole_fits Barrier l b f = absurd (true≢false b)
+    whole_fits PutQueued l b f = let g = f.fits in record { size = g.size; store = g.store; memory = g.memory }
 
     no_barrier : (b s : Bool) → (not b && s) ≡ true → b ≡ false
     no_barrier true s h = absurd (true≢false (sym h))

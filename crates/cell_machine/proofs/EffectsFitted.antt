@@ -18,7 +18,7 @@ use Rattle.local_store.specs.Store.{word_at}
 use Rattle.mfc_command.specs.declared.command.Command.{Command}
 use Rattle.mfc_command.specs.declared.command.AtomicOp.{AtomicOp}
 use Rattle.mfc_command.specs.declared.command.Kind.{Kind}
-use Rattle.mfc_command.specs.declared.command.Kind.TheVariants.{Put, Get, PutList, GetList, Barrier}
+use Rattle.mfc_command.specs.declared.command.Kind.TheVariants.{Put, Get, PutList, GetList, Barrier, PutQueued}
 use Rattle.mfc_command.specs.declared.command.Order.TheVariants.{Atomic as AtomicOrder}
 use Rattle.mfc_command.specs.declared.range.Part.{Part}
 use Rattle.mfc_command.specs.Check.{KindFits, OrderFits}
@@ -130,6 +130,7 @@ list_fits lines d Get l f = absurd (true≢false (sym l))
 list_fits lines d PutList l f = f.store
 list_fits lines d GetList l f = f.store
 list_fits lines d Barrier l f = absurd (true≢false (sym l))
+list_fits lines d PutQueued l f = absurd (true≢false (sym l))
 
 next_within : (lines n c : ℕ) (P : Spe) (d : Command) → IsBounded lines n P → AreFew P.moves → slice_get P.moves.issued c ≡ Some d → has_element P.moves c d ≡ true → next_at P.moves c d + 8 ≤ 262144
 next_within lines n c P d bounded few at has =

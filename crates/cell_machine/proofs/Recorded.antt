@@ -130,7 +130,7 @@ own-there M N p s made = let first = some-of _ (slice_get M.spes p) N made in (f
 -- a state that a run comes to after n steps
 record Comes (S : Opening) (steps : List Step) (M : State) : Type 0 where
   run : replay (opening S) steps ≡ Some M
-  few : length M.spes ≤ 8
+  few : length M.spes ≤ 16
   small : (p : ℕ) (P : Spe) → slice_get M.spes p ≡ Some P → AreSmall (length steps) P.moves
 
 maker-in : (S : Opening) (steps : List Step) (M : State) (p : ℕ) (P : Spe) → Comes S steps M → slice_get M.spes p ≡ Some P → p ≤ 15
@@ -220,7 +220,7 @@ opening-count : (S : Opening) → length (opening S).spes ≡ length S.entries
 unfolding opening
 opening-count S = length-enumerate (opening_spe S) 0 S.entries
 
-comes-first : (S : Opening) → length S.entries ≤ 8 → Comes S [] (opening S)
+comes-first : (S : Opening) → length S.entries ≤ 16 → Comes S [] (opening S)
 comes-first S few = record {
   run = refl;
   few = let count = opening-count S in omega (arith, few, count);

@@ -16,9 +16,9 @@ shown pieces = map (λ x. record { spe = x.spe; at = x.at; bytes = x.bytes.items
 abbrev pub shown_memory : List MemoryBytes → List InMemory
 shown_memory pieces = map (λ x. record { at = x.at; bytes = x.bytes.items }) pieces
 
--- 1 to 32,768 lines of memory, and 1 to 1,000,000 steps
+-- 1 to 524,288 lines of memory, and 1 to 1,000,000 steps
 abbrev pub AreMachineLimits : ℕ → ℕ → Type 0
-AreMachineLimits lines budget = (0 < lines) × (lines ≤ 32768) × (0 < budget) × (budget ≤ 1000000)
+AreMachineLimits lines budget = (0 < lines) × (lines ≤ 524288) × (0 < budget) × (budget ≤ 1000000)
 
 -- the processor is there, and the bytes fit its store
 abbrev pub FitsStore : ℕ → Placed → Type 0
@@ -51,7 +51,7 @@ MayShow S s = (length S.shows < 64) × FitsShow S.lines (length S.entries) s
 
 pub record IsOpening (S : Opening) : Type 0 where
   pub limits : AreMachineLimits S.lines S.budget
-  pub spes : length S.entries ≤ 8
+  pub spes : length S.entries ≤ 16
   pub entries : All IsPlace S.entries
   pub placed : All (FitsStore (length S.entries)) S.placed
   pub memory : All (FitsMemory S.lines) S.memory

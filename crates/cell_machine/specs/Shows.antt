@@ -168,7 +168,7 @@ pub record IsMachine (setup : Opening) (steps : List Step) (capacity : ℕ) (pro
   pub within : length steps ≤ setup.budget
   pub small : setup.budget ≤ 1000000
   pub some : 0 < length setup.entries
-  pub many : length processors ≤ 8
+  pub many : length processors ≤ 16
   pub count : length processors ≡ length setup.entries
   pub state : State
   pub replayed : replay (opening setup) steps ≡ Some state

@@ -6,7 +6,7 @@ use Rattle.local_store.specs.Store.{word_at}
 use Rattle.mfc_command.specs.declared.command.Command.{Command}
 use Rattle.mfc_command.specs.declared.command.DmaFault.{DmaFault as Fault}
 use Rattle.mfc_command.specs.declared.command.Kind.{Kind}
-use Rattle.mfc_command.specs.declared.command.Kind.TheVariants.{Put, Get, PutList, GetList, Barrier}
+use Rattle.mfc_command.specs.declared.command.Kind.TheVariants.{Put, Get, PutList, GetList, Barrier, PutQueued}
 use Rattle.mfc_command.specs.declared.range.Part.{Part}
 use Rattle.mfc_command.specs.Order.{is_list}
 use Rattle.mfc_command.specs.Parts.{part_of}
@@ -46,12 +46,14 @@ has_part m c e k d = is_moved d && option_map_or (is_part_left m.done c e k) (pr
 unfoldable pub may_piece : Spe → ℕ → ℕ → ℕ → Bool
 may_piece P c e k = may_of P c (has_part P.moves c e k)
 
+-- whether its bytes go to the memory
 abbrev pub is_put : Kind → Bool
 is_put Put = true
 is_put Get = false
 is_put PutList = true
 is_put GetList = false
 is_put Barrier = false
+is_put PutQueued = true
 
 -- what a step leaves: the processor, and the main memory
 pub record Left : Type 0 where

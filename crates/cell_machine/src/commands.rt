@@ -41,6 +41,7 @@ fn is_list(kind: Kind) -> bool
         Kind::PutList => true,
         Kind::GetList => true,
         Kind::Barrier => false,
+        Kind::PutQueued => false,
     }
 }
 
@@ -54,10 +55,11 @@ fn is_moved(command: &Command) -> bool
         Kind::PutList => command.size != 0,
         Kind::GetList => command.size != 0,
         Kind::Barrier => false,
+        Kind::PutQueued => command.size != 0,
     }
 }
 
-/// A PUT or GET as its one element.
+/// A command that is moved and isn't a list, as its one element.
 fn whole(command: &Command) -> Element
     ensures { result ≡ whole command.now }
 {

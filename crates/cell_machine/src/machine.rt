@@ -121,7 +121,7 @@ fn opening_processors(
     entries: &[u32],
     placed: &[PlacedBytes],
 ) -> Result<Vec<Processor>, MachineError>
-    requires many { length entries.now ≤ 8 }
+    requires many { length entries.now ≤ 16 }
     requires places { All IsPlace entries.now }
     requires fits { All (λ x. x.at + length x.bytes.items ≤ 262144) placed.now }
     ensures { IfOk result (λ v. (S : Opening) → S.entries ≡ entries.now → S.placed ≡ shown placed.now → AllTwo ShowsSpe v.items (opening_spes S)) }
@@ -135,7 +135,7 @@ fn opening_processors(
 
 /// The first allowed step of the first actor that has one.
 fn first_step(processors: &[Processor], host: &Host) -> Option<Step>
-    requires many { length processors.now ≤ 8 }
+    requires many { length processors.now ≤ 16 }
     requires kept { All (λ c. IsKept c.commands.queue) processors.now }
     ensures { (memory : SharedMemory) (M : State) → Shows processors.now memory host.now M → result ≡ first_allowed M }
 {
@@ -152,7 +152,7 @@ fn first_step(processors: &[Processor], host: &Host) -> Option<Step>
 
 /// The first allowed instruction.
 fn first_of_spus(processors: &[Processor]) -> Option<Step>
-    requires { length processors.now ≤ 8 }
+    requires { length processors.now ≤ 16 }
     ensures { (memory : SharedMemory) (host : Progress) (M : State) → Shows processors.now memory host M → result ≡ slice_get (all_of_spus M) 0 }
 {
     for spe in 0..processors.len() {
@@ -166,7 +166,7 @@ fn first_of_spus(processors: &[Processor]) -> Option<Step>
 
 /// The first allowed step of the first flow controller that has one.
 fn first_of_mfcs(processors: &[Processor]) -> Option<Step>
-    requires many { length processors.now ≤ 8 }
+    requires many { length processors.now ≤ 16 }
     requires kept { All (λ c. IsKept c.commands.queue) processors.now }
     ensures { (memory : SharedMemory) (host : Progress) (M : State) → Shows processors.now memory host M → result ≡ slice_get (all_of_mfcs M) 0 }
 {

@@ -24,7 +24,7 @@ pub(crate) struct SharedMemory {
 
 /// The bytes at the start.
 fn opening_bytes(alloc: Global, lines: u32, pieces: &[MemoryBytes]) -> Result<Memory, MachineError>
-    requires lines { (0 < lines) × (lines ≤ 32768) }
+    requires lines { (0 < lines) × (lines ≤ 524288) }
     requires fits { All (λ x. x.at + length x.bytes.items ≤ 128 * lines) pieces.now }
     ensures filled { IfOk result (λ memory. memory ≡ filled (zeros (128 * lines)) (shown_memory pieces.now)) }
     ensures long { IfOk result (λ memory. length memory ≡ 128 * lines) }
@@ -46,8 +46,8 @@ impl SharedMemory {
         spes: u8,
         pieces: &[MemoryBytes],
     ) -> Result<SharedMemory, MachineError>
-        requires lines { (0 < lines) × (lines ≤ 32768) }
-        requires spes { (0 < spes) × (spes ≤ 8) }
+        requires lines { (0 < lines) × (lines ≤ 524288) }
+        requires spes { (0 < spes) × (spes ≤ 16) }
         requires fits { All (λ x. x.at + length x.bytes.items ≤ 128 * lines) pieces.now }
         ensures shows { IfOk result (λ c. ShowsMemory c (record { bytes = filled (zeros (128 * lines)) (shown_memory pieces.now); versions = replicate lines 0 }) (replicate spes None)) }
         ensures size { IfOk result (HasSize lines spes) }

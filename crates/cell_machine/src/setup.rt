@@ -12,9 +12,9 @@ use std::alloc::{AllocError, AllocFailed, Global};
 use std::marker::Model;
 
 /// How many processors a machine may have.
-const MOST_PROCESSORS: usize = 8;
+const MOST_PROCESSORS: usize = 16;
 /// How many lines of 128 bytes its memory may have.
-const MOST_LINES: u32 = 32_768;
+const MOST_LINES: u32 = 524_288;
 /// How many steps a run may have.
 const MOST_STEPS: u32 = 1_000_000;
 
@@ -132,7 +132,7 @@ fn copy_memory(alloc: Global, pieces: &[MemoryBytes]) -> Result<Vec<MemoryBytes>
 }
 
 impl Setup {
-    /// A setup with no processor, of 1 to 32,768 lines and with a budget of 1 to 1,000,000 steps; `Limit` exactly outside of these.
+    /// A setup with no processor, of 1 to 524,288 lines and with a budget of 1 to 1,000,000 steps; `Limit` exactly outside of these.
     /// It takes no memory.
     pub fn new(alloc: Global, lines: u32, budget: u32) -> Result<Setup, SetupError>
         ensures made { IfOk result (λ s. s ≡ record { lines = lines; budget = budget; entries = []; placed = []; memory = []; actions = []; shows = [] }) }
@@ -171,11 +171,11 @@ impl Setup {
         })
     }
 
-    /// Adds a processor that starts at address 0, and answers its number, counted from 0. `Limit` where eight are there.
+    /// Adds a processor that starts at address 0, and answers its number, counted from 0. `Limit` where sixteen are there.
     pub fn add_spe(&mut self) -> Result<u8, SetupError>
         ensures added { OnOk result (self.new ≡ record self.old { entries = self.old.entries ++ 0 ∷ [] }) }
         ensures number { IfOk result (λ n. n ≡ length self.old.entries) }
-        ensures limit { (result ≡ Err SetupError.Limit) ↔ (length self.old.entries ≡ 8) }
+        ensures limit { (result ≡ Err SetupError.Limit) ↔ (length self.old.entries ≡ 16) }
         ensures err { OnErr result (self.new ≡ self.old) }
     {
         let number = self.entries.len();
@@ -353,7 +353,7 @@ impl Setup {
     /// How many processors there are.
     pub fn spes(&self) -> u8
         ensures count { result ≡ length self.now.entries }
-        ensures few { result ≤ 8 }
+        ensures few { result ≤ 16 }
     {
         self.entries.len() as u8
     }

@@ -35,6 +35,7 @@ pub(crate) fn is_put(kind: Kind) -> bool
         Kind::PutList => true,
         Kind::GetList => false,
         Kind::Barrier => false,
+        Kind::PutQueued => true,
     }
 }
 

@@ -34,6 +34,13 @@ digits-short width n = let long = hex-length width n in omega (arith, long)
 pub decimal-short : (n : ℕ) → n < 4294967296 → length (decimal n) ≤ 10
 decimal-short n low = length-decimal-le 10 n (omega arith) (omega (arith, low)) (omega (arith, low))
 
+-- of a number below 10,000, and of one below 1,000
+pub decimal-four : (n : ℕ) → n < 10000 → length (decimal n) ≤ 4
+decimal-four n low = length-decimal-le 4 n (omega arith) (omega (arith, low)) (omega (arith, low))
+
+decimal-three : (n : ℕ) → n < 1000 → length (decimal n) ≤ 3
+decimal-three n low = length-decimal-le 3 n (omega arith) (omega (arith, low)) (omega (arith, low))
+
 hexes-length : (bytes : List ℕ) → length (flat_map byte_hex bytes) ≡ 2 * length bytes
 hexes-length [] = refl
 hexes-length (b ∷ bytes) = let rest = hexes-length bytes in omega (arith, rest)
@@ -64,13 +71,13 @@ end-short (Some Stuck) = omega arith
 end-short (Some Budget) = omega arith
 end-short None = omega arith
 
-pub register-short : (r : ℕ) (bytes : List ℕ) → r < 4294967296 → length (register_line r bytes) ≤ 13 + 2 * length bytes
+pub register-short : (r : ℕ) (bytes : List ℕ) → r < 1000 → length (register_line r bytes) ≤ 6 + 2 * length bytes
 register-short r bytes low = on (is_zero bytes)
   where
-    on : (b : Bool) → length (cond b [] (codes "r" ++ decimal r ++ codes " " ++ flat_map byte_hex bytes ++ line_feed)) ≤ 13 + 2 * length bytes
+    on : (b : Bool) → length (cond b [] (codes "r" ++ decimal r ++ codes " " ++ flat_map byte_hex bytes ++ line_feed)) ≤ 6 + 2 * length bytes
     on true = omega arith
     on false =
-        let number = decimal-short r low in
+        let number = decimal-three r low in
         let digits = hexes-length bytes in
         simp length-append (omega (arith, number, digits))
 
@@ -88,7 +95,7 @@ host-short done all low few =
 
 -- the lines of a processor, behind five texts, the last of which are those of its registers
 pub lines-short : (old a b c d e new t0 t1 t2 t3 t4 : List ℕ) (count : ℕ) → a ≡ old ++ t0 → b ≡ a ++ t1 → c ≡ b ++ t2 → d ≡ c ++ t3 → e ≡ d ++ t4
-    → length t0 ≤ 4 → length t1 ≤ 10 → length t2 ≤ 1 → length t3 ≤ 18 → length t4 ≤ 30 → length new ≤ length e + 45 * count → count ≤ 128 → length new ≤ length old + 5824
+    → length t0 ≤ 4 → length t1 ≤ 10 → length t2 ≤ 1 → length t3 ≤ 18 → length t4 ≤ 30 → length new ≤ length e + 38 * count → count ≤ 128 → length new ≤ length old + 4928
 lines-short old a b c d e new t0 t1 t2 t3 t4 count is0 is1 is2 is3 is4 s0 s1 s2 s3 s4 grew few =
     let l0 = grown old t0 a 4 is0 s0 in
     let l1 = grown a t1 b 10 is1 s1 in

@@ -83,7 +83,7 @@ fn put_register(out: &mut Vec<u8>, r: u32, bytes: &[u8]) -> Result<(), AllocErro
 fn put_registers(out: &mut Vec<u8>, registers: &[Quad]) -> Result<(), AllocError>
     requires { length registers.now ≤ 128 }
     ensures text { OnOk result (out.new.items ≡ out.old.items ++ register_lines 0 registers.now) }
-    ensures short { OnOk result (length out.new.items ≤ length out.old.items + 45 * length registers.now) }
+    ensures short { OnOk result (length out.new.items ≤ length out.old.items + 38 * length registers.now) }
 {
     let mut r = 0;
     for quad in registers {
@@ -115,7 +115,7 @@ fn put_lines(
 ) -> Result<(), AllocError>
     requires { length registers.now ≤ 128 }
     ensures text { OnOk result (out.new.items ≡ out.old.items ++ spe_lines p status pc queued registers.now) }
-    ensures short { OnOk result (length out.new.items ≤ length out.old.items + 5824) }
+    ensures short { OnOk result (length out.new.items ≤ length out.old.items + 4928) }
 {
     out.extend_from_slice(b"spe ")?;
     put_decimal(out, u32::from(p))?;
@@ -129,7 +129,7 @@ fn put_lines(
 fn put_spe(out: &mut Vec<u8>, m: &Machine, p: u8) -> Result<(), AllocError>
     requires { p < length m.now.setup.entries }
     ensures text { OnOk result (IsSomeAnd (spe_of m.now p) (λ P. out.new.items ≡ out.old.items ++ spe_text p P)) }
-    ensures short { OnOk result (length out.new.items ≤ length out.old.items + 5824) }
+    ensures short { OnOk result (length out.new.items ≤ length out.old.items + 4928) }
 {
     put_lines(out, p, m.status(p), m.pc(p), m.queued(p), m.registers(p))
 }
@@ -137,7 +137,7 @@ fn put_spe(out: &mut Vec<u8>, m: &Machine, p: u8) -> Result<(), AllocError>
 /// Writes the lines of all processors.
 fn put_spes(out: &mut Vec<u8>, m: &Machine) -> Result<(), AllocError>
     ensures text { OnOk result (IsSomeAnd (state_of m.now) (λ M. out.new.items ≡ out.old.items ++ spes_text 0 M.spes)) }
-    ensures short { OnOk result (length out.new.items ≤ length out.old.items + 46592) }
+    ensures short { OnOk result (length out.new.items ≤ length out.old.items + 78848) }
 {
     for p in 0..m.setup().spes() {
         put_spe(out, m, p)?;

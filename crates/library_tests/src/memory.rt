@@ -1,4 +1,4 @@
-// A memory above what a text asks for: a machine file has at most 32,768 lines.
+// The greatest memory.
 
 use crate::holds;
 use main_memory::{Memory, MemoryError};

@@ -29,7 +29,9 @@ use Rattle.race_order.specs.Premises.{MayStep, QueueMay, IsQueued}
 use Rattle.race_order.specs.Sources.{is_in, IsKept, IsOwn, HaveOwn}
 use Rattle.race_order.proofs.Nexts.{Completes, Stalls, GoesInto, after}
 use Rattle.race_order.proofs.Local.{Touches, WaitsLocal, Stays, Itself, AtIssue, FromEarlier, Own, CompleteLocal, WasComplete, IsNow, FixedLocal, WasFixed, FixedNow, StalledLocal, WasStalled, StalledNow, AreLocal}
-use Rattle.race_order.specs.Lives.{is_touched, goes_in, own_has, moved, acks, acked_by, reads_of, touch_brings}
+use Rattle.race_order.specs.Lives.{is_touched, goes_in, moves_own_line, own_has, moved, acks, acked_by, reads_of, touch_brings}
+use Rattle.race_order.proofs.CountedRules.{queued_take}
+use Rattle.race_order.proofs.WholeLines.{own_line, line_own}
 use Rattle.race_order.proofs.LivesNext.{ShowsNear}
 use Rattle.race_order.specs.Passes.{View, is_ahead, brings, with_into, from_class, classes_ahead}
 use Rattle.race_order.specs.Tables.{is_among}
@@ -112,12 +114,19 @@ module _ (n : ℕ) (trace : Trace) (e : Event) (orderly : IsOrderly n (trace ++ 
       by (inl y) = inl y
       by (inr y) = let a = acks_is l.spe l.progress e.step e.effect.note y in inr (inr record { progress = l.progress; has = (live_has l i).0; stalled = a.1; is = a.0; notes = a.2 })
 
+  queued_before : IsQueued trace
+  queued_before = subst (λ t. IsQueued t) (take_before trace e) (queued_take T (length trace) (let l : length T ≡ length trace + 1 = longer trace e in omega arith) queued)
+
   goes_of : (l : Live) → InLives l → goes_in l e.step e.effect.note ≡ true → GoesInto trace e l.spe l.cmd
-  goes_of l i x = by (or_cases (reads_of l.spe l.cmd e.step) (acks l.spe l.progress e.step e.effect.note) x)
+  goes_of l i x = by (or_cases (reads_of l.spe l.cmd e.step) (acks l.spe l.progress e.step e.effect.note || moves_own_line l e.step) x)
     where
-      by : (reads_of l.spe l.cmd e.step ≡ true) ⊎ (acks l.spe l.progress e.step e.effect.note ≡ true) → GoesInto trace e l.spe l.cmd
+      beside : (acks l.spe l.progress e.step e.effect.note ≡ true) ⊎ (moves_own_line l e.step ≡ true) → GoesInto trace e l.spe l.cmd
+      beside (inl y) = let a = acks_is l.spe l.progress e.step e.effect.note y in inr (inr (inl record { progress = l.progress; has = (live_has l i).0; stalled = a.1; is = a.0; notes = a.2 }))
+      beside (inr y) = let a = own_line trace queued_before e l (live_has l i).0 y in inr (inr (inr record { is = a.0; moves = a.1 }))
+
+      by : (reads_of l.spe l.cmd e.step ≡ true) ⊎ ((acks l.spe l.progress e.step e.effect.note || moves_own_line l e.step) ≡ true) → GoesInto trace e l.spe l.cmd
       by (inl y) = inr (inl (reads_is l.spe l.cmd e.step y))
-      by (inr y) = let a = acks_is l.spe l.progress e.step e.effect.note y in inr (inr record { progress = l.progress; has = (live_has l i).0; stalled = a.1; is = a.0; notes = a.2 })
+      by (inr y) = beside (or_cases (acks l.spe l.progress e.step e.effect.note) (moves_own_line l e.step) y)
 
   abbrev completes_of : (l : Live) → InLives l → (next_of l).progress.done ≡ true → Completes trace e l.spe l.cmd
   completes_of l i d =
@@ -359,10 +368,15 @@ module _ (n : ℕ) (trace : Trace) (e : Event) (orderly : IsOrderly n (trace ++ 
       let m : MayStep trace p d e.step e.effect.note = may.step p d (ap (is_of p d) h ∙ of) in
       let l : Live = record { spe = p; cmd = d; progress = m.progress } in
       up6 (Waits p d) a (touch3 l a (find p d m.progress (ap spe_in h) m.has m.live) (or_left _ _ (ap (is_of p d) h ∙ of)) (inl (or_left _ _ (ap (reads_of p d) h ∙ of), z)))
-  waits_from p d a kept (Itself (inr (inr h)) z) =
+  waits_from p d a kept (Itself (inr (inr (inl h))) z) =
       let k : acks p h.progress e.step e.effect.note ≡ true = acks_from p h.progress e.step e.effect.note h.is h.stalled h.notes in
       let l : Live = record { spe = p; cmd = d; progress = h.progress } in
-      up6 (Waits p d) a (touch3 l a (find p d h.progress (ap spe_in h.is) h.has (kept h.progress h.has)) (or_right (is_of p d e.step) _ k) (inl (or_right (reads_of p d e.step) _ k, z)))
+      up6 (Waits p d) a (touch3 l a (find p d h.progress (ap spe_in h.is) h.has (kept h.progress h.has)) (or_right (is_of p d e.step) _ k) (inl (or_right (reads_of p d e.step) _ (or_left _ _ k), z)))
+  waits_from p d a kept (Itself (inr (inr (inr h))) z) =
+      let m : MayStep trace p d e.step e.effect.note = may.step p d h.is in
+      let l : Live = record { spe = p; cmd = d; progress = m.progress } in
+      let own : moves_own_line l e.step ≡ true = line_own trace queued_before e p d m.progress m.has h.is h.moves in
+      up6 (Waits p d) a (touch3 l a (find p d m.progress (of_spe p d e.step h.is) m.has m.live) (or_left _ _ h.is) (inl (or_right (reads_of p d e.step) _ (or_right (acks p m.progress e.step e.effect.note) _ own), z)))
   waits_from p d a kept (AtIssue command class h g y) =
       up6 (Waits p d) a (up_issue n trace e known lives sets into lists final passed p d command class a h g (up0 n trace e known lives sets into lists final passed (Complete p class) a y))
   waits_from p d a kept (FromEarlier c t x b y) = by (came trace e p d b.second b.second_is)

@@ -8,7 +8,8 @@ use Rattle.cell_machine.specs.declared.effect.Place.TheVariants.{Memory, Local}
 use Rattle.cell_machine.specs.declared.effect.Span.{Span}
 use Rattle.cell_machine.specs.declared.effect.Note.{Note}
 use Rattle.cell_machine.specs.declared.effect.Note.TheVariants.{AtomicIssue, Put, Take, Ended}
-use Rattle.race_order.specs.Trace.{Event, Trace, IsLine, is_put, is_take}
+use Rattle.race_order.specs.Trace.{Event, Trace, is_put, is_take}
+use Rattle.race_order.specs.Lines.{IsLine, moves_line}
 use Rattle.race_order.specs.declared.roles.Role.{Role}
 use Rattle.race_order.specs.declared.roles.Role.TheVariants.{OfExec, OfHost, OfSlot, OfAtomic, OfLine, OfBox, OfEnd}
 use Rattle.race_order.specs.Roles.{Joins, write_roles, step_writes, note_writes, line_roles, line_of, line_in, slot_of, end_of, put_role, take_role}
@@ -48,36 +49,36 @@ module _ (before : Trace) (e : Event) where
   on_line Memory false a on = tt
   on_line (Local p) b a on = tt
 
-  by_lines : (s : Step) → e.step ≡ s → Every In (line_roles s e.effect)
-  by_lines (Atomic p) q =
+  by_lines : (b : Bool) → moves_line before e.step ≡ b → Every In (line_roles b e.effect)
+  by_lines true q =
       every_both In (line_of e.effect.reads) (line_of e.effect.writes)
-      (on_line e.effect.reads.place (e.effect.reads.len == 128) e.effect.reads.at (λ x b. ((p, q), inl record { memory = x; begins = refl; long = eqb-true _ _ b })))
-      (on_line e.effect.writes.place (e.effect.writes.len == 128) e.effect.writes.at (λ x b. ((p, q), inr record { memory = x; begins = refl; long = eqb-true _ _ b })))
-  by_lines _ q = tt
+      (on_line e.effect.reads.place (e.effect.reads.len == 128) e.effect.reads.at (λ x b. (q, inl record { memory = x; begins = refl; long = eqb-true _ _ b })))
+      (on_line e.effect.writes.place (e.effect.writes.len == 128) e.effect.writes.at (λ x b. (q, inr record { memory = x; begins = refl; long = eqb-true _ _ b })))
+  by_lines false q = tt
 
   pub joins_sound : Every In (write_roles before e)
   joins_sound =
-      every_both In (step_writes e.step) (note_writes before e.step e.effect.note ++ line_roles e.step e.effect)
+      every_both In (step_writes e.step) (note_writes before e.step e.effect.note ++ line_roles (moves_line before e.step) e.effect)
       (by_step e.step refl)
-      (every_both In (note_writes before e.step e.effect.note) (line_roles e.step e.effect) (by_note e.step e.effect.note refl refl) (by_lines e.step refl))
+      (every_both In (note_writes before e.step e.effect.note) (line_roles (moves_line before e.step) e.effect) (by_note e.step e.effect.note refl refl) (by_lines (moves_line before e.step) refl))
 
   module _ (r : Role) where
     abbrev Is : Role → Type 0
     Is w = w ≡ r
 
     in_steps : (s : Step) → e.step ≡ s → Among Is (step_writes s) → Among Is (write_roles before e)
-    in_steps s q h = among_left Is (step_writes e.step) (note_writes before e.step e.effect.note ++ line_roles e.step e.effect) (subst (λ x. Among Is (step_writes x)) (sym q) h)
+    in_steps s q h = among_left Is (step_writes e.step) (note_writes before e.step e.effect.note ++ line_roles (moves_line before e.step) e.effect) (subst (λ x. Among Is (step_writes x)) (sym q) h)
 
     in_notes : (s : Step) (t : Note) → e.step ≡ s → e.effect.note ≡ t → Among Is (note_writes before s t) → Among Is (write_roles before e)
     in_notes s t q u h =
-        among_right Is (step_writes e.step) (note_writes before e.step e.effect.note ++ line_roles e.step e.effect)
-        (among_left Is (note_writes before e.step e.effect.note) (line_roles e.step e.effect)
+        among_right Is (step_writes e.step) (note_writes before e.step e.effect.note ++ line_roles (moves_line before e.step) e.effect)
+        (among_left Is (note_writes before e.step e.effect.note) (line_roles (moves_line before e.step) e.effect)
         (subst (λ x. Among Is (note_writes before x e.effect.note)) (sym q) (subst (λ y. Among Is (note_writes before s y)) (sym u) h)))
 
-    in_lines : (s : Step) → e.step ≡ s → Among Is (line_roles s e.effect) → Among Is (write_roles before e)
-    in_lines s q h =
-        among_right Is (step_writes e.step) (note_writes before e.step e.effect.note ++ line_roles e.step e.effect)
-        (among_right Is (note_writes before e.step e.effect.note) (line_roles e.step e.effect) (subst (λ x. Among Is (line_roles x e.effect)) (sym q) h))
+    in_lines : (b : Bool) → moves_line before e.step ≡ b → Among Is (line_roles b e.effect) → Among Is (write_roles before e)
+    in_lines b q h =
+        among_right Is (step_writes e.step) (note_writes before e.step e.effect.note ++ line_roles (moves_line before e.step) e.effect)
+        (among_right Is (note_writes before e.step e.effect.note) (line_roles (moves_line before e.step) e.effect) (subst (λ x. Among Is (line_roles x e.effect)) (sym q) h))
 
     put_note : (q m : ℕ) (s : Step) (t : Note) → is_put q m t ≡ true → put_role q m before ≡ r → Among Is (note_writes before s t)
     put_note q m s (Put x y) of h = let a = and_parts _ _ of in inl (subst₂ (λ v w. Is (put_role v w before)) (sym (eqb-true x q a.0)) (sym (eqb-true y m a.1)) h)
@@ -100,7 +101,7 @@ module _ (before : Trace) (e : Event) where
   joins_full OfHost h = in_steps OfHost Host h (inl refl)
   joins_full (OfSlot p) h = in_notes (OfSlot p) (Exec p) AtomicIssue h.0 h.1 (inl refl)
   joins_full (OfAtomic p) h = in_steps (OfAtomic p) (Atomic p) h (inl refl)
-  joins_full (OfLine a) h = in_lines (OfLine a) (Atomic h.0.0) h.0.1 (at h.1)
+  joins_full (OfLine a) h = in_lines (OfLine a) true h.0 (at h.1)
     where
       at : IsLine e.effect.reads a ⊎ IsLine e.effect.writes a → Among (λ w. w ≡ OfLine a) (line_of e.effect.reads ++ line_of e.effect.writes)
       at (inl x) = among_left (λ w. w ≡ OfLine a) (line_of e.effect.reads) (line_of e.effect.writes) (line_at (OfLine a) e.effect.reads a x refl)

@@ -1,7 +1,7 @@
 -- After a step the set of what a command's steps wait for is again the past of its sources.
 use Rattle.std.proofs.Common.{◌≡◌, ℕ, zero, suc, ◌+◌, ◌*◌, ◌<◌, ◌≤◌, ◌==◌, Bool, true, false, [], ◌∷◌, ◌++◌, length, take, Option, Some, None, ◌⊎◌, inl, inr, refl, sym, ap, ap₂, ◌∙◌, subst, subst₂, arith}
 use Rattle.std.specs.Prelude.{slice_get, if◌then◌else◌}
-use Rattle.std.proofs.lemmas.Bool.{cases_lt, eqb-true, eq-eqb, and_from, and_parts}
+use Rattle.std.proofs.lemmas.Bool.{cases_lt, both_ways, eqb-true, eq-eqb, and_from, and_parts}
 use Rattle.std.proofs.lemmas.List.{take_all}
 use Rattle.std.proofs.lemmas.Option.{slice_get_within}
 use Rattle.order_sets.specs.declared.facts.At.{At}
@@ -20,14 +20,14 @@ use Rattle.race_order.specs.Rules.{Edge, Ordered, One, Then}
 use Rattle.race_order.specs.StatusRules.{Rule}
 use Rattle.race_order.specs.declared.roles.Role.{Role}
 use Rattle.race_order.specs.Stamps.{stamp, IsStamp, chain_of, cmd_of, elem_of}
-use Rattle.race_order.specs.Roles.{Source, read_roles}
+use Rattle.race_order.specs.Roles.{Source, read_roles, step_reads, note_reads, line_roles}
 use Rattle.race_order.specs.Orderly.{IsOrderly, IsWithin}
 use Rattle.race_order.specs.Pasts.{Past, Holds}
 use Rattle.race_order.proofs.Places.{get_last, get_later, longer, take_front, take_before, place_of, same_get}
 use Rattle.race_order.proofs.Among.{Among, Every, Found, among_every}
 use Rattle.race_order.proofs.Holding.{holds_later, past_of}
 use Rattle.race_order.proofs.Advance.{point}
-use Rattle.race_order.proofs.Histories.{status_next, same_progress, Later, later_next, issued_there, Came, Newly, Kept, Moved, came}
+use Rattle.race_order.proofs.Histories.{status_next, same_progress, Later, later_at, later_next, issued_there, Came, Newly, Kept, Moved, came}
 use Rattle.race_order.proofs.Elements.{may_at}
 use Rattle.race_order.proofs.Queues.{of_here, resumes_here, resumes_there, no_step_after, no_resume_after, queue_full}
 use Rattle.race_order.proofs.PastLaws.{past_grows, chain_queue}
@@ -40,6 +40,8 @@ use Rattle.race_order.specs.declared.roles.Class.TheVariants.{All, Tag, BarredTa
 use Rattle.race_order.specs.declared.roles.QueueRole.{QueueRole}
 use Rattle.race_order.specs.declared.roles.QueueRole.TheVariants.{Base, Waits, Complete, Fixed, Stalled}
 use Rattle.race_order.specs.Sources.{is_in, QueueSource, WaitSource, Begun, Earlier, Acked, Read, Part, Whole, IsComplete, CompleteSource, IsPartOf, IsOwn, IsKept}
+use Rattle.race_order.specs.Lines.{moves_line}
+use Rattle.race_order.proofs.WholeLines.{IsDone, line_done}
 use Rattle.race_order.proofs.Sees.{LooksAt}
 use Rattle.race_order.proofs.Nexts.{Completes, IssuesNow, GoesInto, GoesAhead, OfAll, OfTag, OfBarred, OfBarriers, after, WaitsNext, Stays, Itself, AtIssue, FromEarlier, Own, AreNext}
 
@@ -80,26 +82,24 @@ of_one p d q c (Piece x y z k) e f = let a = and_parts (x == p) (y == d) e in le
 of_one p d q c (Elem x y) e f = let a = and_parts (x == p) (y == d) e in let b = and_parts (x == q) (y == c) f in (sym (eqb-true x q b.0) ∙ eqb-true x p a.0, sym (eqb-true y c b.1) ∙ eqb-true y d a.1)
 of_one p d q c (Retire x y) e f = let a = and_parts (x == p) (y == d) e in let b = and_parts (x == q) (y == c) f in (sym (eqb-true x q b.0) ∙ eqb-true x p a.0, sym (eqb-true y c b.1) ∙ eqb-true y d a.1)
 
--- a step of a queued command looks at no plain set
-quiet_reads : (before : Trace) (p d : ℕ) (e : Event) → is_of p d e.step ≡ true → IsQuiet e.effect.note → Every (λ (r : Role). ⊥) (read_roles before e)
-quiet_reads before p d e of quiet = by e.step e.effect.note refl refl
+-- a step of a queued command that moves no line whole looks at no plain set
+quiet_reads : (before : Trace) (p d : ℕ) (e : Event) → is_of p d e.step ≡ true → IsQuiet e.effect.note → moves_line before e.step ≡ false → Every (λ (r : Role). ⊥) (read_roles before e)
+quiet_reads before p d e of quiet moves =
+    subst (λ b. Every (λ (r : Role). ⊥) (step_reads e.step ++ (note_reads before e.step e.effect.note ++ line_roles b e.effect))) (sym moves) (at e.step e.effect.note of quiet)
   where
-    by : (s : Step) (t : Note) → e.step ≡ s → e.effect.note ≡ t → Every (λ (r : Role). ⊥) (read_roles before e)
-    by s t q u = subst (λ v. Every (λ (r : Role). ⊥) (read_roles before v)) (let f : record { step = s; effect = record e.effect { note = t } } ≡ e = ap₂ (λ x y. record { step = x; effect = record e.effect { note = y } }) (sym q) (sym u) in f) (at s t (subst (λ x. is_of p d x ≡ true) q of) (subst IsQuiet u quiet))
-      where
-        at : (s : Step) (t : Note) → is_of p d s ≡ true → IsQuiet t → Every (λ (r : Role). ⊥) (read_roles before record { step = s; effect = record e.effect { note = t } })
-        at (Exec x) t o z = cc
-        at (Atomic x) t o z = cc
-        at Host t o z = cc
-        at (Piece x y w k) (Put a b) o z = absurd z
-        at (Piece x y w k) (Take a b) o z = absurd z
-        at (Piece x y w k) _ o z = tt
-        at (Elem x y) (Put a b) o z = absurd z
-        at (Elem x y) (Take a b) o z = absurd z
-        at (Elem x y) _ o z = tt
-        at (Retire x y) (Put a b) o z = absurd z
-        at (Retire x y) (Take a b) o z = absurd z
-        at (Retire x y) _ o z = tt
+    at : (s : Step) (t : Note) → is_of p d s ≡ true → IsQuiet t → Every (λ (r : Role). ⊥) (step_reads s ++ (note_reads before s t ++ line_roles false e.effect))
+    at (Exec x) t o z = cc
+    at (Atomic x) t o z = cc
+    at Host t o z = cc
+    at (Piece x y w k) (Put a b) o z = absurd z
+    at (Piece x y w k) (Take a b) o z = absurd z
+    at (Piece x y w k) _ o z = tt
+    at (Elem x y) (Put a b) o z = absurd z
+    at (Elem x y) (Take a b) o z = absurd z
+    at (Elem x y) _ o z = tt
+    at (Retire x y) (Put a b) o z = absurd z
+    at (Retire x y) (Take a b) o z = absurd z
+    at (Retire x y) _ o z = tt
 
 -- an issue changes the progress of no other command
 pub stepped_issue : (p c q d : ℕ) (command : Command) (s : Progress) → stepped p c s (Exec q) (Issue d command) ≡ s
@@ -188,7 +188,12 @@ module _ (n : ℕ) (trace : Trace) (e : Event) (orderly : IsOrderly n (trace ++ 
   goes_source : (p d : ℕ) → GoesInto trace e p d → WaitSource T p d (length trace)
   goes_source p d (inl h) = Begun h.0 record { event = e; at = here; is = h.1.is; notes = h.1.notes }
   goes_source p d (inr (inl h)) = Read record { event = e; at = here; is = h }
-  goes_source p d (inr (inr h)) = Acked record { progress = h.progress; has = has_front p d h.progress h.has; stalled = h.stalled; acknowledges = record { event = e; at = here; is = h.is; notes = h.notes } }
+  goes_source p d (inr (inr (inl h))) = Acked record { progress = h.progress; has = has_front p d h.progress h.has; stalled = h.stalled; acknowledges = record { event = e; at = here; is = h.is; notes = h.notes } }
+  goes_source p d (inr (inr (inr h))) =
+      let st : IsStepOf T (length trace) p d = record { event = e; at = here; is = h.is } in
+      let x : IsDone (take (suc (length trace)) T) p d = line_done T queued p d (length trace) st (subst (λ t. moves_line t e.step ≡ true) (sym front) h.moves) in
+      let whole : take (suc (length trace)) T ≡ T = take_all (suc (length trace)) T (let l : length T ≡ length trace + 1 = long in omega arith) in
+      Whole x.progress record { has = subst (λ t. Has t p d x.progress) whole x.has; done = x.done } st
 
   number_of : (p d : ℕ) (command : Command) → IssuesNow e p d command → IsNext trace p d
   number_of p d command h = (may.issue p d command h.is h.notes).0
@@ -274,9 +279,9 @@ module _ (n : ℕ) (trace : Trace) (e : Event) (orderly : IsOrderly n (trace ++ 
     from_step : (k : ℕ) → k ≡ length trace → GoesInto trace e p d → Below k
     from_step k q g i a st o = Itself g (pointed.full i a st record { source = k; is = q; ordered = o })
 
-    -- what comes directly before a step of d
-    direct : (k x : ℕ) → IsStepOf T k p d → Edge Rule T x k → WaitSource T p d x
-    direct k x h d' = by found
+    -- what comes directly before a step of d that moves no line whole
+    direct : (k x : ℕ) (h : IsStepOf T k p d) → moves_line (take k T) h.event.step ≡ false → Edge Rule T x k → WaitSource T p d x
+    direct k x h moves d' = by found
       where
         found : Found (LooksAt (take k T) h.event) (λ r. QueueSource (take k T) r x)
         found = queue_full T queued n orderly k h.event h.at x d'.below d'.rule
@@ -295,7 +300,7 @@ module _ (n : ℕ) (trace : Trace) (e : Event) (orderly : IsOrderly n (trace ++ 
 
         begin : (r : Role) → Among (λ w. w ≡ r) (read_roles (take k T) h.event) → Source (take k T) r x → WaitSource T p d x
         begin r looks s =
-            let f : Found (λ w. w ≡ r) (λ (w : Role). ⊥) = among_every (λ w. w ≡ r) (λ (w : Role). ⊥) (read_roles (take k T) h.event) looks (quiet_reads (take k T) p d h.event h.is m.quiet) in
+            let f : Found (λ w. w ≡ r) (λ (w : Role). ⊥) = among_every (λ w. w ≡ r) (λ (w : Role). ⊥) (read_roles (take k T) h.event) looks (quiet_reads (take k T) p d h.event h.is m.quiet moves) in
             absurd f.second
 
         by_role : (r : QueueRole) → LooksAt (take k T) h.event r → QueueSource (take k T) r x → WaitSource T p d x
@@ -310,9 +315,9 @@ module _ (n : ℕ) (trace : Trace) (e : Event) (orderly : IsOrderly n (trace ++ 
         by : Found (LooksAt (take k T) h.event) (λ r. QueueSource (take k T) r x) → WaitSource T p d x
         by f = by_role f.one f.first f.second
 
-    own_at : (k : ℕ) (h : IsStepOf T k p d) (s : Progress) → Has T p d s → (s.done ≡ true) ⊎ (elem_of h.event.step h.event.effect.note < elements_done s)
-        → ((x : ℕ) → x < k → WaitSource T p d x → Below x) → Below k
-    own_at k h s has over rest i a st (inl same) =
+    own_plain : (k : ℕ) (h : IsStepOf T k p d) (s : Progress) → Has T p d s → (s.done ≡ true) ⊎ (elem_of h.event.step h.event.effect.note < elements_done s)
+        → ((x : ℕ) → x < k → WaitSource T p d x → Below x) → moves_line (take k T) h.event.step ≡ false → Below k
+    own_plain k h s has over rest moves i a st (inl same) =
         let q : st.event ≡ h.event = same_get (slice_get T k) st.event h.event (subst (λ x. slice_get T x ≡ Some st.event) same st.at) h.at in
         let w : a ≡ stamp n i h.event = subst (λ v. a ≡ stamp n i v) q st.is in
         let c = of_chain n p d h.event.step h.is in
@@ -328,8 +333,35 @@ module _ (n : ℕ) (trace : Trace) (e : Event) (orderly : IsOrderly n (trace ++ 
         by : (s.done ≡ true) ⊎ (elem_of h.event.step h.event.effect.note < elements_done s) → a.elem ≡ elem_of h.event.step h.event.effect.note → (s.done ≡ true) ⊎ (a.elem < elements_done s)
         by (inl x) f = inl x
         by (inr x) f = inr (omega arith)
-    own_at k h s has over rest i a st (inr (One d')) = rest i d'.below (direct k i h d') i a st (inl refl)
-    own_at k h s has over rest i a st (inr (Then {k = x} o d')) = rest x d'.below (direct k x h d') i a st (inr o)
+    own_plain k h s has over rest moves i a st (inr (One d')) = rest i d'.below (direct k i h moves d') i a st (inl refl)
+    own_plain k h s has over rest moves i a st (inr (Then {k = x} o d')) = rest x d'.below (direct k x h moves d') i a st (inr o)
+
+    -- the step that moves the line of d completes it, so that it is the last one
+    own_line : (k : ℕ) (h : IsStepOf T k p d) → moves_line (take k T) h.event.step ≡ true → Below k
+    own_line k h moves = by (place_of trace e k h.event h.at)
+      where
+        by : ((k < length trace) × (slice_get trace k ≡ Some h.event)) ⊎ ((k ≡ length trace) × (e ≡ h.event)) → Below k
+        by (inl q) =
+            let low : k < length trace = q.0 in
+            let x : IsDone (take (suc k) T) p d = line_done T queued p d k h moves in
+            let l : Later (take (length trace) T) p d x.progress = later_at T p d (suc k) (length trace) x.progress (omega arith) (let n : length T ≡ length trace + 1 = long in omega arith) x.has in
+            absurd (both_ways _ (live_d l.progress (subst (λ t. Has t p d l.progress) front l.has)) (ap (λ (v : Progress). v.done) (l.frozen x.done) ∙ x.done))
+        by (inr q) =
+            from_step k q.0
+            (inr
+            (inr
+            (inr record {
+              is = subst (λ (v : Event). is_of p d v.step ≡ true) (sym q.1) h.is;
+              moves = subst₂ (λ t (v : Event). moves_line t v.step ≡ true) (subst (λ x. take x T ≡ trace) (sym q.0) front) (sym q.1) moves;
+            })))
+
+    own_at : (k : ℕ) (h : IsStepOf T k p d) (s : Progress) → Has T p d s → (s.done ≡ true) ⊎ (elem_of h.event.step h.event.effect.note < elements_done s)
+        → ((x : ℕ) → x < k → WaitSource T p d x → Below x) → Below k
+    own_at k h s has over rest = by (moves_line (take k T) h.event.step) refl
+      where
+        by : (b : Bool) → moves_line (take k T) h.event.step ≡ b → Below k
+        by true q = own_line k h q
+        by false q = own_plain k h s has over rest q
 
     -- an earlier command that was complete before a command that was issued before
     earlier_old : (k c : ℕ) (b : Before T p c d) (s t : Progress) → Has trace p c s → s.done ≡ true → s.command ≡ b.first.command → Has trace p d t → t.command ≡ b.second.command → IsPartOf T k p c → Below k
@@ -397,13 +429,14 @@ module _ (n : ℕ) (trace : Trace) (e : Event) (orderly : IsOrderly n (trace ++ 
         by (inr q) =
             from_step k q.0
             (inr
-            (inr record {
+            (inr
+            (inl record {
               progress = r.progress;
               has = subst (λ t. Has t p d r.progress) front (subst (λ x. Has (take x T) p d r.progress) q.0 r.has);
               stalled = r.stalled;
               is = subst (λ (v : Event). v.step ≡ Exec p) (sym q.1) r.acknowledges.is;
               notes = subst (λ (v : Event). v.effect.note ≡ Ack r.progress.command.tag) (sym q.1) r.acknowledges.notes;
-            }))
+            })))
     wait_step k rest (Read h) = by (place_of trace e k h.event h.at)
       where
         by : ((k < length trace) × (slice_get trace k ≡ Some h.event)) ⊎ ((k ≡ length trace) × (e ≡ h.event)) → Below k

@@ -18,6 +18,7 @@ pub mod Elements
 pub mod Changes
 pub mod Tallies
 pub mod CountedRules
+pub mod WholeLines
 pub mod Queues
 pub mod PastLaws
 pub mod Answering

@@ -12,7 +12,8 @@ use Rattle.cell_machine.specs.declared.effect.Span.{Span}
 use Rattle.cell_machine.specs.declared.effect.Note.{Note}
 use Rattle.cell_machine.specs.declared.effect.Note.TheVariants.{Issue, AtomicIssue, AtomicRead, Put, Take, Ended, Awaited}
 use Rattle.mfc_command.specs.declared.command.Command.{Command}
-use Rattle.race_order.specs.Trace.{Event, Trace, IsStep, Notes, IssuesAt, IsStepOf, OnLine, IsLine, is_put, is_take, puts, takes, mailbox_size}
+use Rattle.race_order.specs.Trace.{Event, Trace, IsStep, Notes, IssuesAt, IsStepOf, is_put, is_take, puts, takes, mailbox_size}
+use Rattle.race_order.specs.Lines.{OnLine, IsLine, moves_line}
 use Rattle.race_order.specs.Rules.{Plain, Program, Script, Issued, AtomicIssued, NextAtomic, AtomicSeen, Line, Passed, PlaceFree, Finished, Edge, Ordered, One, Then}
 use Rattle.race_order.specs.declared.roles.Role.{Role}
 use Rattle.race_order.specs.declared.roles.Role.TheVariants.{OfLine, OfBox, OfEnd}
@@ -180,25 +181,28 @@ module _ (Rule : Trace → ℕ → ℕ → Type 0) (plain : (t : Trace) (i j : �
 
       on_line : (x : Place) (b : Bool) (a : ℕ) → (x ≡ Memory → b ≡ true → OnLine (take (j + 1) trace) j a) → Every Earlier (line_in x b a)
       on_line Memory true a on =
-          (λ i low h. One (edge_by i low (Line a record { event = h.event; at = get_take trace (j + 1) i (omega arith) ∙ h.at; spe = h.joins.0.0; is = h.joins.0.1; line = h.joins.1 } (on refl refl))), tt)
+          (λ i low h. One (edge_by i low (Line a record { event = h.event; at = get_take trace (j + 1) i (omega arith) ∙ h.at; moves = subst (λ t. moves_line t h.event.step ≡ true) (sym (take-take i (j + 1) trace (omega arith))) h.joins.0; line = h.joins.1 } (on refl refl))), tt)
       on_line Memory false a on = tt
       on_line (Local p) b a on = tt
 
-      by_lines : (s : Step) → e.step ≡ s → Every Earlier (line_roles s e.effect)
-      by_lines (Atomic p) q =
+      moves_now : moves_line (take j trace) e.step ≡ true → moves_line (take j (take (j + 1) trace)) e.step ≡ true
+      moves_now q = subst (λ t. moves_line t e.step ≡ true) (sym (take-take j (j + 1) trace (omega arith))) q
+
+      by_lines : (b : Bool) → moves_line (take j trace) e.step ≡ b → Every Earlier (line_roles b e.effect)
+      by_lines true q =
           every_both Earlier (line_of e.effect.reads) (line_of e.effect.writes)
           (on_line e.effect.reads.place (e.effect.reads.len == 128) e.effect.reads.at
-          (λ x b. record { event = e; at = now; spe = p; is = q; line = inl record { memory = x; begins = refl; long = eqb-true _ _ b } }))
+          (λ x b. record { event = e; at = now; moves = moves_now q; line = inl record { memory = x; begins = refl; long = eqb-true _ _ b } }))
           (on_line e.effect.writes.place (e.effect.writes.len == 128) e.effect.writes.at
-          (λ x b. record { event = e; at = now; spe = p; is = q; line = inr record { memory = x; begins = refl; long = eqb-true _ _ b } }))
-      by_lines _ q = tt
+          (λ x b. record { event = e; at = now; moves = moves_now q; line = inr record { memory = x; begins = refl; long = eqb-true _ _ b } }))
+      by_lines false q = tt
 
       -- what the sets hold comes before
       pub looks_sound : Every Earlier (read_roles (take j trace) e)
       looks_sound =
-          every_both Earlier (step_reads e.step) (note_reads (take j trace) e.step e.effect.note ++ line_roles e.step e.effect)
+          every_both Earlier (step_reads e.step) (note_reads (take j trace) e.step e.effect.note ++ line_roles (moves_line (take j trace) e.step) e.effect)
           (by_step e.step refl)
-          (every_both Earlier (note_reads (take j trace) e.step e.effect.note) (line_roles e.step e.effect) (by_note e.step e.effect.note refl refl) (by_lines e.step refl))
+          (every_both Earlier (note_reads (take j trace) e.step e.effect.note) (line_roles (moves_line (take j trace) e.step) e.effect) (by_note e.step e.effect.note refl refl) (by_lines (moves_line (take j trace) e.step) refl))
 
       module _ (i : ℕ) (low : i < j) where
         abbrev Has : Role → Type 0
@@ -208,18 +212,18 @@ module _ (Rule : Trace → ℕ → ℕ → Type 0) (plain : (t : Trace) (i j : �
         same f at = same_get (slice_get (take (j + 1) trace) j) e f now at
 
         in_steps : (s : Step) → e.step ≡ s → Among Has (step_reads s) → Among Has (read_roles (take j trace) e)
-        in_steps s q h = among_left Has (step_reads e.step) (note_reads (take j trace) e.step e.effect.note ++ line_roles e.step e.effect) (subst (λ x. Among Has (step_reads x)) (sym q) h)
+        in_steps s q h = among_left Has (step_reads e.step) (note_reads (take j trace) e.step e.effect.note ++ line_roles (moves_line (take j trace) e.step) e.effect) (subst (λ x. Among Has (step_reads x)) (sym q) h)
 
         in_notes : (s : Step) (t : Note) → e.step ≡ s → e.effect.note ≡ t → Among Has (note_reads (take j trace) s t) → Among Has (read_roles (take j trace) e)
         in_notes s t q u h =
-            among_right Has (step_reads e.step) (note_reads (take j trace) e.step e.effect.note ++ line_roles e.step e.effect)
-            (among_left Has (note_reads (take j trace) e.step e.effect.note) (line_roles e.step e.effect)
+            among_right Has (step_reads e.step) (note_reads (take j trace) e.step e.effect.note ++ line_roles (moves_line (take j trace) e.step) e.effect)
+            (among_left Has (note_reads (take j trace) e.step e.effect.note) (line_roles (moves_line (take j trace) e.step) e.effect)
             (subst (λ x. Among Has (note_reads (take j trace) x e.effect.note)) (sym q) (subst (λ y. Among Has (note_reads (take j trace) s y)) (sym u) h)))
 
-        in_lines : (s : Step) → e.step ≡ s → Among Has (line_roles s e.effect) → Among Has (read_roles (take j trace) e)
-        in_lines s q h =
-            among_right Has (step_reads e.step) (note_reads (take j trace) e.step e.effect.note ++ line_roles e.step e.effect)
-            (among_right Has (note_reads (take j trace) e.step e.effect.note) (line_roles e.step e.effect) (subst (λ x. Among Has (line_roles x e.effect)) (sym q) h))
+        in_lines : (b : Bool) → moves_line (take j trace) e.step ≡ b → Among Has (line_roles b e.effect) → Among Has (read_roles (take j trace) e)
+        in_lines b q h =
+            among_right Has (step_reads e.step) (note_reads (take j trace) e.step e.effect.note ++ line_roles (moves_line (take j trace) e.step) e.effect)
+            (among_right Has (note_reads (take j trace) e.step e.effect.note) (line_roles (moves_line (take j trace) e.step) e.effect) (subst (λ x. Among Has (line_roles x e.effect)) (sym q) h))
 
         before_step : (f : Event) → slice_get (take (j + 1) trace) i ≡ Some f → slice_get trace i ≡ Some f
         before_step f at = sym (get_take trace (j + 1) i (omega arith)) ∙ at
@@ -262,10 +266,10 @@ module _ (Rule : Trace → ℕ → ℕ → Type 0) (plain : (t : Trace) (i j : �
             inl
             (in_notes (Exec p) AtomicRead (ap (λ f. f.step) (same b.event b.at) ∙ b.is) (ap (λ f. f.effect.note) (same b.event b.at) ∙ b.notes)
             (inl record { event = a.event; at = before_step a.event a.at; joins = a.is }))
-        looks_full (Line address a b) = inl (in_lines (Atomic b.spe) (ap (λ f. f.step) (same b.event b.at) ∙ b.is) (at b.line))
+        looks_full (Line address a b) = inl (in_lines true (subst₂ (λ t (f : Event). moves_line t f.step ≡ true) takes_here (sym (same b.event b.at)) b.moves) (at b.line))
           where
             from : Has (OfLine address)
-            from = record { event = a.event; at = before_step a.event a.at; joins = ((a.spe, a.is), a.line) }
+            from = record { event = a.event; at = before_step a.event a.at; joins = (subst (λ t. moves_line t a.event.step ≡ true) takes_of a.moves, a.line) }
 
             at : IsLine b.event.effect.reads address ⊎ IsLine b.event.effect.writes address → Among Has (line_of e.effect.reads ++ line_of e.effect.writes)
             at (inl h) = among_left Has (line_of e.effect.reads) (line_of e.effect.writes) (line_at e.effect.reads address (subst (λ f. IsLine f.effect.reads address) (sym (same b.event b.at)) h) from)

@@ -27,7 +27,7 @@ use Rattle.race_order.specs.Status.{begun as starts, is_transfer, first_status, 
 use Rattle.race_order.specs.Queue.{Has}
 use Rattle.race_order.specs.Stages.{progress_of}
 use Rattle.race_order.specs.Orderly.{IsNoted, MayCome}
-use Rattle.race_order.specs.Premises.{FitsProgress, IsNumbered, IsQuiet, IsNext, QueueMay}
+use Rattle.race_order.specs.Premises.{FitsProgress, IsNumbered, IsQuiet, IsNext, QueueMay, IsOnePiece}
 use Rattle.race_order.proofs.Moving.{IsFit, transfers, no-transfer, piece-shape, count-shape, retire-shape}
 use Rattle.race_order.proofs.Small.{get-there}
 use Rattle.race_order.proofs.Telling.{BoxStep, one_if}
@@ -237,6 +237,7 @@ earlier_done p d c before P y s keep whole may at low has goes =
 record IsIssued (m : Moves) (c : ℕ) (d : Command) : Type 0 where
   number : c ≡ length m.issued
   tag : d.tag < 32
+  piece : IsOnePiece d
 
 told_issue : (p c : ℕ) (d : Command) (s : Step) (note : Note) (m n : Moves) (gone : Bool) → s ≡ Exec p → note ≡ Issue c d → Works p s note m n gone → IsIssued m c d
 told_issue p c d s note m n gone is told works = on works
@@ -264,7 +265,7 @@ told_issue p c d s note m n gone is told works = on works
 
     on : Works p s note m n gone → IsIssued m c d
     on (rests same idle) = absurd (nothing (sym (ap (λ x. first_status p c x note) is ∙ ap (first_status p c (Exec p)) told ∙ ap (λ b. cond b (issued_as c (Issue c d)) None) (eq_same p) ∙ ap (λ b. cond b (Some (starts d)) None) (eq_same c)) ∙ idle.fresh c))
-    on (issues y was tells same fit low) = let e = same_issue (length m.issued) y (sym tells ∙ told) in record { number = sym e.0; tag = subst (λ (z : Command). z.tag < 32) e.1 low }
+    on (issues y was tells same fit low) = let e = same_issue (length m.issued) y (sym tells ∙ told) in record { number = sym e.0; tag = subst (λ (z : Command). z.tag < 32) e.1 low; piece = subst (λ z. IsOnePiece z) e.1 fit.one_piece }
     on (acks tag was tells same) = absurd (no_ack tag (sym tells ∙ told))
     on (copies b e k y was tells at has same) = other_step (Piece p b e k) was (no_piece b e k)
     on (reads b y x was tells at has number same) = other_step (Elem p b) was (no_elem b)
@@ -294,7 +295,7 @@ queue-may old new before s e keep came = record {
       let k = keep.each p P asks.1 in
       let to = came.each p P asks.1 in
       let issued = told_issue p c command s e.note P.moves to.0.moves (is_faulted to.0.status) is told to.2.works in
-      (subst (IsNext before p) (sym issued.number) (issued-next p before P k.status), issued.tag);
+      (subst (IsNext before p) (sym issued.number) (issued-next p before P k.status), issued.tag, issued.piece);
   tags = λ p groups issued is told.
       let asks = came.asks p (ap maker is) in
       let P = asks.0 in

@@ -7,7 +7,7 @@ use Rattle.std.proofs.lemmas.Bool.Decides.{nat_tests}
 use Rattle.std.proofs.lemmas.List.Folds.{list_any-append}
 use Rattle.mfc_command.specs.declared.command.Command.{Command}
 use Rattle.mfc_command.specs.declared.command.Kind.{Kind}
-use Rattle.mfc_command.specs.declared.command.Kind.TheVariants.{Put, Get, PutList, GetList, Barrier}
+use Rattle.mfc_command.specs.declared.command.Kind.TheVariants.{Put, Get, PutList, GetList, Barrier, PutQueued}
 use Rattle.mfc_command.specs.Check.{KindFits}
 use Rattle.mfc_command.specs.Order.{is_list, is_barrier}
 use Rattle.mfc_command.specs.Parts.{parts_of}
@@ -24,6 +24,8 @@ use Rattle.cell_machine.proofs.Staying.{both, not_true, all_last}
 use Rattle.cell_machine.proofs.Elements.{list-elements, present-last, part-is, element-is, is_stall_of, elements-done, elements-read, not_on, stall-is}
 use Rattle.cell_machine.proofs.ListSteps.{of-tag}
 use Rattle.race_order.specs.declared.progress.Progress.{Progress}
+use Rattle.race_order.specs.Lines.{is_queued_line}
+use Rattle.race_order.specs.Premises.{IsOnePiece}
 use Rattle.race_order.specs.Status.{is_transfer, is_last, finished, after_piece, with_element, after_element, after_ack, begun}
 use Rattle.race_order.specs.Stages.{parts_left, progress_of}
 use Rattle.race_order.proofs.Small.{and-off, and-false}
@@ -31,13 +33,17 @@ use Rattle.race_order.proofs.Shapes.{list-kind, suc-zero, one-less, all-left, fi
 
 -- ---- of plain numbers
 
--- a list has a multiple of 8 bytes, and not too many
+-- a list has a multiple of 8 bytes, and not too many; a PUTQLLUC is one piece
 pub record IsFit (d : Command) : Type 0 where
   pub whole_list : is_list d.kind ≡ true → d.size % 8 ≡ 0
   pub small_list : is_list d.kind ≡ true → d.size ≤ 16384
+  pub one_piece : IsOnePiece d
+
+one-part : (ea size : ℕ) → size ≡ 128 → ea % 128 ≡ 0 → parts_of ea size ≡ 1
+one-part ea size long begins = subst (λ x. parts_of ea x ≡ 1) (sym long) (let e : (ea + 128 - 1) / 128 - ea / 128 + 1 ≡ 1 = omega arith in e)
 
 pub fit-of : (lines : ℕ) (d : Command) → KindFits lines d d.kind → IsFit d
-fit-of lines d fits = record { whole_list = λ list. (on d.kind fits list).0; small_list = λ list. (on d.kind fits list).1 }
+fit-of lines d fits = record { whole_list = λ list. (on d.kind fits list).0; small_list = λ list. (on d.kind fits list).1; one_piece = λ line. one d.kind refl fits line }
   where
     on : (k : Kind) → KindFits lines d k → is_list k ≡ true → (d.size % 8 ≡ 0) × (d.size ≤ 16384)
     on Put f h = absurd (true≢false (sym h))
@@ -45,6 +51,15 @@ fit-of lines d fits = record { whole_list = λ list. (on d.kind fits list).0; sm
     on PutList f h = (f.whole, f.size)
     on GetList f h = (f.whole, f.size)
     on Barrier f h = absurd (true≢false (sym h))
+    on PutQueued f h = absurd (true≢false (sym h))
+
+    one : (k : Kind) → d.kind ≡ k → KindFits lines d k → is_queued_line k ≡ true → (is_transfer d ≡ true) × (parts_of d.ea d.size ≡ 1)
+    one PutQueued is f h = (ap (λ (x : Kind). not (is_barrier x) && not (is_list x) && not (d.size == 0)) is ∙ ap (λ x. not (x == 0)) f.size, one-part d.ea d.size f.size f.aligned)
+    one Put is f h = absurd (true≢false (sym h))
+    one Get is f h = absurd (true≢false (sym h))
+    one PutList is f h = absurd (true≢false (sym h))
+    one GetList is f h = absurd (true≢false (sym h))
+    one Barrier is f h = absurd (true≢false (sym h))
 
 pub transfers : (d : Command) → is_list d.kind ≡ false → is_moved d ≡ true → is_transfer d ≡ true
 transfers d list moved = ap (λ b. not (is_barrier d.kind) && not b && not (d.size == 0)) list ∙ on (not (is_barrier d.kind)) (not (d.size == 0)) moved

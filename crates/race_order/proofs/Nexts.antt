@@ -7,7 +7,8 @@ use Rattle.mfc_command.specs.declared.command.Kind.TheVariants.{Barrier}
 use Rattle.mfc_command.specs.declared.command.Mark.TheVariants.{Fenced, Barred}
 use Rattle.mfc_command.specs.declared.command.Command.{Command}
 use Rattle.cell_machine.specs.declared.effect.Note.TheVariants.{Issue, Ack}
-use Rattle.race_order.specs.Trace.{Event, Trace}
+use Rattle.race_order.specs.Trace.{Event, Trace, is_of}
+use Rattle.race_order.specs.Lines.{moves_line}
 use Rattle.race_order.specs.declared.progress.Progress.{Progress}
 use Rattle.race_order.specs.Queue.{Has, Before}
 use Rattle.race_order.specs.declared.roles.Role.{Role}
@@ -48,9 +49,14 @@ pub record AcksNow (trace : Trace) (e : Event) (p d : ℕ) : Type 0 where
   pub is : e.step ≡ Exec p
   pub notes : e.effect.note ≡ Ack progress.command.tag
 
--- the step goes itself into what waits for d: it issues d, reads an element of d or resumes d
+-- the step is the piece of d, which moves a line whole
+pub record MovesNow (trace : Trace) (e : Event) (p d : ℕ) : Type 0 where
+  pub is : is_of p d e.step ≡ true
+  pub moves : moves_line trace e.step ≡ true
+
+-- the step goes itself into what waits for d: it issues d, reads an element of d, resumes d or moves the line of d
 abbrev pub GoesInto : Trace → Event → ℕ → ℕ → Type 0
-GoesInto trace e p d = ((command : Command) × IssuesNow e p d command) ⊎ ((e.step ≡ Elem p d) ⊎ AcksNow trace e p d)
+GoesInto trace e p d = ((command : Command) × IssuesNow e p d command) ⊎ ((e.step ≡ Elem p d) ⊎ (AcksNow trace e p d ⊎ MovesNow trace e p d))
 
 -- every command of the class goes before d
 pub data GoesAhead (d : Command) : Class → Type 0 where

@@ -1,13 +1,14 @@
 -- An orderer stands for the longer run after a step.
-use Rattle.std.proofs.Common.{◌≡◌, ℕ, ◌+◌, ◌*◌, ◌-◌, ◌<◌, Bool, false, List, [], ◌∷◌, ◌++◌, map, length, take, get_or, Option, Some, None, ◌⊎◌, inl, inr, refl, sym, ap, ◌∙◌, subst, subst₂, ◌&&◌, ◌==◌, arith}
-use Rattle.std.proofs.lemmas.Bool.{cases_eq, and_parts, eqb-true, both_ways, false_from_ne_true}
+use Rattle.std.proofs.Common.{◌≡◌, ℕ, ◌+◌, ◌*◌, ◌-◌, ◌<◌, Bool, true, false, List, [], ◌∷◌, ◌++◌, map, length, take, get_or, Option, Some, None, ◌⊎◌, inl, inr, refl, sym, ap, ◌∙◌, subst, subst₂, ◌&&◌, ◌==◌, arith}
+use Rattle.std.proofs.lemmas.Bool.{cases_eq, and_from, and_parts, eq-eqb, eqb-true, both_ways, false_from_ne_true}
 use Rattle.std.specs.Prelude.{slice_get, filter, not, ◌≢◌, Vec}
 use Rattle.std.specs.declared.alloc.Global.{Global}
 use Rattle.cell_base.specs.declared.steps.Step.{Step}
+use Rattle.cell_base.specs.declared.steps.Step.TheVariants.{Exec, Piece, Elem, Retire, Atomic, Host}
 use Rattle.cell_machine.proofs.Same.{some_same}
 use Rattle.std.proofs.lemmas.Option.{get_or_from_slice_get}
 use Rattle.order_sets.specs.declared.facts.At.{At}
-use Rattle.race_order.specs.Trace.{Event, Trace}
+use Rattle.race_order.specs.Trace.{Event, Trace, is_of}
 use Rattle.race_order.specs.Stamps.{stamp, chain_of, IsStamp}
 use Rattle.race_order.proofs.Places.{get_there}
 use Rattle.race_order.proofs.Stands.{chain_low}
@@ -23,20 +24,22 @@ use Rattle.race_order.proofs.Advance.{Answers}
 use Rattle.race_order.specs.declared.lives.Live.{Live}
 use Rattle.race_order.specs.declared.roles.QueueRole.{QueueRole}
 use Rattle.race_order.specs.declared.roles.QueueRole.TheVariants.{Base, Waits, Complete, Fixed, Stalled}
-use Rattle.race_order.specs.Premises.{IsQueued, QueueMay}
+use Rattle.race_order.specs.Premises.{MayStep, IsQueued, QueueMay}
 use Rattle.race_order.proofs.Nexts.{AreNext, IssuesNow, after}
 use Rattle.race_order.proofs.Nexts as Next
 use Rattle.race_order.specs.Sources.{HaveOwn, IsKept, QueueSource}
-use Rattle.race_order.specs.Lives.{ShowsLives, lives_of, near, moved}
+use Rattle.race_order.specs.Lives.{ShowsLives, lives_of, near, moved, moves_own_line, moves_line_by}
 use Rattle.race_order.specs.Pasts.{IsPast, Holds}
 use Rattle.race_order.specs.Passes.{View, is_over, is_over_as}
 use Rattle.race_order.specs.Bringing.{AreKept, nexts}
 use Rattle.race_order.specs.Ordering.{issued_in, spe_in}
 use Rattle.race_order.specs.Ordering.{issued_in}
+use Rattle.race_order.specs.Lines.{moves_line}
+use Rattle.race_order.proofs.WholeLines.{own_line, line_own}
 use Rattle.race_order.proofs.Answering.{by_plain, made, IsKnown, answers}
 use Rattle.race_order.proofs.Composed.{passes_local}
 use Rattle.race_order.proofs.Locals.{local_next}
-use Rattle.race_order.proofs.Passed.{Picked, picked}
+use Rattle.race_order.proofs.Passed.{Picked, picked, pick}
 use Rattle.race_order.specs.Queue.{Has}
 use Rattle.race_order.proofs.Kept.{all_kept, kept_before}
 use Rattle.race_order.proofs.Listings.{into_list, are_lists, looked_list, is_known}
@@ -147,3 +150,38 @@ lives_stand o trace e st w may lists own others p low = by (spe_in e.step) refl
         which : (q ≡ p) ⊎ (q ≡ p → ⊥) → ShowsLives p (lives_of lists p) (trace ++ (e ∷ []))
         which (inl s) = this (h ∙ ap Some s)
         which (inr ne) = else (λ g. differs q ne (sym h ∙ g))
+
+both_or_none : (x y : Bool) → (x ≡ true → y ≡ true) → (y ≡ true → x ≡ true) → x ≡ y
+both_or_none true y f g = sym (f refl)
+both_or_none false true f g = g refl
+both_or_none false false f g = refl
+
+-- the outstanding commands tell whether the step moves a line whole
+pub moves_same : (trace : Trace) (e : Event) → IsQueued trace → QueueMay trace e → (lives : List Live) → ShowsNear (spe_in e.step) lives trace → moves_line_by lives e.step ≡ moves_line trace e.step
+moves_same trace e queued may lives shows = by e.step refl
+  where
+    piece : (p c x k : ℕ) → e.step ≡ Piece p c x k → moves_line_by lives e.step ≡ moves_line trace e.step
+    piece p c x k f = both_or_none _ _ to from
+      where
+        of : is_of p c e.step ≡ true
+        of = ap (is_of p c) f ∙ and_from _ _ (eq-eqb p p refl) (eq-eqb c c refl)
+
+        to : moves_line_by lives e.step ≡ true → moves_line trace e.step ≡ true
+        to t =
+            let y : Picked (λ l. moves_own_line l (Piece p c x k)) lives = picked (λ l. moves_own_line l (Piece p c x k)) lives (sym (ap (moves_line_by lives) f) ∙ t) in
+            (own_line trace queued e y.one (shows.sound y.place y.one y.at).1 (ap (moves_own_line y.one) f ∙ y.passes)).1
+
+        from : moves_line trace e.step ≡ true → moves_line_by lives e.step ≡ true
+        from t =
+            let m : MayStep trace p c e.step e.effect.note = may.step p c of in
+            let l : Live = record { spe = p; cmd = c; progress = m.progress } in
+            let g = shows.full p c m.progress (ap spe_in f) m.has m.live in
+            ap (moves_line_by lives) f ∙ pick (λ l. moves_own_line l (Piece p c x k)) lives g.0 l g.1 (sym (ap (moves_own_line l) f) ∙ line_own trace queued e p c m.progress m.has of t)
+
+    by : (s : Step) → e.step ≡ s → moves_line_by lives e.step ≡ moves_line trace e.step
+    by (Piece p c x k) f = piece p c x k f
+    by (Exec p) f = ap (moves_line_by lives) f ∙ sym (ap (moves_line trace) f)
+    by (Elem p c) f = ap (moves_line_by lives) f ∙ sym (ap (moves_line trace) f)
+    by (Retire p c) f = ap (moves_line_by lives) f ∙ sym (ap (moves_line trace) f)
+    by (Atomic p) f = ap (moves_line_by lives) f ∙ sym (ap (moves_line trace) f)
+    by Host f = ap (moves_line_by lives) f ∙ sym (ap (moves_line trace) f)

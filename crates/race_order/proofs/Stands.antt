@@ -8,6 +8,7 @@ use Rattle.cell_base.specs.declared.steps.Step.{Step}
 use Rattle.cell_machine.specs.declared.effect.Note.{Note}
 use Rattle.cell_machine.specs.declared.effect.Note.TheVariants.{AtomicIssue, AtomicRead, Put, Take, Ended, Awaited}
 use Rattle.race_order.specs.Trace.{Event, Trace, puts, takes, is_put, is_take, mailbox_size}
+use Rattle.race_order.specs.Lines.{moves_line}
 use Rattle.race_order.specs.declared.roles.Role.TheVariants.{OfBox}
 use Rattle.race_order.specs.declared.boxes.Boxes.{Boxes}
 use Rattle.cell_base.specs.declared.steps.Step.TheVariants.{Exec, Piece, Elem, Retire, Atomic, Host}
@@ -91,11 +92,11 @@ module _ (n : ℕ) (trace : Trace) (boxes : Boxes) (shows : Shows n boxes trace)
   writes_same s Ended w = refl
   writes_same s _ w = refl
 
-  pub read_same : (e : Event) → IsNoted n e.effect.note → read_roles_by boxes.puts.items boxes.takes.items e ≡ read_roles trace e
-  read_same e w = ap (λ l. step_reads e.step ++ (l ++ line_roles e.step e.effect)) (reads_same e.step e.effect.note w)
+  pub read_same : (e : Event) (whole : Bool) → whole ≡ moves_line trace e.step → IsNoted n e.effect.note → read_roles_by boxes.puts.items boxes.takes.items whole e ≡ read_roles trace e
+  read_same e whole is w = ap₂ (λ b l. step_reads e.step ++ (l ++ line_roles b e.effect)) is (reads_same e.step e.effect.note w)
 
-  pub write_same : (e : Event) → IsNoted n e.effect.note → write_roles_by boxes.puts.items boxes.takes.items e ≡ write_roles trace e
-  write_same e w = ap (λ l. step_writes e.step ++ (l ++ line_roles e.step e.effect)) (writes_same e.step e.effect.note w)
+  pub write_same : (e : Event) (whole : Bool) → whole ≡ moves_line trace e.step → IsNoted n e.effect.note → write_roles_by boxes.puts.items boxes.takes.items whole e ≡ write_roles trace e
+  write_same e whole is w = ap₂ (λ b l. step_writes e.step ++ (l ++ line_roles b e.effect)) is (writes_same e.step e.effect.note w)
 
   put_more : (note : Note) → IsNoted n note → (q m : ℕ) → q < n → m < 3 → slice_index (counts_after_put boxes.puts.items note) (3 * q + m) ≡ puts q m trace + cond (is_put q m note) 1 0
   put_more (Put x y) w q m a b = more_of boxes.puts.items x y q m n (puts q m trace) (put_size x y w.0 w.1) w.1 b (shows.put q m a b)

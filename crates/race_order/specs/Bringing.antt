@@ -1,5 +1,5 @@
 -- What a step brings into the sets, and what becomes of them.
-use Rattle.std.specs.Prelude.{◌≡◌, ℕ, ◌+◌, ◌*◌, ◌≤◌, ◌||◌, ◌++◌, Bool, false, List, map, length}
+use Rattle.std.specs.Prelude.{◌≡◌, ℕ, ◌+◌, ◌*◌, ◌≤◌, ◌||◌, ◌++◌, Bool, false, List, map}
 use Rattle.std.specs.List.{list_any}
 use Rattle.order_sets.specs.declared.facts.At.{At}
 use Rattle.order_sets.specs.Facts.{covers}
@@ -29,13 +29,13 @@ pub record IsOfChains (b : Brought) : Type 0 where
   pub known : b.known.now.chains ≡ 3 * b.spes + 1
   pub fact : FitsChains (3 * b.spes + 1) b.fact
 
--- the sets that a step looks at
-abbrev pub looked : Boxes → Step → Effect → List QueueRole
-looked boxes step effect = map Base (read_roles_by boxes.puts.items boxes.takes.items (event_of step effect)) ++ (own_waits step ++ seen_in step effect.note)
+-- the sets that a step looks at, by whether it moves a line whole
+abbrev pub looked : Boxes → Bool → Step → Effect → List QueueRole
+looked boxes whole step effect = map Base (read_roles_by boxes.puts.items boxes.takes.items whole (event_of step effect)) ++ (own_waits step ++ seen_in step effect.note)
 
 -- the sets that it goes into itself
 abbrev pub entered : Boxes → Brought → List QueueRole
-entered boxes b = map Base (write_roles_by boxes.puts.items boxes.takes.items (event_of b.step b.effect.now)) ++ self_roles (issued_in b.step b.effect.now.note)
+entered boxes b = map Base (write_roles_by boxes.puts.items boxes.takes.items b.whole (event_of b.step b.effect.now)) ++ self_roles (issued_in b.step b.effect.now.note)
 
 -- the outstanding commands after the step, and those that are complete by it
 abbrev pub nexts : Step → Effect → List Live → List Live

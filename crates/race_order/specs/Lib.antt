@@ -3,6 +3,7 @@ pub mod Status
 pub mod Commands
 pub mod Rules
 pub mod Queue
+pub mod Lines
 pub mod StatusRules
 pub mod Stamps
 pub mod Roles

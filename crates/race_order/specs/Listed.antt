@@ -1,5 +1,5 @@
--- The sets that a step looks at and goes into, from the counts of the mailboxes.
-use Rattle.std.specs.Prelude.{◌≡◌, ℕ, ◌+◌, ◌*◌, ◌%◌, List, [], ◌∷◌, ◌++◌, Option, Some, None, slice_index}
+-- The sets that a step looks at and goes into, from the counts of the mailboxes, and whether it moves a line whole.
+use Rattle.std.specs.Prelude.{◌≡◌, ℕ, Bool, ◌+◌, ◌*◌, ◌%◌, List, [], ◌∷◌, ◌++◌, Option, Some, None, slice_index}
 use Rattle.cell_base.specs.declared.steps.Step.{Step}
 use Rattle.cell_machine.specs.declared.effect.Note.{Note}
 use Rattle.cell_machine.specs.declared.effect.Note.TheVariants.{AtomicIssue, AtomicRead, Put, Take, Ended, Awaited}
@@ -33,8 +33,8 @@ note_writes_by puts takes step (Take q m) = box_of takes q m ∷ []
 note_writes_by puts takes step Ended = end_of step
 note_writes_by puts takes step _ = []
 
-abbrev pub read_roles_by : List ℕ → List ℕ → Event → List Role
-read_roles_by puts takes e = step_reads e.step ++ (note_reads_by puts takes e.step e.effect.note ++ line_roles e.step e.effect)
+abbrev pub read_roles_by : List ℕ → List ℕ → Bool → Event → List Role
+read_roles_by puts takes whole e = step_reads e.step ++ (note_reads_by puts takes e.step e.effect.note ++ line_roles whole e.effect)
 
-abbrev pub write_roles_by : List ℕ → List ℕ → Event → List Role
-write_roles_by puts takes e = step_writes e.step ++ (note_writes_by puts takes e.step e.effect.note ++ line_roles e.step e.effect)
+abbrev pub write_roles_by : List ℕ → List ℕ → Bool → Event → List Role
+write_roles_by puts takes whole e = step_writes e.step ++ (note_writes_by puts takes e.step e.effect.note ++ line_roles whole e.effect)

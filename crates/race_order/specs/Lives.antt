@@ -1,17 +1,19 @@
 -- The outstanding commands, and what a step does to their sets.
-use Rattle.std.specs.Prelude.{◌≡◌, ℕ, zero, suc, ◌+◌, ◌*◌, ◌<◌, ◌==◌, ◌&&◌, ◌||◌, Bool, false, List, [], ◌∷◌, Vec, Option, Some, None, slice_get, ◌^◌, All as Each}
+use Rattle.std.specs.List.{list_any}
+use Rattle.std.specs.Prelude.{◌≡◌, ℕ, zero, suc, ◌+◌, ◌*◌, ◌<◌, ◌==◌, ◌&&◌, ◌||◌, Bool, true, false, List, [], ◌∷◌, Vec, Option, Some, None, slice_get, ◌^◌, All as Each}
 use Rattle.std.specs.declared.alloc.Global.{Global}
 use Rattle.order_sets.specs.declared.facts.At.{At}
 use Rattle.order_sets.specs.declared.facts.Fact.TheVariants.{Whole, Elements}
 use Rattle.order_sets.specs.Facts.{covers}
 use Rattle.cell_base.specs.declared.steps.Step.{Step}
-use Rattle.cell_base.specs.declared.steps.Step.TheVariants.{Exec, Elem}
+use Rattle.cell_base.specs.declared.steps.Step.TheVariants.{Exec, Piece, Elem, Retire, Atomic, Host}
 use Rattle.cell_machine.specs.declared.effect.Note.{Note}
 use Rattle.cell_machine.specs.declared.effect.Note.TheVariants.{Ack}
 use Rattle.race_order.specs.declared.progress.Progress.{Progress}
 use Rattle.race_order.specs.Trace.{Trace, is_of}
 use Rattle.race_order.specs.Status.{stepped, is_by, elements_done}
 use Rattle.race_order.specs.Queue.{Has}
+use Rattle.race_order.specs.Lines.{is_queued_line}
 use Rattle.race_order.specs.declared.lives.Live.{Live}
 use Rattle.race_order.specs.declared.roles.QueueRole.{QueueRole}
 use Rattle.race_order.specs.declared.roles.QueueRole.TheVariants.{Waits}
@@ -29,9 +31,23 @@ abbrev pub reads_of : ℕ → ℕ → Step → Bool
 reads_of p c (Elem q d) = is_by p c q d
 reads_of p c _ = false
 
+-- the step is the piece of the command, a PUTQLLUC: it looks at the set of its line, which isn't kept for queues
+abbrev pub moves_own_line : Live → Step → Bool
+moves_own_line l (Piece q d e k) = is_by l.spe l.cmd q d && is_queued_line l.progress.command.kind
+moves_own_line l _ = false
+
 -- the step goes itself into what waits for the command
 abbrev pub goes_in : Live → Step → Note → Bool
-goes_in l step note = reads_of l.spe l.cmd step || acks l.spe l.progress step note
+goes_in l step note = reads_of l.spe l.cmd step || (acks l.spe l.progress step note || moves_own_line l step)
+
+-- whether a step moves a line whole, where these are the outstanding commands of its processor
+abbrev pub moves_line_by : List Live → Step → Bool
+moves_line_by lives (Atomic p) = true
+moves_line_by lives (Piece p c e k) = list_any (λ l. moves_own_line l (Piece p c e k)) lives
+moves_line_by lives (Exec p) = false
+moves_line_by lives (Elem p c) = false
+moves_line_by lives (Retire p c) = false
+moves_line_by lives Host = false
 
 abbrev pub is_touched : Live → Step → Note → Bool
 is_touched l step note = is_of l.spe l.cmd step || acks l.spe l.progress step note

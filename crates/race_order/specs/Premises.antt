@@ -4,12 +4,14 @@ use Rattle.cell_base.specs.declared.steps.Step.{Step}
 use Rattle.cell_base.specs.declared.steps.Step.TheVariants.{Exec, Piece, Elem, Retire, Atomic, Host}
 use Rattle.mfc_command.specs.declared.command.Command.{Command}
 use Rattle.mfc_command.specs.Order.{precedes}
+use Rattle.mfc_command.specs.Parts.{parts_of}
 use Rattle.cell_machine.specs.declared.effect.Note.{Note}
 use Rattle.cell_machine.specs.declared.effect.Note.TheVariants.{Issue, TagRead, Element, Put, Take}
 use Rattle.race_order.specs.Trace.{Event, Trace, is_of}
 use Rattle.race_order.specs.declared.progress.Progress.{Progress}
 use Rattle.race_order.specs.Status.{status, is_transfer}
 use Rattle.race_order.specs.Queue.{Has}
+use Rattle.race_order.specs.Lines.{is_queued_line}
 
 -- the note of the step that reads an element has its number; other numbers are below that of a faulty element
 abbrev pub IsNumbered : ℕ → Note → Type 0
@@ -40,6 +42,10 @@ pub record MayStep (before : Trace) (p d : ℕ) (step : Step) (note : Note) : Ty
   pub first : (c : ℕ) (s : Progress) → c < d → Has before p c s → precedes s.command progress.command ≡ true → s.done ≡ true
   pub fits : FitsProgress progress step note
   pub quiet : IsQuiet note
+
+-- a PUTQLLUC has one piece
+abbrev pub IsOnePiece : Command → Type 0
+IsOnePiece c = is_queued_line c.kind ≡ true → (is_transfer c ≡ true) × (parts_of c.ea c.size ≡ 1)
 
 -- the processor has issued the commands below c and no others
 pub record IsNext (before : Trace) (p c : ℕ) : Type 0 where
@@ -73,7 +79,7 @@ pub record IsStatus (before : Trace) (p groups issued : ℕ) : Type 0 where
 -- the step may come after these, as far as the queues are concerned: a step of a command, an issue, and a read of a tag status
 pub record QueueMay (before : Trace) (e : Event) : Type 0 where
   pub step : (p d : ℕ) → is_of p d e.step ≡ true → MayStep before p d e.step e.effect.note
-  pub issue : (p c : ℕ) (command : Command) → e.step ≡ Exec p → e.effect.note ≡ Issue c command → IsNext before p c × (command.tag < 32)
+  pub issue : (p c : ℕ) (command : Command) → e.step ≡ Exec p → e.effect.note ≡ Issue c command → IsNext before p c × (command.tag < 32) × IsOnePiece command
   pub tags : (p groups issued : ℕ) → e.step ≡ Exec p → e.effect.note ≡ TagRead groups issued → IsStatus before p groups issued
 
 -- each step may come after those before it

@@ -8,7 +8,8 @@ use Rattle.cell_machine.specs.declared.effect.Span.{Span}
 use Rattle.cell_machine.specs.declared.effect.Note.{Note}
 use Rattle.cell_machine.specs.declared.effect.Note.TheVariants.{AtomicIssue, AtomicRead, Put, Take, Ended, Awaited}
 use Rattle.cell_machine.specs.declared.effect.Effect.{Effect}
-use Rattle.race_order.specs.Trace.{Event, Trace, is_put, is_take, puts, takes, mailbox_size, IsLine}
+use Rattle.race_order.specs.Trace.{Event, Trace, is_put, is_take, puts, takes, mailbox_size}
+use Rattle.race_order.specs.Lines.{IsLine, moves_line}
 use Rattle.std.specs.List.{list_any}
 use Rattle.order_sets.specs.declared.facts.At.{At}
 use Rattle.order_sets.specs.declared.facts.Fact.{Fact}
@@ -26,9 +27,10 @@ line_in (Local p) some address = []
 abbrev pub line_of : Span → List Role
 line_of span = line_in span.place (span.len == 128) span.at
 
-abbrev pub line_roles : Step → Effect → List Role
-line_roles (Atomic p) e = line_of e.reads ++ line_of e.writes
-line_roles _ e = []
+-- by whether the step moves it whole
+abbrev pub line_roles : Bool → Effect → List Role
+line_roles true e = line_of e.reads ++ line_of e.writes
+line_roles false e = []
 
 abbrev pub put_role : ℕ → ℕ → Trace → Role
 put_role q m before = OfBox q m (puts q m before % mailbox_size m)
@@ -62,7 +64,7 @@ note_reads before step (Awaited p) = end_seen p step
 note_reads before step _ = []
 
 abbrev pub read_roles : Trace → Event → List Role
-read_roles before e = step_reads e.step ++ (note_reads before e.step e.effect.note ++ line_roles e.step e.effect)
+read_roles before e = step_reads e.step ++ (note_reads before e.step e.effect.note ++ line_roles (moves_line before e.step) e.effect)
 
 -- what a step goes into
 abbrev pub step_writes : Step → List Role
@@ -88,7 +90,7 @@ note_writes before step Ended = end_of step
 note_writes before step _ = []
 
 abbrev pub write_roles : Trace → Event → List Role
-write_roles before e = step_writes e.step ++ (note_writes before e.step e.effect.note ++ line_roles e.step e.effect)
+write_roles before e = step_writes e.step ++ (note_writes before e.step e.effect.note ++ line_roles (moves_line before e.step) e.effect)
 
 -- the same in words: the step goes into the set that is kept for the role
 abbrev pub Joins : Trace → Event → Role → Type 0
@@ -96,7 +98,7 @@ Joins before e (OfExec p) = e.step ≡ Exec p
 Joins before e OfHost = e.step ≡ Host
 Joins before e (OfSlot p) = (e.step ≡ Exec p) × (e.effect.note ≡ AtomicIssue)
 Joins before e (OfAtomic p) = e.step ≡ Atomic p
-Joins before e (OfLine a) = ((p : ℕ) × (e.step ≡ Atomic p)) × (IsLine e.effect.reads a ⊎ IsLine e.effect.writes a)
+Joins before e (OfLine a) = (moves_line before e.step ≡ true) × (IsLine e.effect.reads a ⊎ IsLine e.effect.writes a)
 Joins before e (OfBox q m r) = ((is_put q m e.effect.note ≡ true) × (puts q m before % mailbox_size m ≡ r)) ⊎ ((is_take q m e.effect.note ≡ true) × (takes q m before % mailbox_size m ≡ r))
 Joins before e (OfEnd p) = (e.effect.note ≡ Ended) × ((e.step ≡ Exec p) ⊎ ((c : ℕ) × (e.step ≡ Elem p c)))
 

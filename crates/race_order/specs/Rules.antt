@@ -4,7 +4,8 @@ use Rattle.cell_base.specs.declared.steps.Step.TheVariants.{Exec, Piece, Atomic,
 use Rattle.mfc_command.specs.declared.command.Command.{Command}
 use Rattle.cell_machine.specs.declared.effect.Note.TheVariants.{AtomicIssue, TagRead, StallRead, AtomicRead, Ended, Awaited}
 use Rattle.race_order.specs.Commands.{IsIssued, Before, ReadsElement, IsStepOfElement, IsFlagDone, Resumes}
-use Rattle.race_order.specs.Trace.{Trace, IsStep, Notes, IssuesAt, IsStepOf, PutsNth, TakesNth, mailbox_size, OnLine}
+use Rattle.race_order.specs.Trace.{Trace, IsStep, Notes, IssuesAt, IsStepOf, PutsNth, TakesNth, mailbox_size}
+use Rattle.race_order.specs.Lines.{OnLine}
 
 -- the step at i is ordered before the later one at j by a rule that looks at no queue
 pub data Plain (trace : Trace) (i j : ℕ) : Type 0 where
@@ -20,7 +21,7 @@ pub data Plain (trace : Trace) (i j : ℕ) : Type 0 where
   NextAtomic : (p : ℕ) → IsStep trace i (Atomic p) → Notes trace j (Exec p) AtomicIssue → Plain trace i j
   -- and before every later read of the atomic status
   AtomicSeen : (p : ℕ) → IsStep trace i (Atomic p) → Notes trace j (Exec p) AtomicRead → Plain trace i j
-  -- the atomic steps on a line of memory, in their order
+  -- the steps on a line of memory that move it whole, in their order
   Line : (address : ℕ) → OnLine trace i address → OnLine trace j address → Plain trace i j
   -- a value is put into a mailbox before it is taken
   Passed : (q m k : ℕ) → PutsNth trace i q m k → TakesNth trace j q m k → Plain trace i j

@@ -1,5 +1,5 @@
 -- What a table of sets has.
-use Rattle.std.specs.Prelude.{◌≡◌, ℕ, zero, suc, ◌+◌, ◌*◌, ◌/◌, ◌%◌, ◌<◌, ◌≤◌, ◌^◌, ◌==◌, ◌&&◌, Bool, true, false, ⊤, List, [], ◌∷◌, length, All as Each}
+use Rattle.std.specs.Prelude.{◌≡◌, ℕ, zero, suc, ◌+◌, ◌*◌, ◌/◌, ◌%◌, ◌<◌, ◌≤◌, ◌==◌, ◌&&◌, Bool, true, false, ⊤, List, [], ◌∷◌, All as Each}
 use Rattle.std.specs.List.{list_any}
 use Rattle.order_sets.specs.declared.facts.At.{At}
 use Rattle.order_sets.specs.declared.facts.Fact.{Fact}

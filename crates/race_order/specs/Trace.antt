@@ -1,10 +1,8 @@
 -- The steps of a run with their effects, by their places from 0. Mailboxes are numbered 0 inbound, 1 outbound, 2 interrupt.
-use Rattle.std.specs.Prelude.{◌≡◌, ℕ, ◌==◌, Bool, true, false, ◌&&◌, ◌⊎◌, List, Some, slice_get, count_by, take, if◌then◌else◌}
+use Rattle.std.specs.Prelude.{◌≡◌, ℕ, ◌==◌, Bool, true, false, ◌&&◌, List, Some, slice_get, count_by, take, if◌then◌else◌}
 use Rattle.cell_base.specs.declared.steps.Step.{Step}
 use Rattle.cell_base.specs.declared.steps.Step.TheVariants.{Exec, Piece, Elem, Retire, Atomic, Host}
 use Rattle.mfc_command.specs.declared.command.Command.{Command}
-use Rattle.cell_machine.specs.declared.effect.Place.TheVariants.{Memory}
-use Rattle.cell_machine.specs.declared.effect.Span.{Span}
 use Rattle.cell_machine.specs.declared.effect.Note.{Note}
 use Rattle.cell_machine.specs.declared.effect.Note.TheVariants.{Issue, Put, Take}
 pub use Rattle.cell_machine.specs.Traces.{Event}
@@ -76,17 +74,3 @@ pub record TakesNth (trace : Trace) (i q m k : ℕ) : Type 0 where
 -- how many values a mailbox has places for
 abbrev pub mailbox_size : ℕ → ℕ
 mailbox_size m = if m == 0 then 4 else 1
-
--- the span is the line of 128 bytes of memory that begins at the address
-pub record IsLine (span : Span) (address : ℕ) : Type 0 where
-  pub memory : span.place ≡ Memory
-  pub begins : span.at ≡ address
-  pub long : span.len ≡ 128
-
--- at place i stands an atomic step on the line of memory that begins at the address
-pub record OnLine (trace : Trace) (i address : ℕ) : Type 0 where
-  pub event : Event
-  pub at : slice_get trace i ≡ Some event
-  pub spe : ℕ
-  pub is : event.step ≡ Atomic spe
-  pub line : IsLine event.effect.reads address ⊎ IsLine event.effect.writes address

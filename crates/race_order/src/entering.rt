@@ -36,10 +36,10 @@ fn enter_some(sets: &mut Sets, role: Option<Role>, brought: &Brought) -> Result<
 fn enter_lines(sets: &mut Sets, brought: &Brought) -> Result<(), OrderError>
     requires brought { IsOfChains brought.now }
     requires sets { AreOf (3 * brought.now.spes + 1) sets.old }
-    ensures has { OnOk result ((r : ARole) (at : At) → sets_have sets.new r at ≡ (sets_have sets.old r at || (is_among r (map Base (line_roles brought.now.step brought.now.effect.now)) && has_brought brought.now at))) }
+    ensures has { OnOk result ((r : ARole) (at : At) → sets_have sets.new r at ≡ (sets_have sets.old r at || (is_among r (map Base (line_roles brought.now.whole brought.now.effect.now)) && has_brought brought.now at))) }
     ensures chains { OnOk result (AreOf (3 * brought.now.spes + 1) sets.new) }
 {
-    let (first, second) = lines(brought.step, brought.effect);
+    let (first, second) = lines(brought.whole, brought.effect);
     enter_some(sets, first, brought)?;
     enter_some(sets, second, brought)?;
     Ok(())
@@ -50,7 +50,7 @@ fn enter_plain(sets: &mut Sets, boxes: &Boxes, brought: &Brought) -> Result<(), 
     requires fits { Fits boxes.now brought.now.effect.now.note }
     requires brought { IsOfChains brought.now }
     requires sets { AreOf (3 * brought.now.spes + 1) sets.old }
-    ensures has { OnOk result ((r : ARole) (at : At) → sets_have sets.new r at ≡ (sets_have sets.old r at || (is_among r (map Base (write_roles_by boxes.now.puts.items boxes.now.takes.items (event_of brought.now.step brought.now.effect.now))) && has_brought brought.now at))) }
+    ensures has { OnOk result ((r : ARole) (at : At) → sets_have sets.new r at ≡ (sets_have sets.old r at || (is_among r (map Base (write_roles_by boxes.now.puts.items boxes.now.takes.items brought.now.whole (event_of brought.now.step brought.now.effect.now))) && has_brought brought.now at))) }
     ensures chains { OnOk result (AreOf (3 * brought.now.spes + 1) sets.new) }
 {
     enter_some(sets, step_write(brought.step), brought)?;

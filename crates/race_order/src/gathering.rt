@@ -36,15 +36,15 @@ fn gather_some(sets: &Sets, role: Option<Role>, known: &mut Known) -> Result<(),
 
 fn gather_lines(
     sets: &Sets,
-    step: Step,
+    whole: bool,
     effect: &Effect,
     known: &mut Known,
 ) -> Result<(), OrderError>
     requires { AreOf (known.old.chains) sets.now }
-    ensures has { OnOk result ((at : At) → has_at known.new at ≡ (has_at known.old at || list_any (λ r. sets_have sets.now (Base r) at) (line_roles step effect.now))) }
+    ensures has { OnOk result ((at : At) → has_at known.new at ≡ (has_at known.old at || list_any (λ r. sets_have sets.now (Base r) at) (line_roles whole effect.now))) }
     ensures chains { known.new.chains ≡ known.old.chains }
 {
-    let (first, second) = lines(step, effect);
+    let (first, second) = lines(whole, effect);
     gather_some(sets, first, known)?;
     gather_some(sets, second, known)?;
     Ok(())
@@ -54,18 +54,19 @@ fn gather_lines(
 fn gather_plain(
     sets: &Sets,
     boxes: &Boxes,
+    whole: bool,
     step: Step,
     effect: &Effect,
     known: &mut Known,
 ) -> Result<(), OrderError>
     requires fits { Fits boxes.now effect.now.note }
     requires sets { AreOf (known.old.chains) sets.now }
-    ensures has { OnOk result ((at : At) → has_at known.new at ≡ (has_at known.old at || list_any (λ r. sets_have sets.now (Base r) at) (read_roles_by boxes.now.puts.items boxes.now.takes.items (event_of step effect.now)))) }
+    ensures has { OnOk result ((at : At) → has_at known.new at ≡ (has_at known.old at || list_any (λ r. sets_have sets.now (Base r) at) (read_roles_by boxes.now.puts.items boxes.now.takes.items whole (event_of step effect.now)))) }
     ensures chains { known.new.chains ≡ known.old.chains }
 {
     gather_some(sets, step_read(step), known)?;
     gather_some(sets, note_read(boxes, step, effect.note), known)?;
-    gather_lines(sets, step, effect, known)?;
+    gather_lines(sets, whole, effect, known)?;
     Ok(())
 }
 
@@ -149,21 +150,22 @@ fn gather_seen(sets: &Sets, step: Step, note: Note, known: &mut Known) -> Result
     }
 }
 
-/// Makes the set what is known before the step.
+/// Makes the set what is known before the step, which moves a line whole or not.
 pub(crate) fn fill(
     known: &mut Known,
     sets: &Sets,
     boxes: &Boxes,
+    whole: bool,
     step: Step,
     effect: &Effect,
 ) -> Result<(), OrderError>
     requires fits { Fits boxes.now effect.now.note }
     requires sets { AreOf (known.old.chains) sets.now }
-    ensures has { OnOk result ((at : At) → has_at known.new at ≡ list_any (λ r. sets_have sets.now r at) (looked boxes.now step effect.now)) }
+    ensures has { OnOk result ((at : At) → has_at known.new at ≡ list_any (λ r. sets_have sets.now r at) (looked boxes.now whole step effect.now)) }
     ensures chains { known.new.chains ≡ known.old.chains }
 {
     known.clear();
-    gather_plain(sets, boxes, step, effect, known)?;
+    gather_plain(sets, boxes, whole, step, effect, known)?;
     gather_own(sets, step, known)?;
     gather_seen(sets, step, effect.note, known)?;
     Ok(())

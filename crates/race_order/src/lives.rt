@@ -1,18 +1,20 @@
 //! The outstanding commands.
 
-ghost use Rattle.std.specs.Prelude.{◌≡◌, ℕ, ◌+◌, ◌*◌, ◌<◌, ◌≤◌, ◌^◌, ◌||◌, ◌&&◌, IfOk, OnOk, length, [], false};
+ghost use Rattle.std.specs.Prelude.{Some, ◌≡◌, ℕ, ◌+◌, ◌*◌, ◌<◌, ◌≤◌, ◌^◌, ◌||◌, ◌&&◌, IfOk, OnOk, length, [], false};
 ghost use Rattle.std.specs.List.{list_any};
 ghost use Rattle.order_sets.specs.declared.facts.At.{At as AnAt};
 ghost use Rattle.order_sets.specs.declared.facts.Fact.TheVariants.{Whole};
 ghost use Rattle.order_sets.specs.Facts.{covers};
 ghost use Rattle.race_order.specs.Trace.{is_of};
-ghost use Rattle.race_order.specs.Status.{elements_done};
+ghost use Rattle.race_order.specs.Status.{is_by, elements_done};
 ghost use Rattle.race_order.specs.declared.lives.Live.{Live as ALive};
 ghost use Rattle.race_order.specs.declared.progress.Progress.{Progress as AProgress};
 ghost use Rattle.race_order.specs.declared.roles.QueueRole.{QueueRole as ARole};
 ghost use Rattle.race_order.specs.declared.roles.QueueRole.TheVariants.{Waits};
 ghost use Rattle.race_order.specs.Bringing.{has_brought, IsOfChains};
-ghost use Rattle.race_order.specs.Lives.{acked_by, acks, reads_of, goes_in, is_touched, moved, own_has, HaveRoom, AreWithin, AreOutstanding, touch_brings, lives_of};
+ghost use Rattle.race_order.specs.Lines.{is_queued_line};
+ghost use Rattle.race_order.specs.Ordering.{spe_in};
+ghost use Rattle.race_order.specs.Lives.{acked_by, acks, reads_of, goes_in, moves_own_line, moves_line_by, near, is_touched, moved, own_has, HaveRoom, AreWithin, AreOutstanding, touch_brings, lives_of};
 ghost use Rattle.race_order.specs.Tables.{same_role, sets_have, AreOf};
 
 use crate::brought::Brought;
@@ -22,6 +24,7 @@ use crate::roles::QueueRole;
 use crate::sets::Sets;
 use cell_base::Step;
 use cell_machine::Note;
+use mfc_command::Kind;
 use order_sets::Fact;
 use std::alloc::Global;
 
@@ -90,10 +93,58 @@ pub(crate) fn touches(live: &Live, step: &Step, note: &Note) -> bool
     steps(live, step) || resumes(live, step, note)
 }
 
+fn is_queued_line(kind: Kind) -> bool
+    ensures { result ≡ is_queued_line kind }
+{
+    match kind {
+        Kind::PutQueued => true,
+        Kind::Put => false,
+        Kind::Get => false,
+        Kind::PutList => false,
+        Kind::GetList => false,
+        Kind::Barrier => false,
+    }
+}
+
+/// Whether it is the command of this number, and a PUTQLLUC.
+fn is_line_of(live: &Live, spe: u8, cmd: u32) -> bool
+    ensures { result ≡ (is_by live.now.spe live.now.cmd spe cmd && is_queued_line live.now.progress.command.kind) }
+{
+    (spe == live.spe && cmd == live.cmd) && is_queued_line(live.progress.command.kind)
+}
+
+fn moves_own_line(live: &Live, step: &Step) -> bool
+    ensures { result ≡ moves_own_line live.now step.now }
+{
+    match *step {
+        Step::Piece { spe, cmd, .. } => is_line_of(live, spe, cmd),
+        _ => false,
+    }
+}
+
+/// Whether one of the commands is that of this number, and a PUTQLLUC.
+fn has_line(lives: &[Live], spe: u8, cmd: u32) -> bool
+    ensures { result ≡ list_any (λ l. is_by l.spe l.cmd spe cmd && is_queued_line l.progress.command.kind) lives.now }
+{
+    lives.iter().any(|l| is_line_of(l, spe, cmd))
+}
+
+/// Whether the step moves a line whole, where these are the outstanding commands of each processor.
+pub(crate) fn moves_line(lives: &Vec<Vec<Live>>, step: Step) -> bool
+    requires { (p : ℕ) → spe_in step ≡ Some p → p < length lives.now.items }
+    ensures { result ≡ moves_line_by (near lives.now.items (spe_in step)) step }
+{
+    match step {
+        Step::Atomic { .. } => true,
+        Step::Piece { spe, cmd, .. } => has_line(lives[usize::from(spe)].as_slice(), spe, cmd),
+        _ => false,
+    }
+}
+
 fn goes_into(live: &Live, step: &Step, note: &Note) -> bool
     ensures { result ≡ goes_in live.now step.now note.now }
 {
-    reads(live, step) || resumes(live, step, note)
+    reads(live, step) || (resumes(live, step, note) || moves_own_line(live, step))
 }
 
 /// The command after the step.

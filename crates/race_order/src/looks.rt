@@ -141,12 +141,13 @@ fn line(span: &Span) -> Option<Role>
     }
 }
 
-/// The lines of memory that the step is on.
-pub(crate) fn lines(step: Step, effect: &Effect) -> (Option<Role>, Option<Role>)
-    ensures { listed result.0 ++ listed result.1 ≡ line_roles step effect.now }
+/// The lines of memory that a step is on, where it moves them whole.
+pub(crate) fn lines(whole: bool, effect: &Effect) -> (Option<Role>, Option<Role>)
+    ensures { listed result.0 ++ listed result.1 ≡ line_roles whole effect.now }
 {
-    match step {
-        Step::Atomic { .. } => (line(&effect.reads), line(&effect.writes)),
-        _ => (None, None),
+    if whole {
+        (line(&effect.reads), line(&effect.writes))
+    } else {
+        (None, None)
     }
 }

@@ -18,7 +18,7 @@ use crate::boxes::Boxes;
 use crate::brought::Brought;
 use crate::error::OrderError;
 use crate::gathering::fill;
-use crate::lives::{Live, no_lives};
+use crate::lives::{Live, moves_line, no_lives};
 use crate::sets::Sets;
 use crate::stamps::{fact, name};
 use cell_base::Step;
@@ -71,11 +71,20 @@ impl Orderer {
     {
         let place = self.names.len() as u32;
         let at = name(self.spes, place, step, &effect);
-        fill(&mut self.last, &self.sets, &self.boxes, step, &effect)?;
+        let whole = moves_line(&self.lives, step);
+        fill(
+            &mut self.last,
+            &self.sets,
+            &self.boxes,
+            whole,
+            step,
+            &effect,
+        )?;
         let brought = Brought {
             spes: self.spes,
             step,
             effect: &effect,
+            whole,
             known: &self.last,
             fact: fact(self.spes, at, step),
         };

@@ -50,6 +50,7 @@ fn barrier(kind: Kind) -> bool
         Kind::PutList => false,
         Kind::GetList => false,
         Kind::Barrier => true,
+        Kind::PutQueued => false,
     }
 }
 

@@ -29,6 +29,7 @@ fn single(kind: Kind) -> bool
         Kind::PutList => false,
         Kind::GetList => false,
         Kind::Barrier => false,
+        Kind::PutQueued => true,
     }
 }
 

@@ -15,7 +15,7 @@ pub(crate) enum Role {
     OfSlot { spe: u8 },
     /// the atomic operations of a processor
     OfAtomic { spe: u8 },
-    /// the atomic operations on the line that begins at the address
+    /// the steps that move the line that begins at the address whole
     OfLine { address: u32 },
     /// what went through one place of a mailbox
     OfBox { spe: u8, mailbox: u8, place: u32 },

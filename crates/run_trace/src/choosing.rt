@@ -11,7 +11,7 @@ use std::fs;
 
 /// The actor of a number, of so many processors: these, their flow controllers, the host.
 fn actor(spes: u8, number: u64) -> Actor
-    requires { spes ≤ 8 }
+    requires { spes ≤ 16 }
 {
     if number < u64::from(spes) {
         Actor::Spu(number as u8)

@@ -53,7 +53,7 @@ pub struct Reservation {
 #[derive(Drop)]
 pub struct Controller {
     /// Its processor.
-    spe: u8,
+    pub spe: u8,
     /// The parameters of the next command, the atomic slot, and the statuses of atomic commands and of stalled lists.
     pub channels: Channels,
     pub mask: u32,

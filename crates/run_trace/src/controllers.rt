@@ -2,10 +2,10 @@
 
 use crate::controller::Controller;
 use crate::showing::no_memory;
-use crate::watching::{Made, spe_of};
+use crate::watching::{Made, spe_of, watch};
 use anyhow::Result;
 use cell_base::Step;
-use cell_machine::{Place, Span};
+use cell_machine::{Machine, Place, Span};
 use main_memory::LINE_BYTES;
 use std::alloc::{AllocError, Global};
 
@@ -59,8 +59,15 @@ impl Controllers {
         self.each.get(usize::from(spe_of(step)?))
     }
 
+    /// Makes a step, takes it in, and tells what it did.
+    pub fn step(&mut self, machine: &mut Machine, step: Step) -> Result<Made> {
+        let made = watch(machine, step)?;
+        self.follow(&made);
+        Ok(made)
+    }
+
     /// Takes in a step of the run. What is stored to main memory costs the reservations of its lines.
-    pub fn follow(&mut self, made: &Made) {
+    fn follow(&mut self, made: &Made) {
         let stored = lines_of(made.effect.writes);
         for controller in self.each.iter_mut() {
             controller.follow(made, stored);

@@ -16,7 +16,7 @@ use crate::controller::{Controller, INBOUND, OUTBOUND, status_of};
 use crate::controllers::Controllers;
 use crate::lines::Text;
 use crate::telling::{put_atomic, put_command, put_element};
-use crate::watching::{Made, watch};
+use crate::watching::Made;
 use anyhow::Result;
 use cell_base::{ChannelOp, Step};
 use cell_channels::{MFC_WR_TAG_MASK, MFC_WR_TAG_UPDATE};
@@ -155,19 +155,6 @@ fn put_line(out: &mut Text, made: &Made, own: Option<&Controller>) {
     out.end_line();
 }
 
-/// Makes a step, and writes its line.
-fn follow(
-    out: &mut Text,
-    controllers: &mut Controllers,
-    machine: &mut Machine,
-    step: Step,
-) -> Result<()> {
-    let made = watch(machine, step)?;
-    controllers.follow(&made);
-    put_line(out, &made, controllers.maker(step));
-    Ok(())
-}
-
 /// Makes the steps, and prints a line for each.
 fn follow_all(
     rt: &HostRuntime,
@@ -177,7 +164,8 @@ fn follow_all(
     steps: &[Step],
 ) -> Result<()> {
     for step in steps {
-        follow(out, controllers, machine, *step)?;
+        let made = controllers.step(machine, *step)?;
+        put_line(out, &made, controllers.maker(*step));
         out.print_pages(rt)?;
     }
     controllers.told()

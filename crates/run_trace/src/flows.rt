@@ -12,7 +12,6 @@ use crate::lines::Text;
 use crate::outstanding::{Outstanding, is_list};
 use crate::showing::show_states;
 use crate::telling::{put_atomic, put_command, put_element};
-use crate::watching::watch;
 use anyhow::Result;
 use cell_base::Step;
 use cell_channels::Channels;
@@ -70,9 +69,9 @@ fn put_mailboxes(out: &mut Text, it: &Controller) {
 }
 
 /// The line of a flow controller but for its commands.
-fn put_flow(out: &mut Text, spe: u32, it: &Controller) {
+fn put_flow(out: &mut Text, it: &Controller) {
     out.put("flow");
-    out.number(spe);
+    out.number(u32::from(it.spe));
     put_params(out, it.channels.params());
     put_tags(out, it);
     put_stalls(out, it.channels);
@@ -94,10 +93,10 @@ fn put_list(out: &mut Text, it: &Outstanding) {
     }
 }
 
-/// The line of a command.
-fn put_outstanding(out: &mut Text, spe: u32, it: &Outstanding) {
+/// The line of a processor's command.
+fn put_outstanding(out: &mut Text, spe: u8, it: &Outstanding) {
     out.put("command");
-    out.number(spe);
+    out.number(u32::from(spe));
     put_command(out, it.number, it.command, it.high);
     if is_list(&it.command) {
         put_list(out, it);
@@ -107,20 +106,18 @@ fn put_outstanding(out: &mut Text, spe: u32, it: &Outstanding) {
     out.end_line();
 }
 
-/// The lines of a processor's commands.
-fn put_queue(out: &mut Text, spe: u32, queue: &[Outstanding]) {
-    for command in queue {
-        put_outstanding(out, spe, command);
+/// The lines of a flow controller's commands.
+fn put_queue(out: &mut Text, it: &Controller) {
+    for command in &it.queue {
+        put_outstanding(out, it.spe, command);
     }
 }
 
 /// The lines of all flow controllers.
 fn put_flows(out: &mut Text, controllers: &[Controller]) {
-    let mut spe: u32 = 0;
     for controller in controllers {
-        put_flow(out, spe, controller);
-        put_queue(out, spe, controller.queue.as_slice());
-        spe = spe.wrapping_add(1);
+        put_flow(out, controller);
+        put_queue(out, controller);
     }
 }
 
@@ -136,7 +133,7 @@ fn put_script(out: &mut Text, machine: &Machine) {
 /// Makes the steps, and takes them in.
 fn follow(controllers: &mut Controllers, machine: &mut Machine, steps: &[Step]) -> Result<()> {
     for step in steps {
-        controllers.follow(&watch(machine, *step)?);
+        controllers.step(machine, *step)?;
     }
     controllers.told()
 }

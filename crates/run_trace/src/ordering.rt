@@ -41,7 +41,7 @@ fn show_ordered(
     match order {
         Order::Trace => print_steps(rt, orderer, machine, steps),
         Order::Before => {
-            take_all(orderer, machine, steps)?;
+            take_all(orderer, machine, steps, false)?;
             print_ranges(rt, orderer, machine)
         }
         Order::Time => time_order(rt, false, orderer, machine, steps),

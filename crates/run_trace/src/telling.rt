@@ -11,6 +11,7 @@ fn kind_word(kind: Kind) -> &'static str {
         Kind::PutList => "putl",
         Kind::GetList => "getl",
         Kind::Barrier => "barrier",
+        Kind::PutQueued => "putqlluc",
     }
 }
 

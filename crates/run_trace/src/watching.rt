@@ -89,10 +89,15 @@ fn value_taken(machine: &Machine) -> u32 {
     }
 }
 
+/// The action that the host did last.
+fn last_action(machine: &Machine) -> Option<&HostAction> {
+    let done = machine.host().place() as usize;
+    machine.setup().actions().get(done.saturating_sub(1))
+}
+
 /// What the action that the host did last sent or took.
 fn value_of_host(machine: &Machine) -> u32 {
-    let done = machine.host().place() as usize;
-    match machine.setup().actions().get(done.saturating_sub(1)) {
+    match last_action(machine) {
         Some(HostAction::Send { value, .. }) => *value,
         _ => value_taken(machine),
     }

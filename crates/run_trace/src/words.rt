@@ -43,6 +43,18 @@ fn question_with(word: &str, number: u32) -> Option<Question> {
     }
 }
 
+/// The form of a question, if there is one.
+fn ask<'a>(question: Option<Question>, machine: &'a str, record: &'a str) -> Option<Form<'a>> {
+    match question {
+        Some(question) => Some(Form::Ask {
+            question,
+            machine,
+            record,
+        }),
+        None => None,
+    }
+}
+
 /// The form of two words.
 fn form_of_two<'a>(form: &str, machine: &'a str) -> Option<Form<'a>> {
     match form {
@@ -58,11 +70,7 @@ fn form_of_three<'a>(form: &str, machine: &'a str, file: &'a str) -> Option<Form
             machine,
             choices: file,
         }),
-        _ => Some(Form::Ask {
-            question: question_named(form)?,
-            machine,
-            record: file,
-        }),
+        _ => ask(question_named(form), machine, file),
     }
 }
 
@@ -73,12 +81,10 @@ fn form_of_four<'a>(
     record: &'a str,
     number: &str,
 ) -> Option<Form<'a>> {
-    let number = number.parse::<u32>().ok()?;
-    Some(Form::Ask {
-        question: question_with(form, number)?,
-        machine,
-        record,
-    })
+    match number.parse::<u32>() {
+        Ok(number) => ask(question_with(form, number), machine, record),
+        Err(_) => None,
+    }
 }
 
 /// The form of the words, if they have one.

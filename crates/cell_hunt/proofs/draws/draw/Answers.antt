@@ -17,11 +17,11 @@ loop-number-preserved c = record {
 
 pub returns-clause-drawn : goal.returns-clause-drawn
 returns-clause-drawn c =
-    let n : c.loop-number.number ≡ 17 = omega (arith, c.loop-number-test.false, c.loop-number.auto.number-end) in
+    let n : c.loop-number.number ≡ 33 = omega (arith, c.loop-number-test.false, c.loop-number.auto.number-end) in
     let all = take_all c.loop-number.number c.loop-number.drawn (omega (arith, n, c.loop-number.invariant.all)) in
     sym all ∙ c.loop-number.invariant.words ∙ ap (λ k. next_words k c.args.generator.now) n
 
 pub returns-clause-after : goal.returns-clause-after
 returns-clause-after c =
-    let n : c.loop-number.number ≡ 17 = omega (arith, c.loop-number-test.false, c.loop-number.auto.number-end) in
+    let n : c.loop-number.number ≡ 33 = omega (arith, c.loop-number-test.false, c.loop-number.auto.number-end) in
     c.loop-number.invariant.after ∙ ap (λ k. after k c.args.generator.now) n

@@ -6,7 +6,7 @@ use Rattle.cell_hunt.proofs.draws.draw.Given as goal
 abbrev pub invariant-loop-number : goal.invariant-loop-number
 invariant-loop-number l =
     record {
-      all : length l.drawn ≡ 17;
+      all : length l.drawn ≡ 33;
       words : take l.number l.drawn ≡ next_words l.number l.fn.generator;
       after : l.generator ≡ after l.number l.fn.generator;
     }

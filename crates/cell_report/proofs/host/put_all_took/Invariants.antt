@@ -7,5 +7,5 @@ use Rattle.cell_report.proofs.host.put_all_took.Given as goal
 abbrev pub invariant-loop-value : goal.invariant-loop-value
 invariant-loop-value l = record {
   text : l.out.items ≡ l.fn.out.items ++ flat_map took_line (take l.value-index l.took);
-  short : length l.out.items ≤ length l.fn.out.items + 27 * l.value-index;
+  short : length l.out.items ≤ length l.fn.out.items + 21 * l.value-index;
 }

@@ -7,7 +7,7 @@ use Rattle.cell_report.proofs.states.put_registers.Goals as goal
 pub loop-quad-preserved : goal.loop-quad-preserved
 loop-quad-preserved c =
     let made = c.in_ok-put_register.ensures in
-    let line = register-short c.loop-quad.r c.bytes.result (omega arith) in
+    let line = register-short c.loop-quad.r c.bytes.result (omega (arith, c.loop-quad.invariant.number, c.loop-quad-test.true, c.requires)) in
     let longer = grown c.loop-quad.out.items (register_line c.loop-quad.r c.bytes.result) c.put_register.new.out.items _ made line in
     let so_far = c.loop-quad.invariant.short in
     record {

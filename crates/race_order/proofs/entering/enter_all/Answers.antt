@@ -11,5 +11,5 @@ use Rattle.race_order.proofs.entering.enter_all.Goals as goal
 pub returns-clause-has : goal.returns-clause-has
 returns-clause-has c = λ r at.
     let b = c.args.brought.now in
-    entered (λ w. same_role w r) (has_brought c.args.brought.now at) (map Base (write_roles_by c.args.boxes.now.puts.items c.args.boxes.now.takes.items (event_of b.step b.effect.now))) (self_roles (issued_in b.step b.effect.now.note)) (sets_have c.args.sets.now r at) (sets_have c.enter_plain.new.sets r at) (sets_have c.enter_issued.new.sets r at)
+    entered (λ w. same_role w r) (has_brought c.args.brought.now at) (map Base (write_roles_by c.args.boxes.now.puts.items c.args.boxes.now.takes.items b.whole (event_of b.step b.effect.now))) (self_roles (issued_in b.step b.effect.now.note)) (sets_have c.args.sets.now r at) (sets_have c.enter_plain.new.sets r at) (sets_have c.enter_issued.new.sets r at)
     (c.in_ok-enter_plain.ensures.has r at) (c.in_ok-enter_issued.ensures.has r at)

@@ -12,7 +12,7 @@ pub returns-clause-has : goal.returns-clause-has
 returns-clause-has c = λ r at.
     let some = listed c.step_write.result in
     let more = listed c.note_write.result in
-    let lines = line_roles c.args.brought.now.step c.args.brought.now.effect.now in
+    let lines = line_roles c.args.brought.now.whole c.args.brought.now.effect.now in
     let k = has_brought c.args.brought.now at in
     entered (λ w. same_role w r) k (map Base some) (map Base more ++ map Base lines) (sets_have c.args.sets.now r at) (sets_have c.enter_some.new.sets r at) (sets_have c.enter_lines.new.sets r at)
     (c.in_ok-enter_some.ensures.has r at)

@@ -12,7 +12,7 @@ use Rattle.race_order.proofs.gathering.fill.Goals as goal
 
 pub returns-clause-has : goal.returns-clause-has
 returns-clause-has c = λ at.
-    let plain = read_roles_by c.args.boxes.now.puts.items c.args.boxes.now.takes.items (event_of c.args.step c.args.effect.now) in
+    let plain = read_roles_by c.args.boxes.now.puts.items c.args.boxes.now.takes.items c.args.whole (event_of c.args.step c.args.effect.now) in
     grown (λ r. sets_have c.args.sets.now r at) (map Base plain) (own_waits c.args.step ++ seen_in c.args.step c.args.effect.now.note) (has_at c.clear.new.self at) (has_at c.gather_plain.new.known at) (has_at c.gather_seen.new.known at)
     (c.in_ok-gather_plain.ensures.has at ∙ ap (λ b. has_at c.clear.new.self at || b) (sym (any_map (λ r. sets_have c.args.sets.now r at) Base plain)))
     (grown (λ r. sets_have c.args.sets.now r at) (own_waits c.args.step) (seen_in c.args.step c.args.effect.now.note) (has_at c.gather_plain.new.known at) (has_at c.gather_own.new.known at) (has_at c.gather_seen.new.known at)

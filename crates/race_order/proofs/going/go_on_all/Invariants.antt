@@ -1,4 +1,4 @@
-use Rattle.std.proofs.Common.{◌≡◌, map, take, drop, ◌++◌, length}
+use Rattle.std.proofs.Common.{◌≡◌, map, take, drop, ◌++◌}
 use Rattle.std.specs.List.{list_any}
 use Rattle.race_order.specs.Lives.{moved}
 use Rattle.race_order.specs.Passes.{AreMoved, stall_any}

@@ -1,4 +1,4 @@
-use Rattle.std.proofs.Common.{◌≡◌, ◌≤◌, ◌+◌, ◌&&◌, ◌||◌, true, arith, sym, ap, ◌∙◌}
+use Rattle.std.proofs.Common.{◌≡◌, ◌&&◌, ◌||◌, true, arith, sym, ap, ◌∙◌}
 use Rattle.race_order.specs.Bringing.{has_brought}
 use Rattle.race_order.specs.declared.lives.Live.{Live}
 use Rattle.race_order.specs.declared.roles.QueueRole.TheVariants.{Waits}

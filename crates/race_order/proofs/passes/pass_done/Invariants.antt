@@ -1,4 +1,4 @@
-use Rattle.std.proofs.Common.{◌≡◌, length, take}
+use Rattle.std.proofs.Common.{◌≡◌, take}
 use Rattle.std.specs.List.{list_any}
 use Rattle.race_order.specs.Passes.{AreMoved, done_any}
 use Rattle.race_order.specs.Tables.{sets_have, AreOf}

@@ -1,4 +1,4 @@
-use Rattle.std.proofs.Common.{◌≡◌, map, length}
+use Rattle.std.proofs.Common.{◌≡◌, map}
 use Rattle.std.specs.List.{list_any}
 use Rattle.race_order.specs.Ordering.{below, fix_move}
 use Rattle.race_order.specs.Passes.{AreMoved}

@@ -1,4 +1,4 @@
-use Rattle.std.proofs.Common.{◌≡◌, ◌||◌, ◌&&◌, length, take}
+use Rattle.std.proofs.Common.{◌≡◌, ◌||◌, ◌&&◌, take}
 use Rattle.std.specs.List.{list_any}
 use Rattle.order_sets.specs.declared.facts.At.{At}
 use Rattle.order_sets.specs.Stands.{has_at}

@@ -1,7 +1,4 @@
 use Rattle.run_trace.proofs.timing.time_order.Given as goal
 
-abbrev pub ghost-follow_asking : goal.ghost-follow_asking
-ghost-follow_asking g a = g.m
-
 abbrev pub ghost-take_all : goal.ghost-take_all
 ghost-take_all g a = g.m

@@ -1,4 +1,4 @@
-use Rattle.std.proofs.Common.{rules, arith, ◌≡◌, ◌+◌, ◌*◌, ◌^◌, ◌<◌, ◌||◌, ◌∙◌, ◌++◌, ◌∷◌, [], map, length, sym, subst, subst₂, ap}
+use Rattle.std.proofs.Common.{rules, ◌≡◌, ◌+◌, ◌*◌, ◌<◌, ◌||◌, ◌∙◌, ◌++◌, ◌∷◌, [], map, length, sym, subst, subst₂, ap}
 use Rattle.std.specs.List.{list_any}
 use Rattle.order_sets.specs.declared.facts.At.{At}
 use Rattle.order_sets.specs.declared.facts.Fact.{Fact}
@@ -6,6 +6,7 @@ use Rattle.order_sets.specs.Facts.{covers}
 use Rattle.order_sets.specs.Stands.{has_at}
 use Rattle.race_order.specs.Bringing.{AreKept}
 use Rattle.race_order.specs.declared.roles.QueueRole.TheVariants.{Base}
+use Rattle.race_order.specs.Lines.{moves_line}
 use Rattle.race_order.specs.Lives.{near}
 use Rattle.race_order.specs.Orderly.{MayCome, IsOrderly}
 use Rattle.race_order.specs.Ordering.{issued_in, self_roles, own_waits, seen_in, spe_in}
@@ -17,12 +18,15 @@ use Rattle.race_order.specs.Tables.{FitsChains, sets_have}
 use Rattle.race_order.proofs.Listings.{into_list, looked_list}
 use Rattle.race_order.proofs.LivesNext.{ShowsNear, have_room, are_outstanding, are_within, who_within}
 use Rattle.race_order.proofs.Nexts.{after}
-use Rattle.race_order.proofs.Standings.{keep_next, own_next, last_next, queued_next, near_stands, lives_stand}
+use Rattle.race_order.proofs.Standings.{moves_same, keep_next, own_next, last_next, queued_next, near_stands, lives_stand}
 use Rattle.race_order.proofs.Stands.{fact_fits, counts_fit, counts_next, names_next, orderly_next, read_same, write_same}
 use Rattle.race_order.proofs.orderer.Orderer.take.Goals as goal
 
 pub fill-requires-clause-fits : goal.fill-requires-clause-fits
 fill-requires-clause-fits g c = counts_fit c.args.self.now.spes g.trace c.args.self.now.boxes c.requires.0.counts c.args.effect.note c.requires.1.0.noted c.requires.1.1.1
+
+pub moves_line-whole-requires : goal.moves_line-whole-requires
+moves_line-whole-requires g c = λ p w. subst (λ n. p < n) (sym c.requires.0.lives_long) (who_within c.args.self.now.spes c.args.step c.requires.1.0.within p w)
 
 pub take_in-requires-clause-fits : goal.take_in-requires-clause-fits
 take_in-requires-clause-fits g c = counts_fit c.args.self.now.spes g.trace c.args.self.now.boxes c.requires.0.counts c.args.effect.note c.requires.1.0.noted c.requires.1.1.1
@@ -71,16 +75,17 @@ returns-clause-stands g c =
     let orderly : IsOrderly c.args.self.now.spes (g.trace ++ (event_of c.args.step c.args.effect ∷ [])) = orderly_next n g.trace e st.orderly may in
     let queued : IsQueued (g.trace ++ (event_of c.args.step c.args.effect ∷ [])) = queued_next g.trace e st.queued queue in
     let shows : ShowsNear (spe_in c.args.step) (near c.args.self.now.lives.items (spe_in c.args.step)) g.trace = near_stands c.args.self.now g.trace c.args.step st may.within in
+    let whole : c.moves_line-whole.result ≡ moves_line g.trace c.args.step = c.moves_line-whole.ensures ∙ moves_same g.trace e st.queued queue lives shows in
     let place : c.len-place.result ≡ length g.trace = c.len-place.ensures ∙ search rules in
     let named : c.name-at.result ≡ stamp c.args.self.now.spes (length g.trace) (event_of c.args.step c.args.effect) = c.name-at.ensures ∙ ap (λ k. stamp c.args.self.now.spes k (event_of c.args.step c.args.effect)) place in
     let fact_is : c.fact.result ≡ fact_of c.args.self.now.spes (length g.trace) (event_of c.args.step c.args.effect) = c.fact.ensures ∙ ap (λ (a : At). fact_by c.args.self.now.spes a c.args.step) named in
     let known_is : (a : At) → has_at c.fill.new.known a ≡ list_any (λ r. sets_have c.args.self.now.sets r a) (looked_list g.trace (event_of c.args.step c.args.effect)) =
-    λ a. c.in_ok-fill.ensures.has a ∙ ap (λ l. list_any (λ r. sets_have c.args.self.now.sets r a) (map Base l ++ (own_waits c.args.step ++ seen_in c.args.step c.args.effect.note))) (read_same n g.trace c.args.self.now.boxes st.counts e may.noted) in
+    λ a. c.in_ok-fill.ensures.has a ∙ ap (λ l. list_any (λ r. sets_have c.args.self.now.sets r a) (map Base l ++ (own_waits c.args.step ++ seen_in c.args.step c.args.effect.note))) (read_same n g.trace c.args.self.now.boxes st.counts e c.moves_line-whole.result whole may.noted) in
     let after_is : (λ (a : At). has_at c.fill.new.known a || covers c.fact.result a) ≡ after c.args.self.now.spes g.trace (event_of c.args.step c.args.effect) (has_at c.fill.new.known) =
     ap (λ (f : Fact). λ (a : At). has_at c.fill.new.known a || covers f a) fact_is in
     let passed : AreKept c.args.self.now.spes c.args.step c.args.effect (after c.args.self.now.spes g.trace (event_of c.args.step c.args.effect) (has_at c.fill.new.known)) (near c.args.self.now.lives.items (spe_in c.args.step)) (into_list g.trace (event_of c.args.step c.args.effect)) (sets_have c.args.self.now.sets) (sets_have c.take_in.new.sets) =
     subst₂ (λ f l. AreKept c.args.self.now.spes c.args.step c.args.effect f (near c.args.self.now.lives.items (spe_in c.args.step)) l (sets_have c.args.self.now.sets) (sets_have c.take_in.new.sets)) after_is
-    (ap (λ l. map Base l ++ self_roles (issued_in c.args.step c.args.effect.note)) (write_same n g.trace c.args.self.now.boxes st.counts e may.noted)) c.in_ok-take_in.ensures.stepped in
+    (ap (λ l. map Base l ++ self_roles (issued_in c.args.step c.args.effect.note)) (write_same n g.trace c.args.self.now.boxes st.counts e c.moves_line-whole.result whole may.noted)) c.in_ok-take_in.ensures.stepped in
     record {
       some = st.some;
       spes = st.spes;

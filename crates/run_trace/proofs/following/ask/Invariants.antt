@@ -1,5 +1,5 @@
 use Rattle.std.specs.Prelude.{◌≤◌}
-use Rattle.run_trace.proofs.timing.ask.Given as goal
+use Rattle.run_trace.proofs.following.ask.Given as goal
 
 abbrev pub ghost-is_before : goal.ghost-is_before
 ghost-is_before g a = g.m
