@@ -20,7 +20,7 @@ pub(crate) fn range(low: i128, high: i128, step: u32) -> Range
 }
 
 /// What the value in operands has to be.
-fn range_of(operands: Operands) -> Range
+pub fn range_of(operands: Operands) -> Range
     ensures range { result ≡ range_of operands }
     ensures narrow { IsNarrow result }
 {
@@ -42,7 +42,7 @@ fn range_of(operands: Operands) -> Range
 
 /// A value that a range allows, or what is wrong with it.
 #[tactic(auto, unfolding(crate::specs::Encoding::allowed))]
-pub(crate) fn allowed(r: Range, v: i128) -> Result<i128, AsmKind>
+pub fn allowed(r: Range, v: i128) -> Result<i128, AsmKind>
     requires { 0 < r.step }
     ensures allowed { result ≡ allowed r v }
     ensures low { IfOk result (λ x. r.low ≤ℤ x) }
@@ -104,7 +104,8 @@ fn field(shape: Shape, at: u32, value: Option<i128>) -> Result<u32, AsmKind>
     }
 }
 
-fn is_hint(operands: Operands) -> bool
+/// Whether the operands are those of a hint, of which nothing is kept.
+pub fn is_hint(operands: Operands) -> bool
     ensures { result ≡ is_hint operands }
 {
     match operands {

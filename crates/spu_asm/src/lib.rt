@@ -32,11 +32,14 @@ mod values;
 pub use error::{AsmError, AsmKind};
 pub use image::Image;
 use indexmap::IndexMap;
+pub use instructions::{allowed, is_hint, range_of};
 use layout::{next_multiple, places, text_end};
+pub use operands::{is_optional, pattern};
 use sections::make_sections;
 use source::{all_lines, labels_in};
 use spu_lex::{LexError, Token, Tokens, lex};
 use std::alloc::Global;
+pub use syntax::{Range, Slot};
 use values::value_of_label;
 
 /// The image of a text, or the first faulty line of the first phase that has one.

@@ -193,7 +193,7 @@ fn nothing_given() -> Given
 }
 
 /// What is written for a row's operands, in order.
-fn pattern(form: Operands) -> &'static [Slot]
+pub fn pattern(form: Operands) -> &'static [Slot]
     ensures { result.now ≡ pattern form }
 {
     match form {
@@ -247,7 +247,8 @@ fn pattern(form: Operands) -> &'static [Slot]
     }
 }
 
-fn is_optional(form: Operands) -> bool
+/// Whether the operands may be left out.
+pub fn is_optional(form: Operands) -> bool
     ensures { result ≡ is_optional form }
 {
     match form {

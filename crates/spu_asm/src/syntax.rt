@@ -5,7 +5,7 @@ use spu_lex::Token;
 
 /// Which part of a label's value is meant.
 #[derive(Clone, Copy)]
-pub(crate) enum Part {
+pub enum Part {
     Whole,
     High,
     Low,
@@ -13,7 +13,7 @@ pub(crate) enum Part {
 
 /// A number, or a label with a number added.
 #[derive(Clone, Copy)]
-pub(crate) struct Expression {
+pub struct Expression {
     pub label: Option<Token>,
     pub offset: i128,
     pub part: Part,
@@ -21,7 +21,7 @@ pub(crate) struct Expression {
 
 /// What a pattern of operands asks for in turn.
 #[derive(Clone, Copy)]
-pub(crate) enum Slot {
+pub enum Slot {
     Rt,
     Ra,
     Rb,
@@ -35,7 +35,7 @@ pub(crate) enum Slot {
 
 /// What stands in the operands of an instruction. A channel is in `ra`.
 #[derive(Clone, Copy)]
-pub(crate) struct Given {
+pub struct Given {
     pub rt: u8,
     pub ra: u8,
     pub rb: u8,
@@ -46,7 +46,7 @@ pub(crate) struct Given {
 
 /// How many bytes a value has: one, two, four or eight.
 #[derive(Clone, Copy)]
-pub(crate) enum Size {
+pub enum Size {
     Byte,
     Half,
     Word,
@@ -54,14 +54,14 @@ pub(crate) enum Size {
 }
 
 #[derive(Clone, Copy)]
-pub(crate) enum Section {
+pub enum Section {
     Text,
     Data,
 }
 
 /// What a directive's name stands for.
 #[derive(Clone, Copy)]
-pub(crate) enum Directive {
+pub enum Directive {
     /// The rest of the line is skipped.
     Skipped,
     Choose(Section),
@@ -77,14 +77,14 @@ pub(crate) enum Directive {
 
 /// What a mnemonic stands for.
 #[derive(Clone, Copy)]
-pub(crate) enum Mnemonic {
+pub enum Mnemonic {
     Row(Row),
     /// The short form `lr`.
     LoadRegister,
 }
 
 #[derive(Clone, Copy)]
-pub(crate) enum Statement {
+pub enum Statement {
     /// No statement, or one whose rest is skipped.
     Nothing,
     Choose(Section),
@@ -100,7 +100,7 @@ pub(crate) enum Statement {
 
 /// A line: its number from 1, its section, and its statement with the tokens after the statement's name.
 #[derive(Clone, Copy)]
-pub(crate) struct Line<'a> {
+pub struct Line<'a> {
     pub number: u32,
     pub section: Section,
     pub statement: Statement,
@@ -109,7 +109,7 @@ pub(crate) struct Line<'a> {
 
 /// The lines that are not read yet: the number and the section of the next, and the tokens from it on.
 #[derive(Clone, Copy)]
-pub(crate) struct Unread<'a> {
+pub struct Unread<'a> {
     pub number: u32,
     pub section: Section,
     pub tokens: &'a [Token],
@@ -117,7 +117,7 @@ pub(crate) struct Unread<'a> {
 
 /// What a value has to be: from `low` to `high`, and a multiple of `step`.
 #[derive(Clone, Copy)]
-pub(crate) struct Range {
+pub struct Range {
     pub low: i128,
     pub high: i128,
     pub step: u32,
@@ -125,7 +125,7 @@ pub(crate) struct Range {
 
 /// The bytes of text and of data.
 #[derive(Drop)]
-pub(crate) struct Sections {
+pub struct Sections {
     pub text: Vec<u8>,
     pub data_bytes: Vec<u8>,
 }
