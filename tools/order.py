@@ -91,16 +91,31 @@ class Trace:
     """The steps of a run, and what they tell of its queued commands."""
 
     def __init__(self, lines):
-        self.lines, self.steps = lines, Steps(lines)
+        self.lines = []
+        self.steps = Steps(self.lines)
         self.issues, self.commands = {}, {}  # (processor, number): the place of the issue, and what the command asks for
-        for place in self.with_field("issue"):
+        self.elements = {}  # (processor, number): the places at which its elements are read
+        self.extend(lines)
+
+    def extend(self, lines):
+        """Goes on by more steps."""
+        start = len(self.lines)
+        self.lines += lines
+        for place in self.with_field("issue", start):
             command = self.steps[place].issued()
             key = command.spe, command.number
             self.issues[key], self.commands[key] = place, command
-        self.elements = {}  # (processor, number): the places at which its elements are read
-        for place, line in enumerate(lines):
-            if line.startswith("e "):
+        for place in range(start, len(self.lines)):
+            if self.lines[place].startswith("e "):
                 self.elements.setdefault(self.steps[place].command_key(), []).append(place)
+
+    def cut(self, end):
+        """Forgets the steps from a place on."""
+        del self.lines[end:]
+        self.steps.made = {place: step for place, step in self.steps.made.items() if place < end}
+        for key in [key for key, place in self.issues.items() if place >= end]:
+            del self.issues[key], self.commands[key]
+        self.elements = {key: [place for place in places if place < end] for key, places in self.elements.items()}
 
     def with_field(self, name, start=0, end=None):
         """The places from `start` and below `end` of the steps that have a field of that name."""

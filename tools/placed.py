@@ -11,8 +11,8 @@ from language import NAME, ROOT, SECTIONS, is_text_section, without_comments
 
 LABELS = re.compile(r"\s*((?:[A-Za-z_.][\w.]*\s*:\s*)*)([\w.]*)(.*)", re.S | re.A)
 
-# A line of a source: its number from 1, its labels, its address, its bytes, and its text.
-Line = collections.namedtuple("Line", "number labels address data text")
+# A line of a source: its number from 1, its labels, whether it stands in the text, its address, its bytes, and how it is written.
+Line = collections.namedtuple("Line", "number labels in_text address data text")
 
 
 def image(text):
@@ -64,6 +64,6 @@ def placed_lines(name):
         in_text = kinds[number][1]
         stops[number], ends[in_text] = ends[in_text], starts[number]
     return [
-        Line(number, labels, start, bytes(whole[at] for at in range(start, stop)), text)
-        for number, (text, (labels, _), start, stop) in enumerate(zip(texts, kinds, starts, stops), 1)
+        Line(number, labels, in_text, start, bytes(whole[at] for at in range(start, stop)), text)
+        for number, (text, (labels, in_text), start, stop) in enumerate(zip(texts, kinds, starts, stops), 1)
     ]

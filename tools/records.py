@@ -1,4 +1,5 @@
-"""Reads the texts of records."""
+"""Reads and writes the texts of records."""
+import itertools
 
 
 def steps_in(text):
@@ -10,3 +11,17 @@ def steps_in(text):
         # a line of format 2 stands for so many instructions
         steps += [f"x {numbers[0]}"] * int(numbers[1]) if letter == "x" and len(numbers) == 2 else [line]
     return steps
+
+
+def plain_record(steps):
+    """The record of format 1 of steps, which is made the soonest."""
+    return "\n".join(["cell-record 1", *steps, f"steps {len(steps)}", ""])
+
+
+def record_text(steps):
+    """The record of format 2 of steps, each of which is given as its line in format 1."""
+    lines = []
+    for step, same in itertools.groupby(steps):
+        same = list(same)
+        lines += [f"{step} {len(same)}"] if step.startswith("x ") else same
+    return "\n".join(["cell-record 2", *lines, f"steps {len(steps)}", ""])

@@ -9,21 +9,30 @@ from runs import Refused
 ORIGIN = re.compile(r"\s*(\S+:\d+)(?:\s|$)")  # what from_gas puts at the front of a line's comment
 # The opcodes of branches that set a link, and of the bits of a word that they are.
 CALLS = {(23, 0x66), (23, 0x62), (21, 0x1A9)}
+ORG = re.compile(r"^[^#\"]*\.org\b")
 MOST_CALLS = 64  # nested calls that are kept in mind
+
+
+def sets_link(word):
+    """Whether an instruction is a branch that sets a link."""
+    return any(word >> shift == opcode for shift, opcode in CALLS)
 
 
 class Site:
     """A line that placed an instruction."""
 
-    def __init__(self, file, number, text, word, origin=None):
-        self.file, self.number, self.text, self.word, self.origin = file, number, text, word, origin
+    def __init__(self, file, number, text, word, origin=None, is_source=True):
+        self.file, self.number, self.text, self.word, self.origin, self.is_source = file, number, text, word, origin, is_source
+
+    @property
+    def place(self):
+        return f"{self.origin} ({self.file}:{self.number})" if self.origin else f"{self.file}:{self.number}"
 
     def __str__(self):
-        place = f"{self.origin} ({self.file}:{self.number})" if self.origin else f"{self.file}:{self.number}"
-        return f"{place}: {self.text}"
+        return f"{self.place}: {self.text}"
 
     def is_call(self):
-        return any(self.word >> shift == opcode for shift, opcode in CALLS)
+        return sets_link(self.word)
 
 
 def statement_of(text):
@@ -34,14 +43,30 @@ def statement_of(text):
     return " ".join((word + rest).split()), found[1] if found else None
 
 
-def source_sites(name):
-    """The sites of a source's text and data, by their addresses."""
+def source_lines(name):
+    """The lines of a source, as they are placed."""
     try:
-        lines = placed_lines(name)
+        return placed_lines(name)
     except OSError as why:
         raise Refused(f"{name}: {why.strerror}") from None
     except ValueError as why:
         raise Refused(f"{name}: {why}") from None
+
+
+def source_labels(lines):
+    """The labels of a source: of each its address, and how many bytes stand behind it up to the next label or the next `.org`."""
+    labels, since = {}, []
+    for line in lines:
+        if line.labels or ORG.search(line.text):
+            since = line.labels
+            labels.update((label, [line.address, 0]) for label in since)
+        for label in since:
+            labels[label][1] += len(line.data)
+    return {label: tuple(place) for label, place in labels.items()}
+
+
+def source_sites(name, lines):
+    """The sites of a source's text and data, by their addresses."""
     sites = {}
     for line in lines:
         statement, origin = statement_of(line.text)
@@ -54,23 +79,27 @@ def source_sites(name):
 def code_sites(name, number, address, digits):
     """The sites of a `code` or `bytes` line of a machine file."""
     words = {at: digits[2 * at : 2 * at + 8].ljust(8, "0") for at in range(0, len(digits) // 2, 4)}
-    return {address + at: Site(name, number, f"the word 0x{word}", int(word, 16)) for at, word in words.items()}
+    return {address + at: Site(name, number, f"the word 0x{word}", int(word, 16), is_source=False) for at, word in words.items()}
 
 
 class Sites:
-    """The sites of each processor of a machine file, and the lines of the host's script."""
+    """The sites and the labels of each processor of a machine file, and the lines of the host's script."""
 
     def __init__(self, machine):
-        self.machine, self.of_processor, self.script = machine, [], []
+        self.machine, self.of_processor, self.labels, self.script = machine, [], [], []
         sources = {}
         for number, line in enumerate(pathlib.Path(machine).read_text(errors="backslashreplace").splitlines(), 1):
             words = line.split("#")[0].split()
             if words[:1] == ["spe"]:
                 self.of_processor.append({})
+                self.labels.append({})
             elif words[:1] == ["source"]:
                 if words[1] not in sources:
-                    sources[words[1]] = source_sites(words[1])
-                self.of_processor[-1].update(sources[words[1]])
+                    lines = source_lines(words[1])
+                    sources[words[1]] = source_sites(words[1], lines), source_labels(lines)
+                sites, labels = sources[words[1]]
+                self.of_processor[-1].update(sites)
+                self.labels[-1].update(labels)
             elif words[:1] in (["code"], ["bytes"]):
                 self.of_processor[-1].update(code_sites(machine, number, int(words[1], 0), words[2]))
             elif words[:1] == ["host"]:

@@ -1,4 +1,5 @@
 """Says in words what the steps of a run are, with the lines of the sources that they come from."""
+import functools
 import re
 
 from order import has_group
@@ -46,8 +47,16 @@ class Teller:
 
     def __init__(self, trace, sites):
         self.trace, self.sites = trace, sites
-        self.called = callers(trace, sites)
-        self.hosts = [place for place, line in enumerate(trace.lines) if line.startswith("h")]
+
+    @functools.cached_property
+    def called(self):
+        """Of each instruction of a routine, the place of the branch that called it."""
+        return callers(self.trace, self.sites)
+
+    @functools.cached_property
+    def hosts(self):
+        """The places of the host's actions."""
+        return [place for place, line in enumerate(self.trace.lines) if line.startswith("h")]
 
     def who(self, place):
         """The processor or the host whose step it is, that of a flow controller its processor."""

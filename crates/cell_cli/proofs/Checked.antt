@@ -18,7 +18,8 @@ use Rattle.cell_cli.specs.declared.fault.Fault.{Fault}
 use Rattle.cell_cli.specs.declared.fault.Fault.TheVariants.{BadRecord, NotARun, StatesDiffer}
 use Rattle.cell_cli.specs.Checks.{DifferAt, BeginsWithRun, TellsEnd, RecordsRun, StatesDifferAt, Finds}
 use Rattle.cell_cli.proofs.Differences.{differ, differ-same, none-differ, found as differ-found, differs}
-use Rattle.cell_cli.proofs.Ends.{end_of, end-is, is-end}
+use Rattle.state_lines.specs.Ends.{end_of}
+use Rattle.state_lines.proofs.EndLemmas.{end-is, is-end}
 
 -- ---- steps
 

@@ -1,5 +1,5 @@
 -- What `check` says of the run in a record file follows from its task.
-use Rattle.std.proofs.Common.{◌≡◌, ℕ, Bool, true, false, cond, List, length, Option, Some, None, Result, Ok, Err, refl, ap, subst}
+use Rattle.std.proofs.Common.{◌≡◌, ℕ, Bool, true, false, cond, List, [], length, Option, Some, None, Result, Ok, Err, refl, ap, subst}
 use Rattle.std.specs.Prelude.{nat_lt}
 use Rattle.cell_io.specs.Files.{File, file_named}
 use Rattle.cell_io.specs.Store.{Ledger}
@@ -9,18 +9,21 @@ use Rattle.spu_asm.specs.declared.error.AsmError.{AsmError}
 use Rattle.spu_asm.specs.declared.error.AsmError.TheVariants.{At, Memory as AsmMemory}
 use Rattle.cell_machine.specs.Opening.{Opening}
 use Rattle.cell_machine.specs.Run.{Ran}
+use Rattle.cell_debug.specs.declared.line.Line.{Line}
+use Rattle.cell_debug.specs.Form.{script_at}
+use Rattle.cell_debug.specs.Debug.{printed}
 use Rattle.cell_report.specs.Images.{image_lines}
 use Rattle.cell_cli.specs.declared.fault.Fault.{Fault}
 use Rattle.cell_cli.specs.declared.fault.Fault.TheVariants.{TooLarge}
 use Rattle.cell_cli.specs.declared.fault.FileId.{FileId}
-use Rattle.cell_cli.specs.declared.fault.FileId.TheVariants.{Source, Rec}
+use Rattle.cell_cli.specs.declared.fault.FileId.TheVariants.{Source, Rec, Script}
 use Rattle.cell_cli.specs.declared.fault.Status.{Status}
 use Rattle.cell_cli.specs.declared.fault.Status.TheVariants.{Done, Race, Refused}
 use Rattle.cell_cli.specs.Task.{Work, refuse, ready, judge, read, run_of, text_of, verdict_of, gen_of}
 use Rattle.cell_cli.specs.Checks.{RecordsRun, Finds}
 use Rattle.cell_cli.specs.Course.{too_long, whole, within, by_verdict, WithGiven, Settles}
-use Rattle.cell_cli.specs.Forms.{text_limit, record_limit, with_image, run_task, check_task, asm_task, gen_task}
-use Rattle.cell_cli.specs.Words.{Spoken, run, check, asm, gen, no_form, task_of}
+use Rattle.cell_cli.specs.Forms.{text_limit, record_limit, with_image, run_task, check_task, asm_task, gen_task, debug_task, by_script}
+use Rattle.cell_cli.specs.Words.{Spoken, run, check, asm, gen, debug, no_form, task_of}
 use Rattle.cell_cli.specs.Answer.{Sinks, Wrote, Ends, Ended, Answers}
 use Rattle.cell_cli.specs.Judged.{IsRunOf, Judges}
 use Rattle.cell_cli.proofs.Machines.{machine-on}
@@ -76,6 +79,16 @@ module _ (files : List File) (work : Work) where
       let there = file-on (Source 0) (file_named files source) text_limit (λ text. Settles files (with_image (Source 0) (assembled text) (λ image. ready (text_of (image_lines image)))) (Ok work)) e in
       image-work (Source 0) (assembled there.0) there.2
 
+  script-work : (setup : Opening) (r : Result (List Line) (ℕ × Unit {0})) → Settles files (by_script setup r) (Ok work) → (text : List ℕ) × (work ≡ text_of text)
+  script-work setup (Err fault) e = absurd cc
+  script-work setup (Ok lines) e = let text = printed (record { setup = setup; steps = [] }) lines in (text, same-work work (text_of text) e)
+
+  debug-work : (machine script : List ℕ) → Settles files (debug_task machine script) (Ok work) → (text : List ℕ) × (work ≡ text_of text)
+  debug-work machine script e =
+      let on = machine-on files work (λ S. read Script script text_limit (λ t. by_script S (script_at S t))) (λ S. ready (run_of S)) machine e in
+      let there = file-on Script (file_named files script) text_limit (λ t. Settles files (by_script on.0 (script_at on.0 t)) (Ok work)) on.1 in
+      script-work on.0 (script_at on.0 there.0) there.2
+
   gen-work : (n : ℕ) (b : Bool) → Settles files (cond b (refuse (TooLarge n)) (ready (gen_of n))) (Ok work) → work ≡ gen_of n
   gen-work n true e = absurd cc
   gen-work n false e = same-work work (gen_of n) e
@@ -109,6 +122,11 @@ module _ (files : List File) (before after : Sinks) where
       let found = asm-work files e.0 source e.1 in
       no_race_of_text found.0 i j before.taken after.taken (subst (λ w. Ends w before after (Race i j)) found.1 e.2)
 
+  debug-raced : (machine script : List ℕ) (i j : ℕ) → Ended files (debug_task machine script) before after (Race i j) → ⊥
+  debug-raced machine script i j e =
+      let found = debug-work files e.0 machine script e.1 in
+      no_race_of_text found.0 i j before.taken after.taken (subst (λ w. Ends w before after (Race i j)) found.1 e.2)
+
   -- what `gen` comes to
   gen-ended : (n : ℕ) (status : Status) → Ended files (gen_task n) before after status → Ends (gen_of n) before after status
   gen-ended n status e = subst (λ w. Ends w before after status) (gen-work files e.0 n (nat_lt 64 n) e.1) e.2
@@ -121,6 +139,9 @@ judges files (asm source) old new before after (Race i j) a = asm-raced files be
 judges files (gen n) old new before after Done a = gen-ended files before after n Done a
 judges files (gen n) old new before after (Race i j) a = gen-ended files before after n (Race i j) a
 judges files (gen n) old new before after (Refused fault) a = tt
+judges files (debug machine script) old new before after (Race i j) a = debug-raced files before after machine script i j a
+judges files (debug machine script) old new before after Done a = tt
+judges files (debug machine script) old new before after (Refused fault) a = tt
 judges files no_form old new before after (Race i j) a = let is = a.1 in cc
 judges files (check machine record_file) old new before after (Refused fault) a = tt
 judges files (run machine) old new before after Done a = tt

@@ -1,5 +1,4 @@
 pub mod Differences
-pub mod Ends
 pub mod Checked
 pub mod Settled
 pub mod Checks

@@ -17,7 +17,7 @@ use Rattle.cell_cli.specs.Checks.{RecordsRun}
 use Rattle.cell_cli.specs.Course.{Given, nothing, too_long, whole, within, given, WithGiven, if_whole, Settles, Reads}
 use Rattle.cell_cli.specs.Forms.{record_limit, run_task, check_task}
 use Rattle.cell_cli.specs.Runs.{ran, PrintsRun}
-use Rattle.cell_cli.specs.Words.{Spoken, run, check, asm, gen, no_form, task_of}
+use Rattle.cell_cli.specs.Words.{Spoken, run, check, asm, gen, debug, no_form, task_of}
 use Rattle.cell_cli.specs.Answer.{Sinks, Ended, Ends, Answers}
 use Rattle.cell_cli.specs.Output.{Took}
 use Rattle.cell_cli.specs.ReadBack.{IsKeptIn, IsReadBack, ReadsBack}
@@ -101,4 +101,5 @@ read_back files (run machine) old new before after (Refused fault) a = tt
 read_back files (check machine record_file) old new before after status a = tt
 read_back files (asm source) old new before after status a = tt
 read_back files (gen n) old new before after status a = tt
+read_back files (debug machine script) old new before after status a = tt
 read_back files no_form old new before after status a = tt

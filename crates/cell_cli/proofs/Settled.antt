@@ -13,16 +13,18 @@ use Rattle.cell_load.specs.Sources.{Named, sources_of}
 use Rattle.cell_load.specs.Loaded.{loaded, NoRow}
 use Rattle.cell_machine.specs.Opening.{Opening}
 use Rattle.cell_machine.specs.Run.{Ran}
+use Rattle.cell_debug.specs.declared.line.Line.{Line}
+use Rattle.cell_debug.specs.Form.{script_at}
 use Rattle.cell_report.specs.Images.{image_lines}
 use Rattle.cell_cli.specs.declared.fault.Fault.{Fault}
 use Rattle.cell_cli.specs.declared.fault.Fault.TheVariants.{ReadFault, TooLong, TooLarge, Memory}
 use Rattle.cell_cli.specs.declared.fault.FileId.{FileId}
-use Rattle.cell_cli.specs.declared.fault.FileId.TheVariants.{Machine, Source, Rec}
+use Rattle.cell_cli.specs.declared.fault.FileId.TheVariants.{Machine, Source, Rec, Script}
 use Rattle.cell_cli.specs.Checks.{Finds}
 use Rattle.cell_cli.specs.Task.{Task, Work, refuse, ready, judge, read, run_of, text_of, gen_of}
 use Rattle.cell_cli.specs.Course.{Given, nothing, too_long, whole, given, by_verdict, WithGiven, Settles, SettlesOne}
-use Rattle.cell_cli.specs.Forms.{text_limit, record_limit, with_image, source_task, sources_task, with_setup, with_plan, machine_task}
-use Rattle.cell_cli.specs.Words.{Spoken, run, check, asm, gen, no_form, task_of}
+use Rattle.cell_cli.specs.Forms.{text_limit, record_limit, with_image, source_task, sources_task, with_setup, with_plan, machine_task, by_script}
+use Rattle.cell_cli.specs.Words.{Spoken, run, check, asm, gen, debug, no_form, task_of}
 use Rattle.cell_cli.proofs.Checked.{checked, is_checked, finds}
 
 module _ (files : List File) where
@@ -109,12 +111,19 @@ module _ (files : List File) where
   number-memory n true = refuse-memory _ (λ e. cc)
   number-memory n false = ready-memory (gen_of n)
 
+  script-memory : (setup : Opening) (r : Result (List Line) (ℕ × Unit {0})) → NeverMemory (by_script setup r)
+  script-memory setup (Err fault) = refuse-memory _ (λ e. cc)
+  script-memory setup (Ok lines) = ready-memory _
+
   words-memory : (words : Spoken) → NeverMemory (task_of words)
   words-memory (run machine) = machine-memory machine (λ setup. ready (run_of setup)) (λ setup. ready-memory (run_of setup))
   words-memory (check machine record_file) =
       machine-memory machine (λ setup. read Rec record_file record_limit (λ text. judge setup text)) (λ setup. read-memory Rec record_file record_limit (λ text. judge setup text) (λ text. judge-memory setup text))
   words-memory (asm source) = source-memory 0 source (λ image. ready (text_of (image_lines image))) (λ image. ready-memory (text_of (image_lines image)))
   words-memory (gen n) = number-memory n (nat_lt 64 n)
+  words-memory (debug machine script) =
+      machine-memory machine (λ setup. read Script script text_limit (λ text. by_script setup (script_at setup text)))
+      (λ setup. read-memory Script script text_limit (λ text. by_script setup (script_at setup text)) (λ text. script-memory setup (script_at setup text)))
   words-memory no_form = refuse-memory _ (λ e. cc)
 
   pub settles_one : (words : Spoken) → SettlesOne files (task_of words)

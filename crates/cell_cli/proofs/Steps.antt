@@ -1,6 +1,6 @@
 -- How a task is followed, step by step.
 use Rattle.std.proofs.Common.{◌≡◌, ℕ, ◌+◌, List, [], ◌∷◌, ◌++◌, drop, Result, Ok, Err, refl, sym, ap, subst, inr}
-use Rattle.std.specs.Prelude.{IfOk, IfErr}
+use Rattle.std.specs.Prelude.{IfOk, IfErr, OnErr}
 use Rattle.cell_io.specs.Files.{File}
 use Rattle.cell_io.specs.Store.{Ledger, FailedAt}
 use Rattle.spu_asm.specs.Images.{Image}
@@ -19,18 +19,23 @@ use Rattle.cell_load.specs.declared.plan.PlanError.{PlanError}
 use Rattle.cell_load.specs.declared.plan.PlanError.TheVariants.{BadLine, Limit, Memory as PlanMemory}
 use Rattle.cell_load.specs.declared.loading.LoadError.{LoadError}
 use Rattle.cell_load.specs.declared.loading.LoadError.TheVariants.{NotInTable as NoRowError, Memory as LoadMemory}
+use Rattle.cell_debug.specs.declared.line.Line.{Line}
+use Rattle.cell_debug.specs.declared.error.ScriptError.{ScriptError}
+use Rattle.cell_debug.specs.declared.error.ScriptError.TheVariants as script_error
+use Rattle.cell_debug.specs.Scripts.{ScriptGives}
+use Rattle.cell_debug.specs.Debug.{printed}
 use Rattle.cell_cli.specs.declared.fault.Fault.{Fault}
-use Rattle.cell_cli.specs.declared.fault.Fault.TheVariants.{ReadFault, WriteFault, TooLong, Machine, Source, NotInTable, Memory}
+use Rattle.cell_cli.specs.declared.fault.Fault.TheVariants.{ReadFault, WriteFault, TooLong, Machine, Source, NotInTable, Script, Memory}
 use Rattle.cell_cli.specs.declared.fault.FileId.{FileId}
 use Rattle.cell_cli.specs.declared.fault.FileId.TheVariants as file_id
-use Rattle.cell_cli.specs.Causes.{plan_fault_of, source_fault_of, load_fault_of}
+use Rattle.cell_cli.specs.Causes.{plan_fault_of, source_fault_of, load_fault_of, script_fault_of}
 use Rattle.cell_cli.specs.declared.fault.Status.{Status}
 use Rattle.cell_cli.specs.declared.fault.Status.TheVariants.{Done, Race, Refused}
-use Rattle.cell_cli.specs.Task.{Task, Work, judge, read, ready, verdict_of}
+use Rattle.cell_cli.specs.Task.{Task, Work, judge, read, ready, text_of, verdict_of}
 use Rattle.cell_cli.specs.Checks.{Finds, RefusesOrMemory}
 use Rattle.cell_cli.specs.Course.{whole, too_long, given, WithGiven, if_whole, Settles, Reads}
-use Rattle.cell_cli.specs.Forms.{with_image, with_plan, with_setup, source_task, sources_task}
-use Rattle.cell_cli.specs.Answer.{Leads, RefusesIn, Comes, FailsBy, AtFile, AtMachine, AtMachineOrRecord, Sinks, Ends, Answers}
+use Rattle.cell_cli.specs.Forms.{with_image, with_plan, with_setup, source_task, sources_task, by_script}
+use Rattle.cell_cli.specs.Answer.{Leads, RefusesIn, Comes, FailsBy, AtFile, AtMachine, AtMachineOrRecord, AtMachineOrScript, Sinks, Ends, Answers}
 
 pub leads_here : (files : List File) (task rest : Task) → task ≡ rest → Leads files task rest
 leads_here files task rest same = record {
@@ -111,6 +116,7 @@ pub fails_machine : (machine record_file : List ℕ) (old new : Ledger) (fault :
 fails_machine machine record_file old new (ReadFault file_id.Machine) is = is
 fails_machine machine record_file old new (ReadFault (file_id.Source i)) is = is
 fails_machine machine record_file old new (ReadFault file_id.Rec) is = absurd is
+fails_machine machine record_file old new (ReadFault file_id.Script) is = absurd is
 fails_machine machine record_file old new fault is = tt
 
 pub fails_record : (machine record_file : List ℕ) (old now new : Ledger) (fault : Fault) → now ≡ old → FailsBy {V = ℕ} (AtFile file_id.Rec record_file) now new (Err fault) → FailsBy {V = ℕ} (AtMachineOrRecord machine record_file) old new (Err fault)
@@ -143,6 +149,38 @@ pub check_comes : (files : List File) (task : Task) (setup : Opening) (text : Li
     → Comes files task (λ m. ready (verdict_of m)) old new result
 check_comes files task setup text old new (Ok m) l run refused = leads_on l (leads-judge files setup text m run)
 check_comes files task setup text old new (Err fault) l run refused = refuses_after files task (judge setup text) old new fault l (refuses-judge files setup text old new fault refused)
+
+-- ---- a script
+
+pub leads_script : (files : List File) (setup : Opening) (reading : Result (List Line) (ℕ × Unit {0})) (lines : List Line) → reading ≡ Ok lines → Leads files (by_script setup reading) (ready (text_of (printed (record { setup = setup; steps = [] }) lines)))
+leads_script files setup reading lines is = leads_here files _ _ (ap (by_script setup) is)
+
+pub refuses_script : {X : Type 0} (view : X → List Line) (files : List File) (setup : Opening) (reading : Result (List Line) (ℕ × Unit {0})) (old new : Ledger) (error : ScriptError) → ScriptGives {X = X} view (Err error) reading → RefusesIn files (by_script setup reading) old new (script_fault_of error)
+refuses_script view files setup reading old new (script_error.BadLine line) is = subst (λ r. Settles files (by_script setup r) (Err (Script line))) (sym is) refl
+refuses_script view files setup reading old new script_error.Memory is = tt
+
+-- a reading that failed before the script ran is that of the machine file, of a source or of the script
+pub fails_before : (machine script : List ℕ) (old new : Ledger) (fault : Fault) → FailsBy {V = ℕ} (AtMachine machine) old new (Err fault) → FailsBy {V = ℕ} (AtMachineOrScript machine script) old new (Err fault)
+fails_before machine script old new (ReadFault file_id.Machine) is = is
+fails_before machine script old new (ReadFault (file_id.Source i)) is = is
+fails_before machine script old new (ReadFault file_id.Rec) is = absurd is
+fails_before machine script old new (ReadFault file_id.Script) is = absurd is
+fails_before machine script old new fault is = tt
+
+pub fails_script : (machine script : List ℕ) (old now new : Ledger) (fault : Fault) → now ≡ old → FailsBy {V = ℕ} (AtFile file_id.Script script) now new (Err fault) → FailsBy {V = ℕ} (AtMachineOrScript machine script) old new (Err fault)
+fails_script machine script old now new (ReadFault file) kept is =
+    subst (λ f. AtMachineOrScript machine script f old new) (sym is.0) (subst (λ o. FailedAt script o new) kept is.1)
+fails_script machine script old now new fault kept is = tt
+
+-- what was printed is what the task leads to, unless memory was short
+pub script_comes : {V : Type 0} (view : V → List ℕ) (files : List File) (task : Task) (text : List ℕ) (old new : Ledger) (result : Result V Fault) → Leads files task (ready (text_of text))
+    → IfOk result (λ v. view v ≡ text) → OnErr result (result ≡ Err Memory) → Comes files task (λ v. ready (text_of (view v))) old new result
+script_comes view files task text old new (Ok v) l is short = leads_on l (leads_here files _ _ (ap (λ t. ready (text_of t)) (sym is)))
+script_comes view files task text old new (Err fault) l is short = let same : fault ≡ Memory = cc in subst (λ f. RefusesIn files task old new f) (sym same) tt
+
+pub script_fails : {V : Type 0} (cause : FileId → Ledger → Ledger → Type 0) (old new : Ledger) (result : Result V Fault) → OnErr result (result ≡ Err Memory) → FailsBy cause old new result
+script_fails cause old new (Ok v) short = tt
+script_fails cause old new (Err fault) short = let same : fault ≡ Memory = cc in subst (λ f. FailsBy {V = ℕ} cause old new (Err f)) (sym same) tt
 
 -- ---- how work ends
 

@@ -5,7 +5,7 @@ use Rattle.cell_io.specs.Store.{Rose, Ledger, FailedAt}
 use Rattle.cell_cli.specs.declared.fault.Fault.{Fault}
 use Rattle.cell_cli.specs.declared.fault.Fault.TheVariants.{ReadFault, WriteFault, Memory}
 use Rattle.cell_cli.specs.declared.fault.FileId.{FileId}
-use Rattle.cell_cli.specs.declared.fault.FileId.TheVariants.{Machine, Source, Rec}
+use Rattle.cell_cli.specs.declared.fault.FileId.TheVariants.{Machine, Source, Rec, Script}
 use Rattle.cell_cli.specs.declared.fault.Status.{Status}
 use Rattle.cell_cli.specs.declared.fault.Status.TheVariants.{Done, Race, Refused}
 use Rattle.cell_cli.specs.Task.{Task, Work}
@@ -47,11 +47,17 @@ abbrev pub AtMachine : List ℕ → FileId → Ledger → Ledger → Type 0
 AtMachine machine Machine old new = FailedAt machine old new
 AtMachine machine (Source i) old new = Rose old.faults new.faults
 AtMachine machine Rec old new = ⊥
+AtMachine machine Script old new = ⊥
 
 -- the machine file, one of its sources, or the record file, under this name
 abbrev pub AtMachineOrRecord : List ℕ → List ℕ → FileId → Ledger → Ledger → Type 0
 AtMachineOrRecord machine record_file Rec old new = FailedAt record_file old new
 AtMachineOrRecord machine record_file file old new = AtMachine machine file old new
+
+-- the machine file, one of its sources, or the script, under this name
+abbrev pub AtMachineOrScript : List ℕ → List ℕ → FileId → Ledger → Ledger → Type 0
+AtMachineOrScript machine script Script old new = FailedAt script old new
+AtMachineOrScript machine script file old new = AtMachine machine file old new
 
 -- the sink before and after
 pub record Sinks : Type 0 where

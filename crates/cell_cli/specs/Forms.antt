@@ -9,13 +9,16 @@ use Rattle.cell_load.specs.Order.{machine_at}
 use Rattle.cell_load.specs.Sources.{Named, sources_of}
 use Rattle.cell_load.specs.Loaded.{loaded, NoRow}
 use Rattle.cell_machine.specs.Opening.{Opening}
+use Rattle.cell_debug.specs.declared.line.Line.{Line}
+use Rattle.cell_debug.specs.Form.{script_at}
+use Rattle.cell_debug.specs.Debug.{printed}
 use Rattle.cell_report.specs.Images.{image_lines}
-use Rattle.cell_cli.specs.declared.fault.Fault.TheVariants.{Machine as BadMachine, Source as BadSource, NotInTable, TooLarge, Memory}
+use Rattle.cell_cli.specs.declared.fault.Fault.TheVariants.{Machine as BadMachine, Source as BadSource, Script as BadScript, NotInTable, TooLarge, Memory}
 use Rattle.cell_cli.specs.declared.fault.FileId.{FileId}
-use Rattle.cell_cli.specs.declared.fault.FileId.TheVariants.{Machine, Source, Rec}
+use Rattle.cell_cli.specs.declared.fault.FileId.TheVariants.{Machine, Source, Rec, Script}
 use Rattle.cell_cli.specs.Task.{Task, refuse, ready, judge, read, run_of, text_of, gen_of}
 
--- how long a machine file or a source may be
+-- how long a machine file, a source or a script may be
 abbrev pub text_limit : ℕ
 text_limit = 4194304
 
@@ -71,3 +74,12 @@ asm_task source = source_task 0 source (λ image. ready (text_of (image_lines im
 -- `gen N`
 abbrev pub gen_task : ℕ → Task
 gen_task n = if nat_lt 64 n then refuse (TooLarge n) else ready (gen_of n)
+
+-- what a script prints of the machine of this setup at its start
+abbrev pub by_script : Opening → Result (List Line) (ℕ × Unit {0}) → Task
+by_script setup (Err fault) = refuse (BadScript fault.0)
+by_script setup (Ok lines) = ready (text_of (printed (record { setup = setup; steps = [] }) lines))
+
+-- `debug MACHINE SCRIPT`
+abbrev pub debug_task : List ℕ → List ℕ → Task
+debug_task machine script = machine_task machine (λ setup. read Script script text_limit (λ text. by_script setup (script_at setup text)))

@@ -6,11 +6,11 @@ use Rattle.cell_cli.specs.declared.fault.Fault.TheVariants.{Usage}
 use Rattle.cell_cli.specs.declared.fault.FileId.{FileId}
 use Rattle.cell_cli.specs.declared.fault.FileId.TheVariants.{Source}
 use Rattle.cell_cli.specs.declared.words.Form.{Form}
-use Rattle.cell_cli.specs.declared.words.Form.TheVariants.{Run, Check, Asm, Gen, NoForm}
+use Rattle.cell_cli.specs.declared.words.Form.TheVariants.{Run, Check, Asm, Gen, Debug, NoForm}
 use Rattle.cell_io.specs.Store.{Ledger}
 use Rattle.cell_cli.specs.Task.{Task, refuse}
-use Rattle.cell_cli.specs.Forms.{run_task, check_task, asm_task, gen_task}
-use Rattle.cell_cli.specs.Answer.{AtFile, AtMachine, AtMachineOrRecord}
+use Rattle.cell_cli.specs.Forms.{run_task, check_task, asm_task, gen_task, debug_task}
+use Rattle.cell_cli.specs.Answer.{AtFile, AtMachine, AtMachineOrRecord, AtMachineOrScript}
 
 -- what the words say
 pub data Spoken : Type 0 where
@@ -18,6 +18,7 @@ pub data Spoken : Type 0 where
   check : List ℕ → List ℕ → Spoken
   asm : List ℕ → Spoken
   gen : ℕ → Spoken
+  debug : List ℕ → List ℕ → Spoken
   no_form : Spoken
 
 abbrev pub is_word : List ℕ → List ℕ → Bool
@@ -36,7 +37,10 @@ spoken (form ∷ a ∷ []) =
     else if is_word form (codes "asm") then asm a
     else if is_word form (codes "gen") then gen_said (decimal_number a)
     else no_form
-spoken (form ∷ a ∷ b ∷ []) = if is_word form (codes "check") then check a b else no_form
+spoken (form ∷ a ∷ b ∷ []) =
+    if is_word form (codes "check") then check a b
+    else if is_word form (codes "debug") then debug a b
+    else no_form
 spoken (form ∷ a ∷ b ∷ c ∷ more) = no_form
 
 -- what a form that was read says
@@ -45,6 +49,7 @@ said (Run machine) = run machine.now
 said (Check machine record_file) = check machine.now record_file.now
 said (Asm source) = asm source.now
 said (Gen n) = gen n
+said (Debug machine script) = debug machine.now script.now
 said NoForm = no_form
 
 -- they ask for no run
@@ -59,6 +64,7 @@ task_of (run machine) = run_task machine
 task_of (check machine record_file) = check_task machine record_file
 task_of (asm source) = asm_task source
 task_of (gen n) = gen_task n
+task_of (debug machine script) = debug_task machine script
 task_of no_form = refuse Usage
 
 -- the files that may fail, and how, whatever the store tells
@@ -66,4 +72,5 @@ abbrev pub FailsIn : Spoken → FileId → Ledger → Ledger → Type 0
 FailsIn (run machine) file old new = AtMachine machine file old new
 FailsIn (check machine record_file) file old new = AtMachineOrRecord machine record_file file old new
 FailsIn (asm source) file old new = AtFile (Source 0) source file old new
+FailsIn (debug machine script) file old new = AtMachineOrScript machine script file old new
 FailsIn other file old new = ⊥

@@ -30,7 +30,8 @@ fn prepare_asm<T: Store>(alloc: Global, files: &mut T, source: &str) -> Result<V
     Ok(text)
 }
 
-fn write_text<K: Sink>(text: &[u8], out: &mut K) -> Status
+/// Puts a text that is the work.
+pub fn write_text<K: Sink>(text: &[u8], out: &mut K) -> Status
     ensures sink_count { K.faults out.old ≤ K.faults out.new }
     ensures ends { Ends (text_of text.now) (record { taken = K.taken out.old; faults = K.faults out.old }) (record { taken = K.taken out.new; faults = K.faults out.new }) result }
 {

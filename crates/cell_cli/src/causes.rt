@@ -1,9 +1,10 @@
 //! What a refusal of a layer is called here.
 
 ghost use Rattle.std.specs.Prelude.{◌≡◌};
-ghost use Rattle.cell_cli.specs.Causes.{plan_fault_of, source_fault_of, load_fault_of, record_fault_of, replay_fault_of, gen_fault_of, IsOfInput};
+ghost use Rattle.cell_cli.specs.Causes.{plan_fault_of, source_fault_of, load_fault_of, record_fault_of, replay_fault_of, script_fault_of, gen_fault_of, IsOfInput};
 
 use crate::fault::{Fault, FileId};
+use cell_debug::ScriptError;
 use cell_gen::GenError;
 use cell_load::{LoadError, PlanError};
 use run_record::{RecordError, ReplayError};
@@ -56,6 +57,16 @@ pub fn replay_fault(error: ReplayError) -> Fault
     match error {
         ReplayError::NotARun { at } => Fault::NotARun { at },
         ReplayError::Memory => Fault::Memory,
+    }
+}
+
+pub fn script_fault(error: ScriptError) -> Fault
+    ensures same { result ≡ script_fault_of error }
+    ensures input { IsOfInput result }
+{
+    match error {
+        ScriptError::BadLine { line } => Fault::Script { line },
+        ScriptError::Memory => Fault::Memory,
     }
 }
 

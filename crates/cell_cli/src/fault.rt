@@ -13,6 +13,7 @@ pub enum FileId {
     Machine,
     Source(u32),
     Rec,
+    Script,
 }
 
 /// Why the program did nothing. Lines count from 1.
@@ -56,6 +57,10 @@ pub enum Fault {
     TooLarge {
         n: u32,
     },
+    /// The first line of the script that is outside its form.
+    Script {
+        line: u32,
+    },
     Memory,
 }
 
@@ -85,7 +90,8 @@ impl Status {
                 | Fault::Source { .. }
                 | Fault::NotInTable { .. }
                 | Fault::BadRecord { .. }
-                | Fault::TooLarge { .. } => 5,
+                | Fault::TooLarge { .. }
+                | Fault::Script { .. } => 5,
                 Fault::NotARun { .. } | Fault::StatesDiffer { .. } => 6,
                 Fault::Memory => 7,
             },
@@ -111,6 +117,7 @@ impl fmt::Display for FileId {
             FileId::Machine => f.write_str("machine file"),
             FileId::Source(number) => put_number(f, "source ", *number, ""),
             FileId::Rec => f.write_str("record file"),
+            FileId::Script => f.write_str("script file"),
         }
     }
 }
@@ -159,9 +166,9 @@ fn put_word<W: fmt::Write>(
 impl fmt::Display for Fault {
     fn fmt<W: fmt::Write>(&self, f: &mut fmt::Formatter<W>) -> fmt::Result {
         match *self {
-            Fault::Usage => {
-                f.write_str("usage: cell run MACHINE, check MACHINE RECORD, asm SOURCE or gen N")
-            }
+            Fault::Usage => f.write_str(
+                "usage: cell run MACHINE, check MACHINE RECORD, asm SOURCE, gen N or debug MACHINE SCRIPT",
+            ),
             Fault::ReadFault { file } => put_file(f, "cannot read ", file, ""),
             Fault::WriteFault => f.write_str("cannot write"),
             Fault::TooLong { file } => put_file(f, "", file, " is too long"),
@@ -172,6 +179,7 @@ impl fmt::Display for Fault {
             Fault::NotARun { at } => put_number(f, "step ", at, " is not allowed"),
             Fault::StatesDiffer { at } => put_number(f, "states differ at byte ", at, ""),
             Fault::TooLarge { n } => put_number(f, "", n, " is above 64"),
+            Fault::Script { line } => put_number(f, "script file, line ", line, ""),
             Fault::Memory => f.write_str("out of memory"),
         }
     }

@@ -5,6 +5,7 @@ mod asm;
 mod causes;
 mod check;
 mod checking;
+mod debug;
 mod fault;
 mod generated;
 mod program;

@@ -6,6 +6,7 @@ ghost use Rattle.cell_cli.specs.Promises.{Promises};
 
 use crate::asm::asm;
 use crate::check::check;
+use crate::debug::debug;
 use crate::fault::{Fault, Status};
 use crate::generated::run_generated;
 use crate::run::run;
@@ -34,6 +35,7 @@ pub fn cell_quiet<T: Store, K: Sink>(
             record_file,
         } => check(alloc, machine, record_file, files, out),
         Form::Asm { source } => asm(alloc, source, files, out),
+        Form::Debug { machine, script } => debug(alloc, machine, script, files, out),
         Form::Run { .. } | Form::Gen { .. } => unreachable!(),
         Form::NoForm => Status::Refused(Fault::Usage),
     }
@@ -41,8 +43,8 @@ pub fn cell_quiet<T: Store, K: Sink>(
 
 /// Does what the words ask for: reads files, and writes to the sink. Refusals are tried in this order: the words, the machine
 /// file (read, length, form), each source in turn (read, length, assembling), the instruction words, the record file (read, length, form,
-/// steps, states), the output. A check looks for races when nothing of the files refuses; a race is answered once its verdict is written.
-/// Nothing is written before the output.
+/// steps, states) or the script (read, length, form), the output. A check looks for races when nothing of the files refuses; a race is
+/// answered once its verdict is written. Nothing is written before the output.
 pub fn cell<R: Threads + Wait + Sync, T: Store, K: Sink, G: Gate + Sync>(
     rt: &R,
     alloc: Global,

@@ -19,8 +19,8 @@ use cell_machine::Setup;
 use spu_asm::{Image, assemble};
 use std::alloc::Global;
 
-/// How long a machine file or a source may be, in bytes.
-const TEXT_LIMIT: usize = 4_194_304;
+/// How long a machine file, a source or a script may be, in bytes.
+pub const TEXT_LIMIT: usize = 4_194_304;
 
 /// The bytes of a file, unless there are more than `limit`. It is short of memory only where the store was.
 pub fn read_file<T: Store>(

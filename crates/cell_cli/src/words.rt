@@ -22,6 +22,10 @@ pub enum Form<'a> {
     Gen {
         n: u32,
     },
+    Debug {
+        machine: &'a str,
+        script: &'a str,
+    },
     NoForm,
 }
 
@@ -54,6 +58,10 @@ pub fn form_of(words: &[String]) -> Form<'_>
         [form, machine, record_file] if form.as_str() == "check" => Form::Check {
             machine: machine.as_str(),
             record_file: record_file.as_str(),
+        },
+        [form, machine, script] if form.as_str() == "debug" => Form::Debug {
+            machine: machine.as_str(),
+            script: script.as_str(),
         },
         [form, source] if form.as_str() == "asm" => Form::Asm {
             source: source.as_str(),

@@ -15,14 +15,15 @@ use Rattle.cell_machine.specs.Moves.{outstanding}
 use Rattle.std.proofs.lemmas.List.{append-nil, nil_from_length, length-drop, take_more}
 use Rattle.std.proofs.lemmas.Grind.{flat_map-append}
 use Rattle.std.specs.Prelude.{take}
-use Rattle.cell_report.specs.States.{register_line, register_lines, spe_lines, spe_text, spes_text, end_line, host_text, show_line, memory_line, local_line, local_bytes, states_of}
+use Rattle.state_lines.specs.Lines.{end_line, spe_line, show_line}
+use Rattle.cell_report.specs.States.{nonzero_line, register_lines, spe_text, spes_text, host_text, states_of}
 
-pub one_register : (out whole d : List ℕ) (r i : ℕ) (qs : List (List ℕ)) → i < length qs → out ++ register_lines r (drop i qs) ≡ whole → (out ++ register_line r (get_or qs i d)) ++ register_lines (r + 1) (drop (i + 1) qs) ≡ whole
+pub one_register : (out whole d : List ℕ) (r i : ℕ) (qs : List (List ℕ)) → i < length qs → out ++ register_lines r (drop i qs) ≡ whole → (out ++ nonzero_line r (get_or qs i d)) ++ register_lines (r + 1) (drop (i + 1) qs) ≡ whole
 unfolding register_lines
 one_register out whole d r i qs lt so_far =
     let one : suc r ≡ r + 1 = omega arith in
     let next : suc i ≡ i + 1 = omega arith in
-    let here : out ++ register_lines r (drop i qs) ≡ (out ++ register_line r (get_or qs i d)) ++ register_lines (suc r) (drop (suc i) qs) = rw (drop-cons qs i d lt) (sym (append_assoc out (register_line r (get_or qs i d)) (register_lines (suc r) (drop (suc i) qs)))) in
+    let here : out ++ register_lines r (drop i qs) ≡ (out ++ nonzero_line r (get_or qs i d)) ++ register_lines (suc r) (drop (suc i) qs) = rw (drop-cons qs i d lt) (sym (append_assoc out (nonzero_line r (get_or qs i d)) (register_lines (suc r) (drop (suc i) qs)))) in
     rw (← one, ← next) (sym here ∙ so_far)
 
 pub no_register : (out whole : List ℕ) (r i : ℕ) (qs : List (List ℕ)) → length qs ≤ i → out ++ register_lines r (drop i qs) ≡ whole → out ≡ whole
@@ -31,12 +32,15 @@ no_register out whole r i qs le so_far =
     let none : drop i qs ≡ [] = nil_from_length (drop i qs) (omega (arith, length-drop i qs)) in
     sym (append-nil out) ∙ (rw none at so_far)
 
--- the lines of a processor whose parts are these
-pub spe_written : (o : Option Spe) (status : Status) (pc queued : ℕ) (registers : List (List ℕ)) (out new : List ℕ) (p : ℕ)
-    → IsSomeAnd o (λ P. P.status ≡ status) → IsSomeAnd o (λ P. P.pc ≡ pc) → IsSomeAnd o (λ P. queued ≡ length (outstanding P)) → IsSomeAnd o (λ P. P.registers ≡ registers)
-    → new ≡ out ++ spe_lines p status pc queued registers → IsSomeAnd o (λ P. new ≡ out ++ spe_text p P)
-spe_written None status pc queued registers out new p a b n c wrote = absurd a
-spe_written (Some P) status pc queued registers out new p a b n c wrote = rw (a, b, c, ← n) wrote
+-- the lines of a processor, behind its own
+pub spe_written : {X E : Type 0} (r : Result X E) (o : Option Spe) (registers : List (List ℕ)) (out made new : List ℕ) (p : ℕ)
+    → IsSomeAnd o (λ P. made ≡ out ++ spe_line p P.status P.pc (length (outstanding P))) → IsSomeAnd o (λ P. P.registers ≡ registers)
+    → OnOk r (new ≡ made ++ register_lines 0 registers) → OnOk r (IsSomeAnd o (λ P. new ≡ out ++ spe_text p P))
+spe_written (Ok x) None registers out made new p line own wrote = absurd line
+spe_written (Ok x) (Some P) registers out made new p line own wrote =
+    wrote ∙ ap (λ t. t ++ register_lines 0 registers) line ∙ append_assoc out (spe_line p P.status P.pc (length (outstanding P))) (register_lines 0 registers)
+    ∙ ap (λ rs. out ++ (spe_line p P.status P.pc (length (outstanding P)) ++ register_lines 0 rs)) (sym own)
+spe_written (Err e) o registers out made new p line own wrote = wrote
 
 -- the end word, the processors, the host and the ranges
 pub states_written : (o : Option State) (budget : ℕ) (end : Option End) (shows : List Show) (first second third new : List ℕ)
@@ -47,15 +51,6 @@ states_written None budget end shows first second third new is a b c d = absurd 
 states_written (Some M) budget end shows first second third new is a b c d =
     (end, is, d M refl ∙ ap (λ t. t ++ flat_map (show_line M) shows) (c M refl ∙ ap (λ t. t ++ host_text M.host) (b ∙ ap (λ t. t ++ spes_text 0 M.spes) a)))
 
--- the bytes of a processor's store
-pub local_there : (o : Option State) (p at len : ℕ) (store : List ℕ) (M : State) → o ≡ Some M → IsSomeAnd (option_and_then (λ N. slice_get N.spes p) o) (λ P. P.store ≡ store)
-    → slice_range store at (at + len) ≡ local_bytes at len (slice_get M.spes p)
-local_there o p at len store M e h = of_spe (slice_get M.spes p) (rw e at h)
-  where
-    of_spe : (r : Option Spe) → IsSomeAnd r (λ P. P.store ≡ store) → slice_range store at (at + len) ≡ local_bytes at len r
-    of_spe None g = absurd g
-    of_spe (Some P) g = ap (λ s. slice_range s at (at + len)) (sym g)
-
 -- one line more
 pub shows-more : (f : Show → List ℕ) (out made new : List ℕ) (own shows : List Show) (i : ℕ) (d : Show) → i < length own → own ≡ shows
     → made ≡ out ++ flat_map f (take i shows) → new ≡ made ++ f (get_or own i d) → new ≡ out ++ flat_map f (take (i + 1) shows)
@@ -65,23 +60,9 @@ shows-more f out made new own shows i d inside same before wrote =
     wrote ∙ ap (λ t. t ++ f s) before ∙ append_assoc out (flat_map f (take i shows)) (f s)
     ∙ ap (λ t. out ++ t) (ap (λ t. flat_map f (take i shows) ++ t) (sym (append-nil (f s))) ∙ sym (flat_map-append f (take i shows) (s ∷ [])) ∙ ap (flat_map f) (sym more))
 
--- the bytes of main memory
-pub memory_there : (o : Option State) (memory : List ℕ) (M : State) → o ≡ Some M → IsSomeAnd o (λ N. N.memory.bytes ≡ memory) → M.memory.bytes ≡ memory
-memory_there o memory M e h = rw e at h
-
-pub memory_shown : {T E : Type 0} (r : Result T E) (o : Option State) (out new : List ℕ) (at len : ℕ) (memory bytes : List ℕ) (show : Show) → show ≡ Memory at len
-    → IsSomeAnd o (λ M. M.memory.bytes ≡ memory) → bytes ≡ slice_range memory at (at + len)
-    → OnOk r (new ≡ out ++ memory_line at bytes) → OnOk r ((M : State) → o ≡ Some M → new ≡ out ++ show_line M show)
-memory_shown (Ok x) o out new at len memory bytes show is own read wrote = λ M stands.
-    rw is (wrote ∙ ap (λ t. out ++ memory_line at t) (read ∙ ap (λ s. slice_range s at (at + len)) (sym (memory_there o memory M stands own))))
-memory_shown (Err e) o out new at len memory bytes show is own read wrote = wrote
-
-pub local_shown : {T E : Type 0} (r : Result T E) (o : Option State) (out new : List ℕ) (p at len : ℕ) (store bytes : List ℕ) (show : Show) → show ≡ Local p at len
-    → IsSomeAnd (option_and_then (λ N. slice_get N.spes p) o) (λ P. P.store ≡ store) → bytes ≡ slice_range store at (at + len)
-    → OnOk r (new ≡ out ++ local_line p at bytes) → OnOk r ((M : State) → o ≡ Some M → new ≡ out ++ show_line M show)
-local_shown (Ok x) o out new p at len store bytes show is own read wrote = λ M stands.
-    rw is (wrote ∙ ap (λ t. out ++ local_line p at t) (read ∙ local_there o p at len store M stands own))
-local_shown (Err e) o out new p at len store bytes show is own read wrote = wrote
+-- what holds of the state holds of this one
+pub of_state : (o : Option State) (A : State → Type 0) (M : State) → o ≡ Some M → IsSomeAnd o A → A M
+of_state o A M is h = rw is at h
 
 -- the processor at a place of a list
 pub spe_there : (o : Option State) (p : ℕ) (A : Spe → Type 0) (M : State) → o ≡ Some M → IsSomeAnd (option_and_then (λ N. slice_get N.spes p) o) A → (P : Spe) × (slice_get M.spes p ≡ Some P) × A P

@@ -8,7 +8,7 @@ use Rattle.cell_base.specs.declared.steps.Step.TheVariants.{Exec, Piece}
 use Rattle.cell_base.specs.Records.{field, line_feed}
 use Rattle.cell_machine.specs.declared.status.End.{End}
 use Rattle.race_check.specs.declared.check.Verdict.{Verdict}
-use Rattle.cell_report.specs.States.{end_line}
+use Rattle.state_lines.specs.Lines.{end_line}
 use Rattle.cell_report.specs.Verdicts.{verdict_lines}
 
 abbrev pub is_exec : Step → Bool

@@ -9,12 +9,12 @@ ghost use Rattle.cell_report.specs.Verdicts.{NamesSteps};
 ghost use Rattle.cell_report.specs.Summaries.{is_exec, is_piece, memory_words, number_line, summary_of};
 
 use crate::error::TextError;
-use crate::states::put_end;
 use crate::verdict::put_verdict;
 use cell_base::Step;
 use cell_machine::Machine;
 use main_memory::Memory;
 use race_check::Verdict;
+use state_lines::put_end;
 use std::alloc::{AllocError, Global};
 
 /// How many steps are instructions.

@@ -10,7 +10,7 @@ use cell_machine::Machine;
 use std::fs;
 
 /// The actor of a number, of so many processors: these, their flow controllers, the host.
-fn actor(spes: u8, number: u64) -> Actor
+pub fn actor(spes: u8, number: u64) -> Actor
     requires { spes ≤ 16 }
 {
     if number < u64::from(spes) {
@@ -23,7 +23,7 @@ fn actor(spes: u8, number: u64) -> Actor
 }
 
 /// The step that the number chooses: its remainder the actor, and the rest one of its steps. Where the actor has none, the first that is allowed.
-fn chosen(machine: &Machine, number: u64) -> Option<Step> {
+pub fn chosen(machine: &Machine, number: u64) -> Option<Step> {
     let spes = machine.setup().spes();
     let actors = 2 * u64::from(spes) + 1;
     let picked = machine.pick(actor(spes, number % actors), number / actors);

@@ -139,7 +139,7 @@ fn put_mails(out: &mut Text, note: Note, value: u32) {
 }
 
 /// The line of a step, of a processor or a flow controller that stands so after it, or of the host.
-fn put_line(out: &mut Text, made: &Made, own: Option<&Controller>) {
+pub fn put_line(out: &mut Text, made: &Made, own: Option<&Controller>) {
     out.step(made.step);
     put_spans(out, &made.effect);
     if let Some(own) = own {

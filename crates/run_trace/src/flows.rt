@@ -131,7 +131,7 @@ fn put_script(out: &mut Text, machine: &Machine) {
 }
 
 /// Makes the steps, and takes them in.
-fn follow(controllers: &mut Controllers, machine: &mut Machine, steps: &[Step]) -> Result<()> {
+pub fn follow(controllers: &mut Controllers, machine: &mut Machine, steps: &[Step]) -> Result<()> {
     for step in steps {
         controllers.step(machine, *step)?;
     }
@@ -146,6 +146,12 @@ fn print_flows(rt: &HostRuntime, controllers: &Controllers, machine: &Machine) -
     out.print(rt)
 }
 
+/// Prints the states of a machine, and its flow controllers.
+pub fn show_all(rt: &HostRuntime, controllers: &Controllers, machine: &Machine) -> Result<()> {
+    show_states(rt, machine)?;
+    print_flows(rt, controllers, machine)
+}
+
 /// Makes steps, and prints the states of the machine and its flow controllers after them.
 fn show_controllers(
     rt: &HostRuntime,
@@ -154,8 +160,7 @@ fn show_controllers(
     steps: &[Step],
 ) -> Result<()> {
     follow(controllers, machine, steps)?;
-    show_states(rt, machine)?;
-    print_flows(rt, controllers, machine)
+    show_all(rt, controllers, machine)
 }
 
 /// Prints the states and the flow controllers after steps from a machine's start.

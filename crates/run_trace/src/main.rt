@@ -6,9 +6,12 @@
 //! `states MACHINE RECORD STEPS` the states and the flow controllers after the first so many steps; each takes time and memory as the record is long, and
 //! its lines stand in the module of that name. `trace MACHINE RECORD` prints a line for each step, with its effect and all places that are ordered before
 //! it, of which there are as many as pairs of steps. `states MACHINE RECORD` prints the states after all steps of a record. `time MACHINE RECORD` prints how
-//! long it takes to follow a record, alone, with an orderer, and with questions put to it, and to search it for races.
+//! long it takes to follow a record, alone, with an orderer, and with questions put to it, and to search it for races. `go MACHINE RECORD STEPS CHOICES`
+//! makes the first so many steps of a record, and then those that the numbers of a file choose; it prints the effects of these, then what `states` would
+//! print behind them, and then what may be done next.
 #![tactic(auto)]
 
+mod allowed;
 mod answering;
 mod before;
 mod choosing;
@@ -17,6 +20,7 @@ mod controllers;
 mod effects;
 mod flows;
 mod following;
+mod going;
 mod lines;
 mod ordering;
 mod outstanding;
@@ -32,6 +36,7 @@ mod words;
 use answering::print_answer;
 use anyhow::{Error, Result, anyhow};
 use choosing::print_chosen;
+use going::print_going;
 use performing::{Task, perform};
 use std::env;
 use words::{Form, USAGE, form_of};
@@ -51,6 +56,12 @@ fn obey(rt: &HostRuntime, form: Form<'_>) -> Result<()> {
             machine,
             record,
         } => print_answer(rt, question, machine, record),
+        Form::Go {
+            machine,
+            record,
+            steps,
+            choices,
+        } => print_going(rt, machine, record, steps, choices),
     }
 }
 

@@ -5,6 +5,7 @@ ghost use Rattle.std.specs.Prelude.{◌≡◌, []};
 use crate::choosing::{run_alone, run_chosen};
 use crate::effects::show_effects;
 use crate::flows::show_flows;
+use crate::going::go_on;
 use crate::ordering::{Order, show_order};
 use crate::reading::machine_of;
 use crate::showing::show_after;
@@ -39,6 +40,8 @@ pub enum Task<'a> {
     Choose { numbers: &'a str },
     /// These steps, one by one.
     Follow { way: Way, steps: &'a [Step] },
+    /// These steps, and then those that the numbers choose.
+    Go { steps: &'a [Step], numbers: &'a str },
 }
 
 /// Follows steps from a machine's start.
@@ -63,6 +66,7 @@ fn perform_on(rt: &HostRuntime, machine: &mut Machine, task: Task<'_>) -> Result
         Task::Alone => run_alone(rt, machine),
         Task::Choose { numbers } => run_chosen(rt, machine, numbers),
         Task::Follow { way, steps } => follow(rt, way, machine, steps),
+        Task::Go { steps, numbers } => go_on(rt, machine, steps, numbers),
     }
 }
 

@@ -52,7 +52,7 @@ fn register_of(machine: &Machine, spe: u8, r: u8) -> u32 {
 }
 
 /// The word at which a processor is.
-fn next_word(machine: &Machine, spe: u8) -> Option<u32> {
+pub fn next_word(machine: &Machine, spe: u8) -> Option<u32> {
     if spe >= machine.setup().spes() {
         return None;
     }

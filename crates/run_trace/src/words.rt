@@ -4,7 +4,7 @@ use crate::answering::Question;
 
 /// What is said where the words have no form.
 pub const USAGE: &str =
-    "words: alone M, choose M CHOICES, (effects|trace|states|time) M RECORD, (before|states) M RECORD NUMBER";
+    "words: alone M, choose M CHOICES, (effects|trace|states|time) M RECORD, (before|states) M RECORD NUMBER, go M RECORD STEPS CHOICES";
 
 /// What the words ask for. Each name is that of a file.
 #[derive(Clone, Copy)]
@@ -20,6 +20,12 @@ pub enum Form<'a> {
         question: Question,
         machine: &'a str,
         record: &'a str,
+    },
+    Go {
+        machine: &'a str,
+        record: &'a str,
+        steps: u32,
+        choices: &'a str,
     },
 }
 
@@ -87,12 +93,42 @@ fn form_of_four<'a>(
     }
 }
 
+/// The form that goes on behind so many steps of a record.
+fn go<'a>(machine: &'a str, record: &'a str, number: &str, choices: &'a str) -> Option<Form<'a>> {
+    match number.parse::<u32>() {
+        Ok(steps) => Some(Form::Go {
+            machine,
+            record,
+            steps,
+            choices,
+        }),
+        Err(_) => None,
+    }
+}
+
+/// The form of five words, of which the last but one is a number.
+fn form_of_five<'a>(
+    form: &str,
+    machine: &'a str,
+    record: &'a str,
+    number: &str,
+    choices: &'a str,
+) -> Option<Form<'a>> {
+    match form {
+        "go" => go(machine, record, number, choices),
+        _ => None,
+    }
+}
+
 /// The form of the words, if they have one.
 pub fn form_of(words: &[String]) -> Option<Form<'_>> {
     match words {
         [form, machine] => form_of_two(form, machine),
         [form, machine, file] => form_of_three(form, machine, file),
         [form, machine, record, number] => form_of_four(form, machine, record, number),
+        [form, machine, record, number, choices] => {
+            form_of_five(form, machine, record, number, choices)
+        }
         _ => None,
     }
 }

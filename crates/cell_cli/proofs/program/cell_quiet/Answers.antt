@@ -3,7 +3,7 @@ use Rattle.cell_cli.specs.declared.fault.Fault.TheVariants.{Usage}
 use Rattle.cell_cli.specs.declared.fault.Status.TheVariants.{Refused}
 use Rattle.cell_cli.specs.Answer.{Sinks}
 use Rattle.cell_cli.specs.Promises.{Stores}
-use Rattle.cell_cli.specs.Words.{check, asm, no_form}
+use Rattle.cell_cli.specs.Words.{check, asm, debug, no_form}
 use Rattle.cell_cli.proofs.Answered.{no_usage, promised, promised_still}
 use Rattle.cell_cli.proofs.program.cell_quiet.Goals as goal
 
@@ -18,6 +18,12 @@ returns-in-Asm g c =
     let e = c.asm.ensures in
     let said = asm c.in-Asm.source.now in
     promised said _ c.in-Asm.ensures _ _ _ _ _ (λ n is. cc) e.same e.store_count e.sink_count e.answer e.read_fault e.quiet (no_usage said _ (λ is. cc) e.usage)
+
+pub returns-in-Debug : goal.returns-in-Debug
+returns-in-Debug g c =
+    let e = c.debug.ensures in
+    let said = debug c.in-Debug.machine.now c.in-Debug.script.now in
+    promised said _ c.in-Debug.ensures _ _ _ _ _ (λ n is. cc) e.same e.store_count e.sink_count e.answer e.read_fault e.quiet (no_usage said _ (λ is. cc) e.usage)
 
 pub returns-in-NoForm : goal.returns-in-NoForm
 returns-in-NoForm g c =

@@ -1,6 +1,7 @@
 use Rattle.std.proofs.Common.{arith, length, ◌≤◌}
 use Rattle.cell_report.proofs.Texts.{on_ok}
-use Rattle.cell_report.proofs.Lengths.{grown, host-short}
+use Rattle.cell_report.proofs.Lengths.{host-short}
+use Rattle.state_lines.proofs.Lengths.{grown}
 use Rattle.cell_report.proofs.host.put_host.Goals as goal
 
 pub returns-clause-short : goal.returns-clause-short

@@ -1,5 +1,6 @@
 use Rattle.std.proofs.Common.{arith, [], ◌∷◌, codes}
-use Rattle.cell_report.proofs.Lengths.{grown, decimal-four, digits-short}
+use Rattle.state_lines.proofs.Lengths.{grown, digits-short}
+use Rattle.cell_report.proofs.Lengths.{decimal-four}
 use Rattle.cell_report.proofs.host.put_took.Goals as goal
 
 pub returns-clause-short : goal.returns-clause-short

@@ -2,7 +2,7 @@ use Rattle.std.proofs.Common.{◌≡◌, ◌≤◌, ◌+◌, ◌*◌, ◌++◌, 
 use Rattle.std.specs.List.{flat_map}
 use Rattle.cell_machine.specs.State.{State}
 use Rattle.cell_machine.specs.Run.{state_of}
-use Rattle.cell_report.specs.States.{show_line}
+use Rattle.state_lines.specs.Lines.{show_line}
 use Rattle.cell_report.proofs.shows.put_shows.Given as goal
 
 -- the lines so far

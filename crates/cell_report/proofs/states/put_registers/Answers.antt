@@ -1,19 +1,15 @@
 use Rattle.std.proofs.Common.{arith}
-use Rattle.cell_report.specs.States.{register_line}
 use Rattle.cell_report.proofs.Texts.{one_register, no_register}
-use Rattle.cell_report.proofs.Lengths.{grown, register-short}
 use Rattle.cell_report.proofs.states.put_registers.Goals as goal
 
 pub loop-quad-preserved : goal.loop-quad-preserved
 loop-quad-preserved c =
-    let made = c.in_ok-put_register.ensures in
-    let line = register-short c.loop-quad.r c.bytes.result (omega (arith, c.loop-quad.invariant.number, c.loop-quad-test.true, c.requires)) in
-    let longer = grown c.loop-quad.out.items (register_line c.loop-quad.r c.bytes.result) c.put_register.new.out.items _ made line in
     let so_far = c.loop-quad.invariant.short in
+    let longer = c.in_ok-put_nonzero.ensures.short in
     record {
       number = omega arith;
       short = omega (arith, longer, so_far);
-      whole = rw (c.in_ok-put_register.ensures, c.bytes.ensures, c.quad-item.is) (one_register c.loop-quad.out.items _ _ c.loop-quad.r c.loop-quad.quad-index c.args.registers.now c.loop-quad-test.true c.loop-quad.invariant.whole);
+      whole = rw (c.in_ok-put_nonzero.ensures.text, c.quad-item.is) (one_register c.loop-quad.out.items _ _ c.loop-quad.r c.loop-quad.quad-index c.args.registers.now c.loop-quad-test.true c.loop-quad.invariant.whole);
     }
 
 pub returns-clause-text : goal.returns-clause-text

@@ -9,9 +9,9 @@ loop-p-init c = record { text = λ M at. refl; short = omega arith }
 pub loop-p-preserved : goal.loop-p-preserved
 loop-p-preserved c = record {
   text = λ M at.
-      let here = spe_there _ c.loop-p.p _ M at c.in_ok-put_spe.ensures.text in
+      let here = spe_there _ c.loop-p.p _ M at c.in_ok-put_lines.ensures.text in
       rw here.2 (spes_one c.loop-p.out.items _ c.loop-p.p c.loop-p.p here.0 M.spes here.1 (c.loop-p.invariant.text M at));
-  short = let so_far = c.loop-p.invariant.short in let grew = c.in_ok-put_spe.ensures.short in omega (arith, so_far, grew);
+  short = let so_far = c.loop-p.invariant.short in let grew = c.in_ok-put_lines.ensures.short in omega (arith, so_far, grew);
 }
 
 pub returns-clause-text : goal.returns-clause-text

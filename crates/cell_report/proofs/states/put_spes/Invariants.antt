@@ -8,5 +8,5 @@ use Rattle.cell_report.proofs.states.put_spes.Given as goal
 abbrev pub invariant-loop-p : goal.invariant-loop-p
 invariant-loop-p l = record {
   text : (M : State) → state_of l.m ≡ Some M → l.out.items ++ spes_text l.p (drop l.p M.spes) ≡ l.fn.out.items ++ spes_text 0 M.spes;
-  short : length l.out.items ≤ length l.fn.out.items + 4928 * l.p;
+  short : length l.out.items ≤ length l.fn.out.items + 4927 * l.p;
 }

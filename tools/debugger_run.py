@@ -1,0 +1,216 @@
+"""A run as a debugger has it: the steps made so far, those that lie ahead, and how the machine stands behind them.
+
+The list of the steps is all that is kept. The machine is made anew from it at each question, by run_trace.
+"""
+import pathlib
+import re
+
+from language import ROOT
+from order import MEMORY_LINE, Trace
+from records import plain_record, record_text
+from runs import PROGRAM, Refused, ask_tracer, ended, next_step, said_of, tracer_command
+
+SPE = re.compile(r"spe (\d+) (.+) pc 0x([0-9a-f]{5}) queued (\d+)")
+SHOW_LINE = re.compile(rb"^[ \t]*show[ \t].*$", re.M)
+SIZE_LINE = re.compile(rb"^[ \t]*lines[ \t]+(\w+)", re.M)
+MOST_SHOWN = 4096  # bytes of a `show` line
+KEPT_STATES = 8
+EMPTY_RECORD = "cell: record file, line 1"  # what `cell` says of an empty record, behind a machine file that is right
+
+
+class Spe:
+    """How a processor stands."""
+
+    def __init__(self, number, status, pc, queued):
+        self.number, self.status, self.pc, self.queued = number, status, pc, queued
+        self.registers, self.word = {}, None
+
+    @property
+    def runs(self):
+        return self.status == "running"
+
+    def register(self, number):
+        """The hexadecimal digits of a register."""
+        return self.registers.get(number, "0" * 32)
+
+
+class State:
+    """How a machine stands, from the lines that run_trace prints of it."""
+
+    def __init__(self, lines):
+        self.end, self.spes, self.host, self.took = None, [], (0, 0), []
+        self.shown, self.flows, self.may = [], [], []
+        for line in lines:
+            self.read(line)
+
+    def read(self, line):
+        word, _, rest = line.partition(" ")
+        words = rest.split()
+        if word == "end":
+            self.end = rest
+        elif word == "spe":
+            number, status, pc, queued = SPE.fullmatch(line).groups()
+            self.spes.append(Spe(int(number), status, int(pc, 16), int(queued)))
+        elif word == "host":
+            self.host = int(words[0]), int(words[2])
+        elif word == "took":
+            self.took.append(line)
+        elif word in ("ls", "mem"):
+            self.shown.append(bytes.fromhex(words[-1]))
+        elif word in ("flow", "command"):
+            self.flows.append((int(words[0]), line))
+        elif word == "at":
+            self.spes[int(words[0])].word = int(words[1])
+        elif word == "may":
+            self.may.append(rest)
+        elif re.fullmatch(r"r\d+", word):
+            self.spes[-1].registers[int(word[1:])] = rest
+
+    def actors(self):
+        """The actors by their numbers for choices, each as the beginning of its steps' lines."""
+        return [("x", spe.number) for spe in self.spes] + [("m", spe.number) for spe in self.spes] + [("h", None)]
+
+    def allowed(self, actor):
+        """The steps that an actor may make, in the order of their numbers for choices."""
+        return [step for step in self.may if actor_of(step) == actor]
+
+    def choice(self, step):
+        """The number that chooses a step; None where it isn't allowed."""
+        if step not in self.may:
+            return None
+        actors, actor = self.actors(), actor_of(step)
+        return actors.index(actor) + len(actors) * self.allowed(actor).index(step)
+
+
+def actor_of(step):
+    """Who makes a step: a kind, as in the scripts of `cell debug`, and a processor."""
+    letter, *numbers = step.split()
+    if letter == "h":
+        return "h", None
+    return "x" if letter == "x" else "m", int(numbers[0])
+
+
+def refuse_machine(machine):
+    """Refused where `cell` refuses the machine file: it is asked about an empty record."""
+    said = said_of(ended([ROOT / "cell", "check", machine, "/dev/null"]))
+    if said != EMPTY_RECORD:
+        raise Refused(said + next_step(said, machine, ""))
+
+
+class Run:
+    """The steps of a run, up to `place` made and from there on ahead."""
+
+    def __init__(self, machine, folder):
+        refuse_machine(machine)
+        self.machine, self.folder = machine, pathlib.Path(folder)
+        self.text = SHOW_LINE.sub(b"", pathlib.Path(machine).read_bytes())
+        self.memory = MEMORY_LINE * int(SIZE_LINE.search(self.text)[1], 0)
+        self.trace, self.heads, self.place = Trace([]), [], 0
+        self.other = None  # where steps were last left for others, and those that lay ahead there
+        self.states, self.is_written, self.is_built = {}, False, False
+        self.spes = len(self.state().spes)
+
+    def follow(self, record):
+        """Takes all steps of a record as those ahead."""
+        self.extend(ask_tracer("effects", self.machine, record))
+
+    # ---- the steps
+
+    def extend(self, lines):
+        self.trace.extend(lines)
+        self.heads += [line.partition(" | ")[0] for line in lines]
+        self.is_written = False
+
+    def cut(self):
+        """Leaves the steps that lie ahead, and keeps them in mind."""
+        self.other = self.place, self.lines()
+        self.trace.cut(self.place)
+        del self.heads[self.place:]
+        self.states = {place: state for place, state in self.states.items() if place <= self.place}
+        self.is_written = False
+
+    def swap(self):
+        """Goes back to where steps were last left for others, and lays them ahead again."""
+        self.place, lines = self.other
+        self.cut()
+        self.extend(lines)
+
+    @property
+    def ahead(self):
+        """How many steps lie ahead."""
+        return len(self.heads) - self.place
+
+    @property
+    def next_head(self):
+        """The next step that lies ahead; None where none does."""
+        return self.heads[self.place] if self.ahead else None
+
+    def lines(self, most=None):
+        """The steps that lie ahead, with their effects."""
+        end = None if most is None else self.place + most
+        return self.trace.lines[self.place:end]
+
+    def take(self, lines, state=None):
+        """Makes these steps, behind which the machine stands so. What lies ahead stays where it begins with them."""
+        end = self.place + len(lines)
+        if self.trace.lines[self.place:end] != lines:
+            if self.ahead:
+                self.cut()
+            self.extend(lines)
+        self.place = end
+        if state:
+            self.keep(end, state)
+
+    def record(self):
+        """The record of the steps made so far."""
+        return record_text(self.heads[:self.place])
+
+    # ---- the machine
+
+    def keep(self, place, state):
+        self.states[place] = state
+        while len(self.states) > KEPT_STATES:
+            del self.states[next(iter(self.states))]
+
+    def state(self, place=None):
+        """How the machine stands behind so many steps, now where no number is given."""
+        place = self.place if place is None else place
+        if place not in self.states:
+            self.keep(place, self.ask(place)[1])
+        return self.states[place]
+
+    def bytes_of(self, span, place=None):
+        """Bytes as they stand behind so many steps."""
+        where = "mem" if span.spe is None else f"ls {span.spe}"
+        parts = [(span.at + k, min(MOST_SHOWN, span.size - k)) for k in range(0, span.size, MOST_SHOWN)]
+        place = self.place if place is None else place
+        state = self.ask(place, shows=[f"show {where} 0x{at:x} {size}" for at, size in parts])[1]
+        self.keep(place, state)
+        return b"".join(state.shown)
+
+    def make(self, numbers):
+        """The steps that numbers choose from here, with their effects, and how the machine stands behind them. They aren't taken yet."""
+        return self.ask(self.place, numbers)
+
+    def ask(self, place, numbers=(), shows=()):
+        """What run_trace tells behind so many steps, if then the steps are made that numbers choose: their effects, and the state."""
+        machine, record, choices = (self.folder / name for name in ("machine", "record", "choices"))
+        machine.write_bytes(self.text + "\n".join(["", *shows, ""]).encode())
+        choices.write_text("\n".join(map(str, numbers)))
+        if not self.is_written:
+            record.write_text(plain_record(self.heads))
+            self.is_written = True
+        command, how = self.command(["go", str(machine), str(record), str(place), str(choices)])
+        done = ended(command, **how)
+        effects, mark, state = ("\n" + done.stdout).partition("\nend ")
+        if done.returncode or not mark:
+            raise Refused(f"run_trace: {said_of(done)}")
+        return effects.splitlines()[1:], State(("end " + state).splitlines())
+
+    def command(self, words):
+        """The command that asks run_trace; whether it is built is looked at once."""
+        if self.is_built:
+            return [PROGRAM, *words], {}
+        command, how = tracer_command(self.machine, words)
+        self.is_built = command[0] == PROGRAM
+        return command, how

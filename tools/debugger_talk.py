@@ -1,0 +1,97 @@
+"""Reads a debugger's commands, from a terminal or from a script, and prints its answers."""
+import os
+import sys
+
+from debugger_help import COMMANDS
+from debugger_places import Wrong
+from runs import Refused
+
+REPEATED = {"step", "next", "back", "s", "n"}  # commands that an empty line at a terminal repeats
+DELIMITERS = " \t"
+
+
+def words_to_complete(debugger):
+    """What may stand in a command."""
+    labels = {label for of_one in debugger.sites.labels for label in of_one}
+    paths = {site.file for sites in debugger.sites.of_processor for site in sites.values()}
+    files = {f"{name}:" for path in paths for name in (path, os.path.basename(path))}
+    actors = [f"{kind}{spe}" for spe in range(debugger.run.spes) for kind in "xm"] + ["h"]
+    return sorted({*labels, *files, *actors, *(f"${number}" for number in range(128)), "mem", "ls", "pc"})
+
+
+def completer(debugger, readline):
+    """What completes the word that is being typed: a command where it is the first."""
+    others = words_to_complete(debugger)
+
+    def complete(text, number):
+        choices = others if readline.get_begidx() else list(COMMANDS)
+        return [*(word for word in choices if word.startswith(text)), None][number]
+
+    return complete
+
+
+def prepare_terminal(debugger):
+    """Lets Python's own line editing complete words and keep a history, where it is there."""
+    try:
+        import readline
+    except ImportError:
+        return
+    readline.set_completer_delims(DELIMITERS)
+    readline.set_completer(completer(debugger, readline))
+    readline.parse_and_bind("tab: complete")
+
+
+def typed(debugger):
+    """The lines of a terminal; an empty one repeats a step."""
+    prepare_terminal(debugger)
+    before = ""
+    while True:
+        try:
+            line = input(debugger.prompt())
+        except (EOFError, KeyboardInterrupt):
+            print()
+            return
+        if line.strip():
+            before = line
+        elif not before.split() or before.split()[0] not in REPEATED:
+            continue
+        yield before
+
+
+def given(debugger):
+    """The lines of a script, which are printed as they come."""
+    for line in sys.stdin:
+        print(f"{debugger.prompt()}{line.rstrip()}")
+        yield line
+
+
+def answered(debugger, line):
+    """Prints the answer to a line, and says whether it was right."""
+    try:
+        print(*(f"{said}\n" for said in debugger.obey(line)), sep="", end="", flush=True)
+    except (Wrong, Refused) as why:
+        print(why, flush=True)
+        return False
+    except OSError as why:
+        print(f"{why.filename}: {why.strerror}", flush=True)
+        return False
+    return True
+
+
+def talk(debugger):
+    """A session, with its exit status."""
+    is_terminal = sys.stdin.isatty()
+    status = 0
+    if is_terminal:
+        print("`help` tells the commands")
+        answered(debugger, "where")
+    for line in typed(debugger) if is_terminal else given(debugger):
+        try:
+            status |= not answered(debugger, line)
+        except KeyboardInterrupt:
+            print(f"interrupted: {debugger.run.place} steps are made", flush=True)
+            if not is_terminal:
+                return 130
+        if debugger.is_over:
+            break
+    return 0 if is_terminal else status

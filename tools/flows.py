@@ -1,0 +1,89 @@
+"""Says in words what the flow controllers and mailboxes of a run hold, from the lines that run_trace prints of them."""
+from order import Command
+from words import ATOMIC, ATOMIC_LINE, BOXES, name_of, tags
+
+HOW = {"0": "at once", "1": "any"}
+STATUSES = {"0": "PUTLLC stored", "1": "PUTLLC lost its line", "2": "PUTLLUC", "4": "GETLLAR"}
+
+
+def fields_of(line):
+    """The first field of a line of run_trace, and the others by their names."""
+    first, *fields = (field.split() for field in line.split(" | "))
+    return first, {name: words for name, *words in fields}
+
+
+def flow_lines(told):
+    """A flow controller beside its outstanding commands, in words."""
+    lsa, high, low, size, tag = map(int, told["params"])
+    yield f"next command: LSA 0x{lsa:x}, EAH 0x{high:x}, EAL 0x{low:x}, size {size}, tag {tag}"
+    yield f"tag mask: {groups_of(told['mask'][0])}"
+    if "request" in told:
+        how, groups = told["request"]
+        yield f"pending tag request: {HOW.get(how, 'all')} {tags(int(groups))}"
+    if "fixed" in told:
+        groups, issued = told["fixed"]
+        yield f"unread tag status: {groups_of(groups)}, fixed when {issued} commands had been issued"
+    if "stalls" in told:
+        yield f"unread stall status: {groups_of(told['stalls'][0])}"
+    if "atomic" in told:
+        kind, lsa, line = told["atomic"]
+        yield f"atomic command in its slot: {ATOMIC[kind]} of {line_name(line)}, 0x{int(lsa):x} of the store"
+    if "status" in told:
+        status = told["status"][0]
+        yield f"unread atomic status: {status}, {STATUSES.get(status, 'unknown')}"
+    if "reserved" in told:
+        line, state = told["reserved"]
+        yield f"reservation: of {line_name(line)}, {'held' if state == 'held' else 'lost: a store has touched it since'}"
+    for box in (box for box in BOXES if box in told):
+        yield f"{BOXES[box].removeprefix('the ')}: {', '.join(f'0x{int(value):x}' for value in told[box])}"
+
+
+def groups_of(groups):
+    return f"0x{int(groups):08x}, {tags(int(groups))}"
+
+
+def line_name(number):
+    return f"the line at 0x{int(number) * ATOMIC_LINE:x}"
+
+
+def command_line(words, told):
+    """An outstanding command in words."""
+    spe, number, kind, mark, *rest = words
+    command = Command(int(spe), int(number), kind, mark, *map(int, rest))
+    return f"command {number}: {name_of(command)} of tag {command.tag}{moved(command)}{', '.join(['', *left_of(told)])}"
+
+
+def moved(command):
+    """From where to where a command moves bytes."""
+    if command.kind == "barrier":
+        return ""
+    if command.kind in ("putl", "getl"):
+        return f", a list of {command.size} bytes at 0x{command.ea:x} of the store, elements from 0x{command.ls:x} on"
+    store, memory = f"0x{command.ls:x} of the store", f"0x{command.ea:x} of main memory"
+    source, target = (store, memory) if command.kind == "put" else (memory, store)
+    return f", {command.size} bytes from {source} to {target}"
+
+
+def left_of(told):
+    """What is left of an outstanding command."""
+    if "read" in told:
+        yield "{} of {} elements read".format(*told["read"])
+    left, parts = told.get("left", ("0", "0"))
+    if "element" in told:
+        number, _, flagged, memory, size = told["element"]
+        stalls = ", behind which it stalls" if flagged == "1" else ""
+        yield f"{left} of {parts} pieces left of element {number} ({size} bytes at 0x{int(memory):x} of main memory{stalls})"
+    elif parts != "0":
+        yield f"{left} of {parts} pieces left"
+    if "stalled" in told:
+        yield "stalled: it waits for an acknowledgement of its tag (`wrch` of channel 26)"
+
+
+def in_words(line):
+    """A line of run_trace about a flow controller, a command or the host's script, in words; every other as it is."""
+    if not line.startswith(("flow ", "command ", "script ")):
+        return [line]
+    (name, *words), told = fields_of(line)
+    if name == "flow":
+        return [f"flow controller {words[0]}", *(f"    {said}" for said in flow_lines(told))]
+    return [f"    {command_line(words, told)}"] if name == "command" else []
