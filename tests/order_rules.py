@@ -1,13 +1,18 @@
-"""Which pairs of a run's steps the rules of tools/order.py order, directly and by chains, and which of them race. Nothing here is fast: every rule looks at every pair."""
+"""Which pairs of a run's steps docs/ORDER.md orders, directly and by chains, and which of them race: the rules told once more beside tools/order.py, each as a
+look at one pair of places. Nothing here is fast: every rule looks at every pair.
+"""
 import pathlib
+import re
 import sys
 
 sys.path.insert(0, str(pathlib.Path(__file__).resolve().parent.parent / "tools"))
 sys.dont_write_bytecode = True
 
 from debug_text import Step  # noqa: E402, F401  (of what `trace` prints, for tests that compare it with `effects`)
-from order import RULES, Trace, shared_bytes  # noqa: E402
+from effects import Trace, has_group, mailbox, shared_bytes  # noqa: E402
 from records import steps_in  # noqa: E402, F401
+
+INBOX_PLACES, OTHER_PLACES = 4, 1
 
 
 def trace_of_lines(lines):
@@ -16,6 +21,155 @@ def trace_of_lines(lines):
     trace.steps = list(trace.steps)
     return trace
 
+
+def precedes(first, second):
+    """Whether a command goes before a later one of its processor, by their tags and marks."""
+    same_tag = first.tag == second.tag
+    return same_tag and second.mark in ("fence", "barrier") or same_tag and first.mark == "barrier" or "barrier" in (first.kind, second.kind)
+
+
+def goes_before(t, spe, c, d):
+    """Whether command c of a processor goes before its command d, by the flow controller's rules."""
+    first, second = t.commands.get((spe, c)), t.commands.get((spe, d))
+    return first is not None and second is not None and c < d and precedes(first, second)
+
+
+def finished_flagged(t, spe, c, place):
+    """The numbers of the flagged elements of a list of which all pieces are done before the place."""
+    done = []
+    for number, at in enumerate(t.elements.get((spe, c), [])):
+        element = t.steps[at].element_read() if at < place else None
+        if element and element.flagged:
+            line = re.compile(rf"p {spe} {c} {number} ")
+            pieces = sum(bool(line.match(text)) for text in t.lines[at:place])
+            if pieces == element.parts:
+                done.append(number)
+    return done
+
+
+def resumed_by(t, place):
+    """The commands that the acknowledgement at the place lets go on."""
+    ack = t.steps[place]
+    return [c for (spe, c), command in t.commands.items()
+            if spe == ack.spe and command.tag == ack.number("ack") and is_stalled(t, spe, c, place)]
+
+
+def is_stalled(t, spe, c, place):
+    """Whether the list waits for an acknowledgement before the place: its last element read is flagged and finished, and since then none came."""
+    read = [at for at in t.elements.get((spe, c), []) if at < place]
+    done = finished_flagged(t, spe, c, place)
+    if not read or len(read) - 1 not in done:
+        return False
+    since = next(k for k in range(place + 1) if len(read) - 1 in finished_flagged(t, spe, c, k))
+    tag = t.commands[spe, c].tag
+    return not any(s.is_instruction_of(spe, "ack") and s.number("ack") == tag for s in t.steps[since:place])
+
+
+def nth(t, place, which):
+    """How many values went into, or out of, the mailbox of the step at the place before it."""
+    box = mailbox(t.steps[place])
+    return sum(mailbox(t.steps[k]) == box for k in t.with_field(which, 0, place))
+
+
+# ---- the rules: whether the step at place i of a trace is ordered directly before that at the later place j
+
+def program(t, i, j):
+    return t.steps[j].kind == "instruction" and t.steps[i].is_instruction_of(t.steps[j].spe)
+
+
+def script(t, i, j):
+    return t.steps[i].kind == t.steps[j].kind == "host"
+
+
+def issued(t, i, j):
+    command = t.steps[i].issued()
+    return command is not None and t.steps[j].command_key() == (command.spe, command.number)
+
+
+def atomic_issued(t, i, j):
+    spe = t.steps[j].spe
+    return (t.steps[j].kind == "atomic" and t.steps[i].is_instruction_of(spe, "atomic")
+            and not any(line.startswith(f"a {spe} ") for line in t.lines[i:j]))
+
+
+def next_atomic(t, i, j):
+    return t.steps[i].kind == "atomic" and t.steps[j].is_instruction_of(t.steps[i].spe, "atomic")
+
+
+def atomic_seen(t, i, j):
+    return t.steps[i].kind == "atomic" and t.steps[j].is_instruction_of(t.steps[i].spe, "atomicread")
+
+
+def line(t, i, j):
+    return bool(t.whole_lines(i) & t.whole_lines(j))
+
+
+def passed(t, i, j):
+    return ("put" in t.steps[i].told and "take" in t.steps[j].told and mailbox(t.steps[i]) == mailbox(t.steps[j])
+            and nth(t, i, "put") == nth(t, j, "take"))
+
+
+def place_free(t, i, j):
+    if "take" not in t.steps[i].told or "put" not in t.steps[j].told or mailbox(t.steps[i]) != mailbox(t.steps[j]):
+        return False
+    places = INBOX_PLACES if mailbox(t.steps[j])[1] == "in" else OTHER_PLACES
+    return nth(t, i, "take") + places == nth(t, j, "put")
+
+
+def finished(t, i, j):
+    return "ended" in t.steps[i].told and "awaited" in t.steps[j].told and t.steps[i].spe == t.steps[j].number("awaited")
+
+
+def queue(t, i, j):
+    c, d = t.steps[i].command_key(), t.steps[j].command_key()
+    return bool(c and d) and c[0] == d[0] and goes_before(t, c[0], c[1], d[1])
+
+
+def element_piece(t, i, j):
+    return t.steps[i].kind == "element" and t.steps[j].kind == "piece" and t.element_of(i) == t.element_of(j)
+
+
+def next_element(t, i, j):
+    if t.steps[j].kind != "element" or t.element_of(i) is None:
+        return False
+    (p, c, n), later = t.element_of(i), t.element_of(j)
+    return (p, c, n + 1) == later
+
+
+def stall_seen(t, i, j):
+    element = t.element_of(i)
+    if element is None or not t.steps[j].is_instruction_of(element[0], "stalls"):
+        return False
+    spe, c, number = element
+    return has_group(t.steps[j].number("stalls"), t.commands[spe, c].tag) and number in finished_flagged(t, spe, c, j)
+
+
+def resumed(t, i, j):
+    d = t.steps[j].command_key()
+    return "ack" in t.steps[i].told and d is not None and d[0] == t.steps[i].spe and d[1] in resumed_by(t, i)
+
+
+def resumed_earlier(t, i, j):
+    d = t.steps[j].command_key()
+    return "ack" in t.steps[i].told and d is not None and d[0] == t.steps[i].spe and any(goes_before(t, d[0], c, d[1]) for c in resumed_by(t, i))
+
+
+def tag_seen(t, i, j):
+    c = t.steps[i].command_key()
+    if c is None or not t.steps[j].is_instruction_of(c[0], "tags"):
+        return False
+    groups, fixed_at = map(int, t.steps[j].told["tags"])
+    return has_group(groups, t.commands[c].tag) and c[1] < fixed_at
+
+
+RULES = {
+    "Program": program, "Script": script, "Issued": issued, "AtomicIssued": atomic_issued, "NextAtomic": next_atomic, "AtomicSeen": atomic_seen,
+    "Line": line, "Passed": passed, "PlaceFree": place_free, "Finished": finished, "Queue": queue, "ElementPiece": element_piece,
+    "NextElement": next_element, "StallSeen": stall_seen, "Resumed": resumed, "ResumedEarlier": resumed_earlier, "TagSeen": tag_seen,
+}
+
+
+# ---- what follows from them
 
 def edges(trace):
     """Of each pair of places that a rule orders directly, the names of these rules."""

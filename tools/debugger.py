@@ -6,7 +6,7 @@ from debugger_places import MOST, MOST_STEPS, PLAIN_SIZE, STORE, Places, Wrong, 
 from debugger_run import actor_of
 from debugger_stops import Behind, Break, Watch, first_stop
 from debugger_words import ENDS, Words, counted, dump, quad
-from order import Span
+from effects import Span
 from sites import sets_link
 
 CHUNKS = (1000, 10_000, 100_000)  # steps that are made at a time, the last from there on

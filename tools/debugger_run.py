@@ -6,7 +6,7 @@ import pathlib
 import re
 
 from language import ROOT
-from order import MEMORY_LINE, Trace
+from effects import MEMORY_LINE, Trace
 from records import plain_record, record_text
 from runs import PROGRAM, Refused, ask_tracer, ended, next_step, said_of, tracer_command
 

@@ -1,5 +1,5 @@
 """Says in words what the flow controllers and mailboxes of a run hold, from the lines that run_trace prints of them."""
-from order import Command
+from effects import Command
 from words import ATOMIC, ATOMIC_LINE, BOXES, name_of, tags
 
 HOW = {"0": "at once", "1": "any"}

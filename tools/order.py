@@ -1,307 +1,367 @@
-"""A run's steps with their effects, as `run_trace effects` prints them, and what orders two of them, rule by rule: docs/ORDER.md in plain Python.
+"""What orders the steps of a run: docs/ORDER.md as a graph of which the paths are the order, made in one pass over the run.
 
-A rule looks at one pair of places. It says what it orders directly; the order is the closure.
+A node is a step, by its place, or a set of nodes, by a number below 0: the steps of a command, the commands of a tag so far, and so on. A rule leads from a
+step to the nodes that it orders directly before that step; so each step has few edges, however many steps a set has. That the steps of a program come one
+after the other (Program, and of the host Script) has no edges: each program is a chain, of which all before a step is told by one place.
 """
+import array
+import bisect
 import collections
-import re
 
-# Bytes that a step touches: the processor whose store they are in or None for main memory, the first, and how many.
-Span = collections.namedtuple("Span", "spe at size")
-# What a queued command asks for: of a list `ea` is the list's address in the store, and `size` its bytes.
-Command = collections.namedtuple("Command", "spe number kind mark tag ls high ea size")
-Element = collections.namedtuple("Element", "number parts flagged ea size")
+from effects import MEMORY_LINE, mailbox
 
-KINDS = {"x": "instruction", "p": "piece", "e": "element", "r": "retirement", "a": "atomic", "h": "host"}
-OF_COMMANDS = ("piece", "element", "retirement")
+RULES = ("Program", "Script", "Issued", "AtomicIssued", "NextAtomic", "AtomicSeen", "Line", "Passed", "PlaceFree", "Finished", "Queue", "ElementPiece",
+         "NextElement", "StallSeen", "Resumed", "ResumedEarlier", "TagSeen")
 INBOX_PLACES, OTHER_PLACES = 4, 1
-MEMORY_LINE = 128
+HOST, NO_CHAIN = -1, -2  # the chain of the host, and what a step of a flow controller has; that of a processor is its number
 
 
-class Step:
-    """A step with its effect: what it is, the bytes that it fetches, reads and writes, and `told`, its other fields by their names."""
+class Member:
+    """A command as the rules see it: its steps as a set, the acknowledgements that let it go on, and what is ordered before each of its next steps."""
 
-    def __init__(self, line):
-        first, *fields = line.split(" | ")
-        letter, *numbers = first.split()
-        self.line, self.kind = first, KINDS[letter]
-        numbers = [int(number) for number in numbers] + [None] * 4
-        self.spe, self.command, self.element, self.part = numbers[:4]
-        told = {name: words for name, *words in map(str.split, fields)}
-        self.fetch, self.reads, self.writes = (span_of(told.pop(name, None)) for name in ("fetch", "read", "write"))
-        self.told = told
-
-    def number(self, name, place=0):
-        """A number of a field; None where the step has no such field."""
-        return int(self.told[name][place]) if name in self.told else None
-
-    def spans(self):
-        """What the step does to which bytes."""
-        ways = (("fetches", self.fetch), ("reads", self.reads), ("writes", self.writes))
-        return [(way, span) for way, span in ways if span]
-
-    def is_instruction_of(self, spe, field=None):
-        return self.kind == "instruction" and self.spe == spe and (field is None or field in self.told)
-
-    def command_key(self):
-        """The processor and number of the command of which this is a step, if it is of one."""
-        return (self.spe, self.command) if self.kind in OF_COMMANDS else None
-
-    def issued(self):
-        """The command that this step issues, if it issues one."""
-        if "issue" not in self.told or self.kind != "instruction":
-            return None
-        number, kind, mark, *rest = self.told["issue"]
-        return Command(self.spe, int(number), kind, mark, *map(int, rest))
-
-    def element_read(self):
-        """The element of a list that this step reads; None where it reads none, or a faulty one."""
-        if "element" not in self.told:
-            return None
-        number, parts, flagged, ea, size = map(int, self.told["element"])
-        return Element(number, parts, bool(flagged), ea, size)
+    def __init__(self, command, steps, acks):
+        self.command, self.steps, self.acks = command, steps, acks
+        self.entry = []         # the edges of each next step
+        self.stalls = []        # the steps behind which it stalled
+        self.acks_so_far = None
+        self.elements = []      # of a list, the set of the steps of each element that was read
+        self.pieces_left = 0    # of the element that was read last
+        self.flagged = False
 
 
-def span_of(words):
-    if words is None:
-        return None
-    place, at, size = words
-    return Span(None if place == "mem" else int(place), int(at), int(size))
+class Flow:
+    """What the rules look back at of one flow controller: sets of commands so far, each a pair of the set of their steps and of their acknowledgements."""
+
+    def __init__(self):
+        self.of_tag = {}        # by tag: the numbers of its commands, and behind each command the pair of all so far
+        self.barred = {}        # by tag: those that have a barrier
+        self.all = self.barriers = (None, None)
+        self.stalled = {}       # by tag: the lists that wait for an acknowledgement
+        self.finished = {}      # by tag: the set of the steps of the flagged elements that are finished
+        self.atomics = self.atomic_issue = None
 
 
-class Steps(collections.abc.Sequence):
-    """The steps of the lines of `run_trace effects`, each made when it is first asked for."""
+class Order:
+    """The order of the steps of a run."""
 
-    def __init__(self, lines):
-        self.lines, self.made = lines, {}
+    def __init__(self, trace):
+        self.trace, self.count = trace, len(trace.lines)
+        self.chains = array.array("b")  # of each step the chain that it is one of
+        self.edges, self.sets = {}, []  # of a step (node, rule) pairs; of the set -n, at n - 1, its nodes
+        self.special = collections.defaultdict(list)  # of each chain, the places of its steps that have edges
+        self.commands = {}  # (processor, number): the command with its sets
+        self.flows = collections.defaultdict(Flow)
+        self.on_line, self.put, self.taken, self.ended = {}, {}, {}, {}
+        for place, line in enumerate(trace.lines):
+            self.look_at(place, line)
+        del self.flows, self.on_line, self.put, self.taken, self.ended
 
-    def __len__(self):
-        return len(self.lines)
+    # ---- the graph
 
-    def __getitem__(self, place):
-        if isinstance(place, slice):
-            return [self[k] for k in range(*place.indices(len(self)))]
-        if place < 0:
-            place += len(self)
-        if place not in self.made:
-            self.made[place] = Step(self.lines[place])
-        return self.made[place]
+    def look_at(self, place, line):
+        """Adds what the rules order before a step."""
+        letter = line[0]
+        self.chains.append(int(line.split(" ", 2)[1]) if letter == "x" else HOST if letter == "h" else NO_CHAIN)
+        if letter in "xh":
+            if line.count("|") > (letter == "x"):  # an instruction that only fetches has one field
+                self.of_program(place, line)
+        elif letter == "p":
+            self.of_piece(place, line)
+        else:
+            self.of_flow(place, letter)
+
+    def new_set(self, *nodes):
+        """A set of the nodes that there are among these."""
+        self.sets.append([node for node in nodes if node is not None])
+        return -len(self.sets)
+
+    def lead(self, place, rule, *nodes):
+        """Puts nodes before a step by a rule."""
+        found = [(node, rule) for node in nodes if node is not None]
+        if found:
+            self.edges.setdefault(place, []).extend(found)
+
+    # ---- instructions and actions of the host
+
+    def of_program(self, place, line):
+        told = {name: words for name, *words in map(str.split, line.split(" | ")[1:])}
+        chain = self.chains[place]
+        for name in told:
+            rule = BY_FIELD.get(name)
+            if rule:
+                rule(self, place, chain, told[name])
+        if place in self.edges:
+            self.special[chain].append(place)
+
+    def issue(self, place, spe, _):
+        """Issued, and what Queue will lead from."""
+        command, flow = self.trace.steps[place].issued(), self.flows[spe]
+        member = Member(command, self.new_set(), self.new_set())
+        before = self.waits(flow, command)
+        member.entry = [(place, "Issued")]
+        member.entry += [(steps, "Queue") for steps, _ in before if steps is not None]
+        member.entry += [(acks, "ResumedEarlier") for _, acks in before if acks is not None]
+        self.commands[spe, command.number] = member
+        self.join(flow, member)
+
+    def waits(self, flow, command):
+        """The earlier commands that go before one: docs/ORDER.md, Queue."""
+        marked = command.mark in ("fence", "barrier")
+        of_tag = flow.of_tag[command.tag][1][-1] if command.tag in flow.of_tag else (None, None)
+        return (of_tag if marked else flow.barred.get(command.tag, (None, None)), flow.all if command.kind == "barrier" else flow.barriers)
+
+    def join(self, flow, member):
+        """Counts a command among those of its tag, of its mark and of its kind."""
+        command = member.command
+        numbers, pairs = flow.of_tag.setdefault(command.tag, ([], []))
+        numbers.append(command.number)
+        pairs.append(self.with_member(pairs[-1] if pairs else (None, None), member))
+        flow.all = self.with_member(flow.all, member)
+        if command.mark == "barrier":
+            flow.barred[command.tag] = self.with_member(flow.barred.get(command.tag, (None, None)), member)
+        if command.kind == "barrier":
+            flow.barriers = self.with_member(flow.barriers, member)
+
+    def with_member(self, pair, member):
+        return self.new_set(pair[0], member.steps), self.new_set(pair[1], member.acks)
+
+    def tag_status(self, place, spe, words):
+        """TagSeen."""
+        groups, issued = map(int, words)
+        for tag, (numbers, pairs) in self.flows[spe].of_tag.items():
+            count = bisect.bisect_left(numbers, issued)
+            if groups >> tag & 1 and count:
+                self.lead(place, "TagSeen", pairs[count - 1][0])
+
+    def stall_status(self, place, spe, words):
+        """StallSeen."""
+        finished = self.flows[spe].finished
+        self.lead(place, "StallSeen", *(finished[tag] for tag in sorted(finished) if int(words[0]) >> tag & 1))
+
+    def acknowledge(self, place, spe, words):
+        """Lets lists go on: Resumed and ResumedEarlier will lead from here."""
+        for member in self.flows[spe].stalled.pop(int(words[0]), []):
+            self.sets[-member.acks - 1].append(place)
+            member.acks_so_far = self.new_set(member.acks_so_far, place)
+            member.entry = [edge for edge in member.entry if edge[1] != "Resumed"] + [(member.acks_so_far, "Resumed")]
+
+    def issue_atomic(self, place, spe, _):
+        """NextAtomic; AtomicIssued will lead from here."""
+        self.lead(place, "NextAtomic", self.flows[spe].atomics)
+        self.flows[spe].atomic_issue = place
+
+    def atomic_status(self, place, spe, _):
+        """AtomicSeen."""
+        self.lead(place, "AtomicSeen", self.flows[spe].atomics)
+
+    def put_value(self, place, _, words):
+        """PlaceFree."""
+        box = tuple(words[:2])
+        values = self.put.setdefault(box, [])
+        places = INBOX_PLACES if words[1] == "in" else OTHER_PLACES
+        if len(values) >= places:
+            self.lead(place, "PlaceFree", self.taken[box][len(values) - places])
+        values.append(place)
+
+    def take_value(self, place, _, words):
+        """Passed."""
+        box = tuple(words[:2])
+        values = self.taken.setdefault(box, [])
+        self.lead(place, "Passed", self.put[box][len(values)])
+        values.append(place)
+
+    def end_processor(self, place, spe, _):
+        self.ended[spe] = place
+
+    def await_processor(self, place, _, words):
+        """Finished."""
+        self.lead(place, "Finished", self.ended[int(words[0])])
+
+    # ---- steps of flow controllers
+
+    def of_piece(self, place, line):
+        """A piece of a command, or of an element of a list."""
+        spe, number = map(int, line.split(" ", 3)[1:3])
+        member = self.commands[spe, number]
+        self.of_member(place, member)
+        if member.elements:
+            self.lead(place, "ElementPiece", self.sets[-member.elements[-1] - 1][0])
+            self.sets[-member.elements[-1] - 1].append(place)
+            member.pieces_left -= 1
+            self.finish(place, spe, member)
+        elif member.command.kind == "putqlluc":
+            self.of_lines(place)
+
+    def of_flow(self, place, letter):
+        """The reading of an element, the retirement of a command, or an atomic command."""
+        step = self.trace.steps[place]
+        if letter == "a":
+            self.of_atomic(place, step)
+            return
+        member = self.commands[step.command_key()]
+        self.of_member(place, member)
+        if letter == "e":
+            self.of_element(place, step, member)
+
+    def of_member(self, place, member):
+        """What is ordered before each step of a command."""
+        self.sets[-member.steps - 1].append(place)
+        self.edges[place] = member.entry if not member.elements else list(member.entry)
+
+    def of_element(self, place, step, member):
+        """NextElement."""
+        self.edges[place] = list(member.entry)
+        if member.elements:
+            self.lead(place, "NextElement", member.elements[-1])
+        member.elements.append(self.new_set(place))
+        if "ended" in step.told:  # a faulty one, with which the processor ceases to run
+            self.end_processor(place, step.spe, None)
+        read = step.element_read()
+        if read:
+            member.pieces_left, member.flagged = read.parts, read.flagged
+            self.finish(place, step.spe, member)
+
+    def finish(self, place, spe, member):
+        """Where a flagged element is finished, the list stalls behind it."""
+        if member.pieces_left or not member.flagged:
+            return
+        member.stalls.append(place)
+        tag, flow = member.command.tag, self.flows[spe]
+        flow.finished[tag] = self.new_set(flow.finished.get(tag), member.elements[-1])
+        flow.stalled.setdefault(tag, []).append(member)
+
+    def of_atomic(self, place, step):
+        """AtomicIssued and Line."""
+        flow = self.flows[step.spe]
+        self.lead(place, "AtomicIssued", flow.atomic_issue)
+        self.of_lines(place)
+        flow.atomics, flow.atomic_issue = self.new_set(flow.atomics, place), None
+
+    def of_lines(self, place):
+        """Line."""
+        if place in self.edges:
+            self.edges[place] = list(self.edges[place])
+        for at in sorted(self.trace.whole_lines(place)):
+            self.lead(place, "Line", self.on_line.get(at))
+            self.on_line[at] = self.new_set(self.on_line.get(at), place)
+
+    # ---- what is read off the graph
+
+    def members(self, node):
+        """The steps of a node."""
+        found, stack, seen = [], [node], set()
+        while stack:
+            node = stack.pop()
+            if node in seen:
+                continue
+            seen.add(node)
+            if node >= 0:
+                found.append(node)
+            else:
+                stack += self.sets[-node - 1]
+        return found
+
+    def latest(self, node):
+        """The latest step of a node."""
+        while node < 0:
+            node = self.sets[-node - 1][-1]
+        return node
+
+    def direct(self, place):
+        """The pairs of a step and a rule that orders it directly before a step, but for Program and Script."""
+        return [(step, rule) for node, rule in self.edges.get(place, ()) for step in self.members(node)]
+
+    def of_chain(self, place):
+        """The steps before a step in its chain, and the rule that orders them, directly too."""
+        chain = self.chains[place]
+        if chain == NO_CHAIN:
+            return [], None
+        return [k for k in range(place) if self.chains[k] == chain], "Script" if chain == HOST else "Program"
+
+    def is_direct(self, first, second, rule):
+        """Whether a rule orders two steps directly."""
+        if rule in ("Program", "Script"):
+            chain = self.chains[second]
+            return first < second and chain != NO_CHAIN and self.chains[first] == chain and (rule == "Script") == (chain == HOST)
+        return any(name == rule and first in self.members(node) for node, name in self.edges.get(second, ()))
+
+    def before(self, place, without=None):
+        """What is ordered before a step; where `without` is a rule's name, without that rule."""
+        return Past(self, place, without)
 
 
-class Trace:
-    """The steps of a run, and what they tell of its queued commands."""
+class Past:
+    """The steps that are ordered before one: of each chain those up to a place, and steps of flow controllers. It keeps by which node and rule one comes on
+    from each towards that one, over as few rules as there are."""
 
-    def __init__(self, lines):
-        self.lines = []
-        self.steps = Steps(self.lines)
-        self.issues, self.commands = {}, {}  # (processor, number): the place of the issue, and what the command asks for
-        self.elements = {}  # (processor, number): the places at which its elements are read
-        self.extend(lines)
+    def __init__(self, order, target, without=None):
+        self.order, self.target, self.without = order, target, without
+        self.limits = {}   # of each chain the last place that is before the target, or is it
+        self.entries = {}  # of each chain the places at which one leaves it, as they were found: (place, onward, rule)
+        self.onward = {}   # of the other nodes: (onward, rule)
+        self.queue = collections.deque([(target, None, None)])
+        while self.queue:
+            self.visit(*self.queue.popleft())
 
-    def extend(self, lines):
-        """Goes on by more steps."""
-        start = len(self.lines)
-        self.lines += lines
-        for place in self.with_field("issue", start):
-            command = self.steps[place].issued()
-            key = command.spe, command.number
-            self.issues[key], self.commands[key] = place, command
-        for place in range(start, len(self.lines)):
-            if self.lines[place].startswith("e "):
-                self.elements.setdefault(self.steps[place].command_key(), []).append(place)
+    def visit(self, node, onward, rule):
+        chain = self.order.chains[node] if node >= 0 else NO_CHAIN
+        if chain != NO_CHAIN:
+            self.visit_chain(chain, node, onward, rule)
+        elif node not in self.onward:
+            self.onward[node] = onward, rule
+            if node < 0:
+                self.queue.extendleft((member, node, None) for member in self.order.sets[-node - 1])
+            else:
+                self.follow(node)
 
-    def cut(self, end):
-        """Forgets the steps from a place on."""
-        del self.lines[end:]
-        self.steps.made = {place: step for place, step in self.steps.made.items() if place < end}
-        for key in [key for key, place in self.issues.items() if place >= end]:
-            del self.issues[key], self.commands[key]
-        self.elements = {key: [place for place in places if place < end] for key, places in self.elements.items()}
+    def visit_chain(self, chain, place, onward, rule):
+        """All of a chain up to a place; without Program or Script, the step alone."""
+        if self.without == ("Script" if chain == HOST else "Program"):
+            if place not in self.onward:
+                self.onward[place] = onward, rule
+                self.follow(place)
+            return
+        limit = self.limits.get(chain, -1)
+        if place <= limit:
+            return
+        self.limits[chain] = place
+        self.entries.setdefault(chain, []).append((place, onward, rule))
+        special = self.order.special.get(chain, [])
+        for k in special[bisect.bisect_right(special, limit):bisect.bisect_right(special, place)]:
+            self.follow(k)
 
-    def with_field(self, name, start=0, end=None):
-        """The places from `start` and below `end` of the steps that have a field of that name."""
-        wanted = re.compile(rf" \| {name}\b")
-        end = len(self.lines) if end is None else min(end, len(self.lines))
-        return [place for place in range(start, end) if wanted.search(self.lines[place])]
+    def follow(self, place):
+        self.queue.extend((node, place, rule) for node, rule in self.order.edges.get(place, ()) if rule != self.without)
 
-    def whole_lines(self, place):
-        """The addresses of the lines of main memory that the step at the place moves whole: that of an atomic command, or the piece of a PUTQLLUC."""
-        step = self.steps[place]
-        command = self.commands.get(step.command_key())
-        if step.kind != "atomic" and not (step.kind == "piece" and command and command.kind == "putqlluc"):
-            return set()
-        return {span.at for span in (step.reads, step.writes) if span and span.spe is None and span.size == MEMORY_LINE}
-
-    def element_of(self, place):
-        """The processor, command and number of the element of which the step at the place is one."""
-        step = self.steps[place]
-        key = step.command_key()
-        if step.kind == "element":
-            return (*key, self.elements[key].index(place))
-        if step.kind == "piece" and key in self.elements:
-            return (*key, step.element)
-        return None
-
-    def goes_before(self, spe, c, d):
-        """Whether command c of a processor goes before its command d, by the flow controller's rules."""
-        first, second = self.commands.get((spe, c)), self.commands.get((spe, d))
-        return first is not None and second is not None and c < d and precedes(first, second)
-
-    def finished_flagged(self, spe, c, place):
-        """The numbers of the flagged elements of a list of which all pieces are done before the place."""
-        done = []
-        for number, at in enumerate(self.elements.get((spe, c), [])):
-            element = self.steps[at].element_read() if at < place else None
-            if element and element.flagged:
-                line = re.compile(rf"p {spe} {c} {number} ")
-                pieces = sum(bool(line.match(text)) for text in self.lines[at:place])
-                if pieces == element.parts:
-                    done.append(number)
-        return done
-
-    def resumed(self, place):
-        """The commands that the acknowledgement at the place lets go on."""
-        ack = self.steps[place]
-        return [c for (spe, c), command in self.commands.items()
-                if spe == ack.spe and command.tag == ack.number("ack") and self.is_stalled(spe, c, place)]
-
-    def is_stalled(self, spe, c, place):
-        """Whether the list waits for an acknowledgement before the place: its last element read is flagged and finished, and since then none came."""
-        read = [at for at in self.elements.get((spe, c), []) if at < place]
-        done = self.finished_flagged(spe, c, place)
-        if not read or len(read) - 1 not in done:
+    def __contains__(self, place):
+        if place == self.target:
             return False
-        since = next(k for k in range(place + 1) if len(read) - 1 in self.finished_flagged(spe, c, k))
-        tag = self.commands[spe, c].tag
-        return not any(s.is_instruction_of(spe, "ack") and s.number("ack") == tag for s in self.steps[since:place])
+        if place in self.onward:
+            return True
+        return place <= self.limits.get(self.order.chains[place], -1)
 
-    def nth(self, place, which):
-        """How many values went into, or out of, the mailbox of the step at the place before it."""
-        box = mailbox(self.steps[place])
-        return sum(mailbox(self.steps[k]) == box for k in self.with_field(which, 0, place))
-
-
-def precedes(first, second):
-    """Whether a command goes before a later one of its processor, by their tags and marks."""
-    same_tag = first.tag == second.tag
-    return same_tag and second.mark in ("fence", "barrier") or same_tag and first.mark == "barrier" or "barrier" in (first.kind, second.kind)
-
-
-def mailbox(step):
-    """The processor and the name of the mailbox that a step puts a value into or takes one out of."""
-    spe, box, _ = step.told.get("put") or step.told.get("take")
-    return int(spe), box
-
-
-def has_group(groups, tag):
-    return bool(groups >> tag & 1)
-
-
-# ---- the rules: whether the step at place i of a trace is ordered directly before that at the later place j
-
-def program(t, i, j):
-    return t.steps[j].kind == "instruction" and t.steps[i].is_instruction_of(t.steps[j].spe)
+    def path(self, place):
+        """The pairs of rules that lead from a step to the target: (earlier, later, rule)."""
+        pairs = []
+        while place != self.target:
+            chain = self.order.chains[place]
+            if chain == NO_CHAIN:
+                onward, rule = self.onward[place]
+            else:
+                leaves, onward, rule = next(entry for entry in self.entries[chain] if entry[0] >= place)
+                if leaves > place:
+                    pairs.append((place, leaves, "Script" if chain == HOST else "Program"))
+                place = leaves
+            if place == self.target:
+                break
+            while onward < 0:
+                onward, rule = self.onward[onward][0], rule or self.onward[onward][1]
+            pairs.append((place, onward, rule))
+            place = onward
+        return pairs
 
 
-def script(t, i, j):
-    return t.steps[i].kind == t.steps[j].kind == "host"
-
-
-def issued(t, i, j):
-    command = t.steps[i].issued()
-    return command is not None and t.steps[j].command_key() == (command.spe, command.number)
-
-
-def atomic_issued(t, i, j):
-    spe = t.steps[j].spe
-    return (t.steps[j].kind == "atomic" and t.steps[i].is_instruction_of(spe, "atomic")
-            and not any(line.startswith(f"a {spe} ") for line in t.lines[i:j]))
-
-
-def next_atomic(t, i, j):
-    return t.steps[i].kind == "atomic" and t.steps[j].is_instruction_of(t.steps[i].spe, "atomic")
-
-
-def atomic_seen(t, i, j):
-    return t.steps[i].kind == "atomic" and t.steps[j].is_instruction_of(t.steps[i].spe, "atomicread")
-
-
-def line(t, i, j):
-    return bool(t.whole_lines(i) & t.whole_lines(j))
-
-
-def passed(t, i, j):
-    return ("put" in t.steps[i].told and "take" in t.steps[j].told and mailbox(t.steps[i]) == mailbox(t.steps[j])
-            and t.nth(i, "put") == t.nth(j, "take"))
-
-
-def place_free(t, i, j):
-    if "take" not in t.steps[i].told or "put" not in t.steps[j].told or mailbox(t.steps[i]) != mailbox(t.steps[j]):
-        return False
-    places = INBOX_PLACES if mailbox(t.steps[j])[1] == "in" else OTHER_PLACES
-    return t.nth(i, "take") + places == t.nth(j, "put")
-
-
-def finished(t, i, j):
-    return "ended" in t.steps[i].told and "awaited" in t.steps[j].told and t.steps[i].spe == t.steps[j].number("awaited")
-
-
-def queue(t, i, j):
-    c, d = t.steps[i].command_key(), t.steps[j].command_key()
-    return bool(c and d) and c[0] == d[0] and t.goes_before(c[0], c[1], d[1])
-
-
-def element_piece(t, i, j):
-    return t.steps[i].kind == "element" and t.steps[j].kind == "piece" and t.element_of(i) == t.element_of(j)
-
-
-def next_element(t, i, j):
-    if t.steps[j].kind != "element" or t.element_of(i) is None:
-        return False
-    (p, c, n), later = t.element_of(i), t.element_of(j)
-    return (p, c, n + 1) == later
-
-
-def stall_seen(t, i, j):
-    element = t.element_of(i)
-    if element is None or not t.steps[j].is_instruction_of(element[0], "stalls"):
-        return False
-    spe, c, number = element
-    return has_group(t.steps[j].number("stalls"), t.commands[spe, c].tag) and number in t.finished_flagged(spe, c, j)
-
-
-def resumed(t, i, j):
-    d = t.steps[j].command_key()
-    return "ack" in t.steps[i].told and d is not None and d[0] == t.steps[i].spe and d[1] in t.resumed(i)
-
-
-def resumed_earlier(t, i, j):
-    d = t.steps[j].command_key()
-    return "ack" in t.steps[i].told and d is not None and d[0] == t.steps[i].spe and any(t.goes_before(d[0], c, d[1]) for c in t.resumed(i))
-
-
-def tag_seen(t, i, j):
-    c = t.steps[i].command_key()
-    if c is None or not t.steps[j].is_instruction_of(c[0], "tags"):
-        return False
-    groups, fixed_at = map(int, t.steps[j].told["tags"])
-    return has_group(groups, t.commands[c].tag) and c[1] < fixed_at
-
-
-RULES = {
-    "Program": program, "Script": script, "Issued": issued, "AtomicIssued": atomic_issued, "NextAtomic": next_atomic, "AtomicSeen": atomic_seen,
-    "Line": line, "Passed": passed, "PlaceFree": place_free, "Finished": finished, "Queue": queue, "ElementPiece": element_piece,
-    "NextElement": next_element, "StallSeen": stall_seen, "Resumed": resumed, "ResumedEarlier": resumed_earlier, "TagSeen": tag_seen,
+BY_FIELD = {
+    "issue": Order.issue, "atomic": Order.issue_atomic, "tags": Order.tag_status, "stalls": Order.stall_status, "ack": Order.acknowledge,
+    "atomicread": Order.atomic_status, "put": Order.put_value, "take": Order.take_value, "ended": Order.end_processor, "awaited": Order.await_processor,
 }
-
-
-# ---- what races
-
-def shared_bytes(first, second):
-    """The bytes that two steps have in common, where one of them writes: what the first does, what the second does, and which bytes."""
-    found = []
-    for way, a in first.spans():
-        for other, b in second.spans():
-            low, high = max(a.at, b.at), min(a.at + a.size, b.at + b.size)
-            if "writes" in (way, other) and a.spe == b.spe and low < high:
-                found.append((way, other, Span(a.spe, low, high - low)))
-    return found

@@ -1,7 +1,9 @@
 """Why nothing orders two steps that race, and what would: what their sides did between them, held against the rules of docs/ORDER.md."""
+import functools
 import re
 
-from order import OF_COMMANDS, RULES, has_group
+from effects import OF_COMMANDS, has_group
+from order import Order
 from words import name_of, tags, with_article
 
 MOST = 6  # events of a kind that are told
@@ -18,14 +20,21 @@ class Race:
     which the first's side did `last`.
     """
 
-    def __init__(self, teller, first, second, before):
+    def __init__(self, teller, first, second, before, order=None):
         self.teller, self.trace, self.before = teller, teller.trace, before
         self.first, self.second = first, second
         self.one, self.two = self.trace.steps[first], self.trace.steps[second]
         self.begin, self.anchor = teller.program_step(first), teller.program_step(second)
         self.same = self.one.spe == self.two.spe
+        if order:
+            self.order = order
         self.last = self.last_ordered()
         self.bound = self.anchor if self.same else teller.program_step(self.last) if self.last >= 0 else -1
+
+    @functools.cached_property
+    def order(self):
+        """The order of the run, made when it is first asked."""
+        return Order(self.trace)
 
     def last_ordered(self):
         """The last step of the first's side that is ordered before the second; -1 where there is none."""
@@ -134,7 +143,7 @@ class Race:
         rules = ("TagSeen", "StallSeen") if self.flagged() else ("TagSeen",)
         for k in self.trace.with_field("(?:tags|stalls)", max(self.begin, self.bound)):
             for rule in rules:
-                if RULES[rule](self.trace, self.first, k):
+                if self.order.is_direct(self.first, k, rule):
                     behind = "the second" if self.same and self.anchor == self.second else f"step {self.bound}"
                     return [f"step {k} reads a status that orders the first before it ({rule}), too late: behind {behind} {self.teller.aside(k)}"]
         return []
@@ -196,8 +205,16 @@ class Race:
         if self.begin <= self.last and self.one.kind in OF_COMMANDS:
             said.append(f"TagSeen: a status of tag {self.command().tag}, asked for behind step {self.begin} and read (`rdch` of channel 24) before step {self.bound}, "
                         f"with which {self.side()} lets {self.other()} go on")
-            return said
+            return said + self.barrier_for_last()
         return [f"Line or Passed: {self.word_between(self.first, self.anchor)}", f"Line or Passed, the other way round: {self.word_between(self.second, self.begin)}"]
+
+    def barrier_for_last(self):
+        """A barrier on the first's command, where the last step that is ordered before the second is one of a later command of its tag."""
+        one, last = self.command(), self.trace.commands.get(self.trace.steps[self.last].command_key())
+        if last is None or last.number <= one.number or last.tag != one.tag or last.spe != one.spe:
+            return []
+        base = name_of(one._replace(mark="-"))
+        return [f"Queue: a barrier on the first's command ({base}B): the command of step {self.last} is a later one of its tag, and comes behind it then"]
 
     def within_one(self):
         until = f"before step {self.anchor}" + ("" if self.anchor == self.second else ", where the second's command is issued")

@@ -119,24 +119,31 @@ class Sites:
 def callers(trace, sites):
     """Of each instruction of a routine, the place of the branch that called it: one that sets a link, and is open until what stands behind it is
     executed."""
-    open_calls, led, called = {}, {}, {}
+    calls = [{at for at, site in found.items() if site.is_call()} for found in sites.of_processor]
+    open_calls, led, called = [[] for _ in calls], {}, {}
     for place, line in enumerate(trace.lines):
-        if not line.startswith("x "):
+        if line[0] != "x":
             continue
-        step_of, _, rest = line.partition(" | fetch ")
-        spe, at = int(step_of.split()[1]), int(rest.split()[1])
-        stack = open_calls.setdefault(spe, [])
+        words = line.split(" ", 6)
+        spe, at = int(words[1]), int(words[5])
+        stack = open_calls[spe]
         if spe in led:
             branch, behind = led.pop(spe)
             if at != behind:
                 stack.append((branch, behind))
                 del stack[:-MOST_CALLS]
-        for depth in range(len(stack) - 1, -1, -1):
-            if stack[depth][1] == at:
-                del stack[depth:]
-                break
         if stack:
-            called[place] = stack[-1][0]
-        if sites.at(spe, at).is_call():
+            leave(stack, at)
+            if stack:
+                called[place] = stack[-1][0]
+        if at in calls[spe]:
             led[spe] = place, at + 4
     return called
+
+
+def leave(stack, at):
+    """Takes off the calls behind which an address stands, with those that were made within."""
+    for depth in range(len(stack) - 1, -1, -1):
+        if stack[depth][1] == at:
+            del stack[depth:]
+            return

@@ -2,7 +2,7 @@
 import functools
 import re
 
-from order import has_group
+from effects import has_group
 from sites import callers
 
 COMMANDS = {"put": "PUT", "get": "GET", "putl": "PUTL", "getl": "GETL", "barrier": "BARRIER", "putqlluc": "PUTQLLUC"}

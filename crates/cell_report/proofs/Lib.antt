@@ -1,4 +1,3 @@
 pub mod Texts
-pub mod ImageLemmas
 pub mod Lengths
 pub mod Records

@@ -1,6 +1,6 @@
 use Rattle.std.proofs.Common.{◌+◌, ◌*◌, ◌++◌, ◌∙◌, ap}
 use Rattle.cell_report.specs.Images.{row_of, row_line}
-use Rattle.cell_report.proofs.ImageLemmas.{rows-more}
+use Rattle.state_lines.proofs.Rows.{rows-more}
 use Rattle.cell_report.proofs.image.put_rows.Goals as goal
 
 pub loop-k-preserved : goal.loop-k-preserved

@@ -1,0 +1,270 @@
+// ---- painting, and what the reader does
+let painted = '', painting = 0;
+
+function visibleRows() {
+  if (state.printed) return state.printed;
+  const scroll = byId('scroll'), a = Math.max(0, Math.floor(scroll.scrollTop / ROW) - 12);
+  return [a, Math.min(rows.length, a + Math.ceil(scroll.clientHeight / ROW) + 26)];
+}
+// The steps whose lines the rows from a to below b need: those of the rows, and of the ends of arrows and bars.
+function neededPlaces(a, b) {
+  const places = rows.slice(a, b).flatMap(row => row.is_end ? [] : row.b - row.a < facts.block ? [row.a, row.b] : [row.a]);
+  for (const [from, to] of weakArrows(a, b).concat(strongArrows())) places.push(from, to);
+  return story ? places.concat(story.first, story.second) : places;
+}
+
+async function paint(is_forced) {
+  const [a, b] = visibleRows(), key = `${a} ${b}`;
+  if (!is_forced && key === painted) return;
+  painted = key;
+  const turn = ++painting;
+  if (await need(neededPlaces(a, b)) && turn !== painting) return;
+  if (turn === painting) show(a, b);
+}
+function show(a, b) {
+  const body = byId('body'), shift = state.printed ? a * ROW : 0, list = rows.slice(a, b);
+  body.style.height = `${(state.printed ? b - a : rows.length) * ROW + 8}px`;
+  body.style.width = `${width}px`;
+  const svg = (name, inner) => `<svg class="${name}" aria-hidden="true" style="top:${a * ROW}px" width="${width}" height="${(b - a) * ROW + 8}" viewBox="0 ${a * ROW} ${width} ${(b - a) * ROW + 8}">${inner}</svg>`;
+  body.innerHTML = `<div id="sheet" style="top:${-shift}px">${list.map((row, k) => backHtml(row, a + k)).join('')}${svg('under', '')}${list.map((row, k) => rowHtml(row, a + k)).join('')}${svg('over', '')}</div>`;
+  occupyRows(body, shift);
+  occupyDots(a, b);
+  const [under, over] = drawing(a, b);
+  body.querySelector('.under').innerHTML = under;
+  body.querySelector('.over').innerHTML = over;
+  markOverview(a + 12, b - 14);
+  const selected = state.selected === null ? null : rowOf(state.selected);
+  if (selected !== null && selected >= a && selected < b) byId('scroll').setAttribute('aria-activedescendant', `row${selected}`);
+}
+
+function heads() {
+  const cells = lanes.filter(lane => lane.w).map(lane => lane.number === MEMORY_COLUMN && !lane.fold ? memoryHead(lane) : laneHead(lane));
+  byId('heads').style.width = `${width}px`;
+  byId('heads').innerHTML = `<div class="head" role="columnheader" style="left:0;width:${GUTTER}px">step</div>${cells.join('')}`;
+  if (byId('place')) byId('place').onchange = event => { state.memory = +event.target.value; refresh(); };
+}
+function laneHead(lane) {
+  const files = lane.number >= HOST ? '' : [...new Set(Object.values(facts.code[lane.spe]).map(at => base(facts.sources[at][0])))].filter(Boolean).join(', ');
+  const more = lane.number === HOST ? 'its script' : lane.is_flow ? 'commands' : files;
+  const name = laneName(lane.number), title = `${name}${more ? `, ${escaped(more)}` : ''}: a click ${lane.fold ? 'opens' : 'folds'} the column`;
+  return `<div class="head${lane.fold ? ' fold' : ''}" role="columnheader" style="left:${lane.x}px;width:${lane.w}px">`
+    + `<button data-lane="${lane.number}" aria-expanded="${!lane.fold}" aria-label="${name}" title="${title}">${lane.fold ? shortName(lane.number) : name}</button>`
+    + (lane.fold ? '' : `<small>${escaped(more)}</small>`) + '</div>';
+}
+function memoryHead(lane) {
+  const places = [...new Set([MEMORY, state.memory, ...Object.keys(facts.touched).map(Number)])].sort((one, other) => one - other);
+  const low = ranges.length ? ranges[0].low : 0, high = ranges.length ? ranges[ranges.length - 1].high - 1 : 0;
+  const options = places.map(place => `<option value="${place}"${place === state.memory ? ' selected' : ''}>${place === MEMORY ? 'memory' : `store ${place}`}</option>`).join('');
+  return `<div class="head" role="columnheader" style="left:${lane.x}px;width:${lane.w}px"><select id="place" aria-label="Whose bytes are shown">${options}</select>`
+    + `<small>${ranges.length ? `${hex(low)} to ${hex(high)}` : 'untouched'}</small></div>`;
+}
+
+// Lays the page out anew; a step keeps its place on the screen.
+function refresh(kept) {
+  const scroll = byId('scroll'), at = kept === undefined ? 0 : rowOf(kept) * ROW - scroll.scrollTop;
+  layout(); build(); layoutMemory(); heads();
+  byId('body').style.height = `${rows.length * ROW + 8}px`;
+  scroll.setAttribute('aria-rowcount', rows.length);
+  if (kept !== undefined) scroll.scrollTop = rowOf(kept) * ROW - at;
+  return Promise.all([paint(true), refreshSide()]);
+}
+async function refreshSide() {
+  const step = state.selected === null ? null : state.selected;
+  if (step !== null) {
+    await need([step]);
+    await need(direct(stepAt(step), 20).slice(0, 12).map(([place]) => place));
+  }
+  side();
+}
+
+const topPlace = () => rows[Math.min(rows.length - 1, Math.floor(byId('scroll').scrollTop / ROW) + 8)].a;
+async function select(place) {
+  state.selected = place;
+  if (place !== null) await need([place]);
+  const step = place === null ? null : stepAt(place);
+  relateTo(step);
+  say(step);
+}
+// Goes to a step: it is in the middle of the screen then, and chosen.
+async function go(place) {
+  if (!(place >= 0 && place < facts.count)) return;
+  if (!isShown(place)) openAround(place);
+  await select(place);
+  layout(); build();
+  centre(rowOf(place));
+  await refresh(place);
+}
+function centre(row) {
+  const scroll = byId('scroll');
+  byId('body').style.height = `${rows.length * ROW + 8}px`;
+  scroll.scrollTop = Math.max(0, row * ROW - scroll.clientHeight / 2 + HEAD);
+}
+const raceTop = () => Math.min(story.first, ...story.pairs.filter(([, to]) => to === story.first).map(([from]) => from));
+const raceFits = () => (rowOf(story.second) - rowOf(raceTop())) * ROW < byId('scroll').clientHeight - 120;
+async function toRace() {
+  if (!story) return;
+  await select(story.second);
+  layout(); build();
+  const top = rowOf(raceTop()), bottom = rowOf(story.second);
+  centre(raceFits() ? (top + bottom) / 2 : bottom);
+  await refresh(story.second);
+}
+function setOnly(is_only) {
+  state.only = is_only;
+  byId('only').setAttribute('aria-pressed', is_only);
+}
+
+// ---- the overview
+function drawOverview() {
+  const { rows: parts, size } = facts.overview, shown = parts.map((row, lane) => [row, lane]).filter(([row]) => row.some(Boolean)), n = parts[0].length, most = Math.max(1, ...parts.flat());
+  const height = shown.length * 5 + 2, shade = value => Math.ceil(4 * Math.sqrt(value / most));
+  const color = lane => lane === HOST ? 'var(--mail)' : lane % 2 ? 'var(--get)' : 'var(--ink)';
+  const part = (value, at, k, lane) => `<rect x="${at}" y="${k * 5 + 1}" width="1.05" height="4" fill="${color(lane)}" opacity="${.25 + .75 * shade(value) / 4}"/>`;
+  let html = shown.map(([row, lane], k) => row.map((value, at) => value ? part(value, at, k, lane) : '').join('')).join('');
+  if (story) html += [story.first, story.second].map(place => `<rect x="${place / size - n / 800}" width="${n / 400}" y="0" height="${height}" fill="var(--race)"/>`).join('');
+  const svg = byId('overview');
+  svg.setAttribute('viewBox', `0 0 ${Math.max(1, n)} ${height}`);
+  svg.setAttribute('preserveAspectRatio', 'none');
+  svg.style.height = `${Math.max(14, height * 1.2)}px`;
+  svg.innerHTML = html + `<rect id="view" x="0" y="0" width="1" height="${height}" fill="var(--put)" opacity=".25"/>`;
+  svg.onclick = event => { const at = svg.getBoundingClientRect(); go(Math.min(facts.count - 1, Math.floor((event.clientX - at.left) / at.width * n * size))); };
+}
+function markOverview(a, b) {
+  const first = rows[Math.min(rows.length - 1, Math.max(0, a))], last = rows[Math.min(rows.length - 1, Math.max(0, b))], { size, rows: parts } = facts.overview;
+  byId('view').setAttribute('x', first.a / size);
+  byId('view').setAttribute('width', Math.max(parts[0].length / 300, (last.b + 1 - first.a) / size));
+}
+
+// ---- what the reader asks for
+async function onRow(n, from_end) {
+  const row = rows[n];
+  if (row.is_end) return;
+  if (row.is_step) { await select(row.a === state.selected ? null : row.a); await refresh(row.a); return; }
+  openGap(row, from_end);
+  await refresh(row.a);
+}
+async function move(way, same_lane) {
+  let n = state.selected === null ? rowOf(topPlace()) : rowOf(state.selected) + way;
+  const step = state.selected === null ? null : stepAt(state.selected);
+  const fits = row => row.is_step && (!same_lane || !step || laneOfKey(row.a) === step.lane);
+  while (rows[n] && !fits(rows[n])) n += way;
+  if (!rows[n]) return;
+  const place = rows[n].a;
+  await select(place);
+  build();
+  const y = rowOf(place) * ROW, scroll = byId('scroll');
+  if (y < scroll.scrollTop + ROW || y > scroll.scrollTop + scroll.clientHeight - HEAD - 2 * ROW) centre(rowOf(place));
+  await refresh(place);
+}
+function fold() {
+  const place = topPlace();
+  state.opened.clear();
+  return refresh(place);
+}
+function toggleLane(lane) {
+  if (!state.folded.delete(lane)) state.folded.add(lane);
+  return refresh(topPlace());
+}
+function allColumns() { state.folded.clear(); return refresh(topPlace()); }
+function toggleNames() {
+  state.names = !state.names;
+  byId('names').setAttribute('aria-pressed', state.names);
+  return paint(true);
+}
+function togglePanel() {
+  const is_hidden = document.body.classList.toggle('wide');
+  byId('panel').setAttribute('aria-pressed', !is_hidden);
+  return refresh(topPlace());
+}
+function toggleTheme() {
+  const root = document.documentElement, is_dark = root.dataset.theme ? root.dataset.theme === 'dark' : matchMedia('(prefers-color-scheme: dark)').matches;
+  root.dataset.theme = is_dark ? 'light' : 'dark';
+}
+function toggleOnly() {
+  if (!story) return null;
+  setOnly(!state.only);
+  return toRace();
+}
+function toggleGroup(group, button) {
+  if (!state.off.delete(group)) state.off.add(group);
+  button.setAttribute('aria-pressed', !state.off.has(group));
+  return paint(true);
+}
+
+const KEY_ACTIONS = {
+  j: () => move(1), ArrowDown: () => move(1), k: () => move(-1), ArrowUp: () => move(-1), J: () => move(1, true), K: () => move(-1, true), r: toRace, o: toggleOnly, f: fold, c: allColumns,
+  n: toggleNames, s: togglePanel, t: toggleTheme, g: () => byId('jump').focus(), Enter: event => openNear(event.shiftKey),
+};
+// Enter opens the gap behind the step that is chosen; with Shift, the one before it, from its end.
+function openNear(is_before) {
+  const n = rowOf(state.selected === null ? topPlace() : state.selected), row = rows[n + (is_before ? -1 : 1)];
+  return row && !row.is_step && !row.is_end ? onRow(n + (is_before ? -1 : 1), is_before) : null;
+}
+function onKey(event) {
+  const is_field = ['INPUT', 'SELECT'].includes(event.target.tagName), is_button = event.target.tagName === 'BUTTON' || event.target.tagName === 'SUMMARY';
+  if (is_field || event.ctrlKey || event.metaKey || event.altKey || is_button && event.key === 'Enter') return;
+  const action = KEY_ACTIONS[event.key];
+  if (!action || event.key.startsWith('Arrow') && event.target.closest('#side')) return;
+  event.preventDefault();
+  action(event);
+}
+function onJump(event) {
+  const digits = event.target.value.replace(/[ ,.]/g, '');
+  if (event.key === 'Enter' && /^\d+$/.test(digits)) go(Math.min(facts.count - 1, +digits));
+  if (event.key === 'Escape') byId('scroll').focus();
+}
+function onClick(event) {
+  const to = event.target.closest('[data-go]'), lane = event.target.closest('[data-lane]'), row = event.target.closest('[data-n]');
+  if (to) go(+to.dataset.go);
+  else if (lane) toggleLane(+lane.dataset.lane);
+  else if (row) onRow(+row.dataset.n, event.shiftKey);
+}
+function onPrint() {
+  const top = Math.max(0, rowOf(story ? raceTop() : topPlace()) - 6);
+  state.printed = [top, Math.min(rows.length, top + 38)];
+  layout(); build(); layoutMemory(); heads(); show(...state.printed);
+}
+function afterPrint() {
+  state.printed = null;
+  refresh(topPlace());
+}
+
+function listen() {
+  const on = { 'to-race': toRace, only: toggleOnly, fold, columns: allColumns, names: toggleNames, panel: togglePanel, theme: toggleTheme };
+  for (const [id, action] of Object.entries(on)) byId(id).onclick = action;
+  byId('groups').innerHTML = GROUPS.map(([group, name]) => `<button data-group="${group}" aria-pressed="true"><span class="swatch" style="background:${SHADES[group]}"></span>${name}</button>`).join('');
+  for (const button of document.querySelectorAll('[data-group]')) button.onclick = () => toggleGroup(button.dataset.group, button);
+  byId('jump').onkeydown = onJump;
+  byId('scroll').addEventListener('scroll', () => requestAnimationFrame(() => paint(false)));
+  byId('side').addEventListener('input', event => { if (event.target.id === 'filter') { state.filter = event.target.value; listCommands(); } });
+  document.addEventListener('click', onClick);
+  addEventListener('keydown', onKey);
+  addEventListener('resize', () => state.printed || refresh(topPlace()));
+  addEventListener('beforeprint', onPrint);
+  addEventListener('afterprint', afterPrint);
+}
+
+// ---- the beginning
+function headline() {
+  byId('title').textContent = facts.machine;
+  byId('verdict').textContent = `${facts.verdict} · ${facts.end}`;
+  byId('verdict').classList.toggle('bad', story !== null || facts.end === 'Stuck');
+  byId('summary').textContent = `${facts.record}: ${count(facts.count)} steps, ${facts.spes} processor${facts.spes > 1 ? 's' : ''}`;
+  if (!story) for (const id of ['to-race', 'only']) byId(id).hidden = true;
+}
+async function begin() {
+  const theme = location.hash.slice(1);
+  if (theme === 'dark' || theme === 'light') document.documentElement.dataset.theme = theme;
+  readTables(await opened(byId('tables').textContent));
+  readGraph(tables.graph);
+  if (story) state.memory = story.shared[0][0];
+  headline(); listen(); foldOthers(); layout(); build(); drawOverview();
+  if (!story) { await refresh(); if (facts.focus > 0) byId('scroll').scrollTop = rows.length * ROW; }
+  else {
+    await toRace();
+    if (!raceFits()) { setOnly(true); await toRace(); }
+  }
+  await paint(true);
+  document.body.dataset.ready = 'yes';
+}
+begin();

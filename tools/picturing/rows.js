@@ -1,0 +1,113 @@
+// ---- the text of the rows
+const tagsOf = groups => '{' + [...Array(32).keys()].filter(tag => groups >>> tag & 1).join(', ') + '}';
+const BOXES = { in: 'inbox', out: 'outbox', intr: 'intr. box' };
+const ATOMICS = { getllar: 'GETLLAR', putllc: 'PUTLLC', putlluc: 'PUTLLUC' };
+const COUNTED = { 21: 'the queue', 22: 'the mask', 23: 'the request', 24: 'the tag status', 25: 'the stall status', 27: 'the atomic status', 28: 'the outbox', 29: 'the inbox', 30: 'the interrupt box' };
+
+// What an instruction does beside computing, by its fields: the words of a chip and its colour.
+const TOLD = [
+  ['issue', 'issue', ([number]) => `issues #${number}`],
+  ['tags', 'tag', ([groups]) => `tags ${tagsOf(+groups)}`],
+  ['stalls', 'tag', ([groups]) => `stalls ${tagsOf(+groups)}`],
+  ['ack', 'tag', ([tag]) => `resumes tag ${tag}`],
+  ['request', 'plain', ([, groups]) => `asks ${tagsOf(+groups)}`],
+  ['atomic', 'atomic', ([kind]) => ATOMICS[kind]],
+  ['atomicread', 'atomic', () => 'status'],
+  ['put', 'mail', ([, box]) => `puts ${BOXES[box]}`],
+  ['take', 'mail', ([, box]) => `takes ${BOXES[box]}`],
+  ['ended', 'end', () => 'ends'],
+  ['rchcnt', 'plain', ([channel]) => `counts ${COUNTED[channel] || `channel ${channel}`}`],
+];
+function toldOf(step) {
+  const found = TOLD.find(([name]) => name in step.fields);
+  return found ? { color: found[1], text: found[2](step.fields[found[0]]) } : null;
+}
+
+// What a step of a flow controller is.
+function flowText(step) {
+  if (step.letter === 'a') return atomicText(step);
+  const bar = barOfStep(step), name = `#${step.command}`;
+  if (step.letter === 'r') return `${name} retires`;
+  if (step.letter === 'e') return `${name} element${step.fields.element ? ` ${step.fields.element[0]}${step.fields.element[2] === '1' ? ', flag' : ''}` : ': a fault'}`;
+  return bar.kind.endsWith('L') ? `${name} el. ${step.element} piece ${step.part}` : `${name} piece ${step.part}`;
+}
+function atomicText(step) {
+  const kind = step.fields.atomic[0], lost = kind === 'putllc' && step.fields.status[0] === '1';
+  return ATOMICS[kind] + (lost ? ', lost' : kind === 'putllc' ? ', stored' : '');
+}
+// The host's actions are its script, one step each.
+function actionOf(place) {
+  const at = lowerBound(tables.hosts, place);
+  return (facts.script[at] || '').replace(/^host /, '');
+}
+
+// A step in one line of words.
+function stepText(step) {
+  if (step.lane === HOST) return `host: ${actionOf(step.place)}`;
+  if (step.lane % 2) return `MFC ${step.spe}: ${flowText(step)}`;
+  const [file, line, text] = sourceOf(step), told = toldOf(step);
+  return `SPE ${step.spe}: ${text}${told ? `, ${told.text}` : ''}${line ? ` (${file}:${line})` : ''}`;
+}
+
+const CODE_FONT = '11.5px ui-monospace, "DejaVu Sans Mono", monospace', CHIP_FONT = '600 10.5px system-ui, "DejaVu Sans", sans-serif';
+const CHIP_EDGES = 12, CELL_GAP = 8, RACE_MARK = 38, LINE_NUMBER = 46;
+const chip = (color, text) => `<span class="chip ${color} t">${escaped(text)}</span>`;
+const box = (left, right, inner, title = '') =>
+  `<div class="cell" style="left:${left}px;width:${Math.max(0, right - left)}px"${title ? ` title="${escaped(title)}"` : ''}>${inner}</div>`;
+const raceMark = place => !isRacing(place) ? '' : chip('race', place === story.first ? '1st' : '2nd');
+
+function stepCell(step) {
+  const lane = lanes[step.lane];
+  if (lane.fold) return '';
+  const flag = step.fields.fixed ? ' ⚑' : '', mark = raceMark(step.place);
+  if (step.lane === HOST) return box(textOf(lane), textEnd(lane), `${mark}<code class="t">${escaped(actionOf(step.place))}</code>`, actionOf(step.place));
+  if (lane.is_flow) return box(textOf(lane), textEnd(lane), `${mark}<span class="flow t">${escaped(flowText(step))}${flag}</span>`, flowText(step));
+  return box(textOf(lane), textEnd(lane), mark + instructionCell(step, lane, flag), stepText(step));
+}
+// The line of the source, what it does, and the line's number: as much of it as there is room for.
+function instructionCell(step, lane, flag) {
+  const [, line, text] = sourceOf(step), told = toldOf(step) || (flag ? { color: 'tag', text: '' } : null), said = told ? told.text + flag : '';
+  const room = textEnd(lane) - textOf(lane) - (isRacing(step.place) ? RACE_MARK : 0), chip_width = told ? widthOf(said, CHIP_FONT) + CHIP_EDGES : 0, code_width = widthOf(text, CODE_FONT) + CELL_GAP;
+  const has_code = !told || code_width + chip_width <= room, has_line = has_code && line && code_width + chip_width + LINE_NUMBER <= room;
+  return (has_code ? `<code class="t">${escaped(text)}</code>` : '') + (told ? chip(told.color, said) : '') + (has_line ? `<span class="at t">:${line}</span>` : '');
+}
+
+// How many steps a gap has, and which columns made them, where its block is open and it isn't long.
+function gapCells(row) {
+  const size = row.b - row.a + 1, per = new Map();
+  for (let place = row.a; size <= facts.block && place <= row.b; place++) {
+    const step = stepAt(place);
+    if (!step) break;
+    per.set(step.lane, (per.get(step.lane) || 0) + 1);
+  }
+  if (!per.size) return wideGap(size);
+  return [...per].filter(([lane]) => !lanes[lane].fold && lanes[lane].w).map(([lane, number]) => box(textOf(lanes[lane]), textEnd(lanes[lane]), `<span class="t">⋮ ${count(number)}</span>`)).join('');
+}
+function wideGap(size) {
+  const lane = lanes.find(one => one.w > FOLDED && !one.fold) || lanes[0];
+  return box(textOf(lane), textEnd(lane), `<span class="t">⋮ ${count(size)} steps</span>`);
+}
+function endCells() {
+  const found = facts.states.map(([text], spe) => [lanes[2 * spe], text === 'running' && facts.end === 'Stuck' ? 'waits here' : text, text === 'running' || text.startsWith('dma')]);
+  if (hasScript() && facts.host[0] < facts.host[1]) found.push([lanes[HOST], facts.script[facts.host[0]].replace(/^host /, ''), true]);
+  return found.filter(([lane]) => !lane.fold).map(([lane, text, is_bad]) => box(textOf(lane), textEnd(lane), chip(is_bad ? 'race' : 'end', text), text)).join('');
+}
+
+function rowHtml(row, n) {
+  const id = `id="row${n}" data-n="${n}" role="row" aria-rowindex="${n + 1}" style="top:${n * ROW}px;width:${width}px"`;
+  if (row.is_end) return `<div class="row end" ${id}><span class="number t" role="rowheader">end</span>${endCells()}</div>`;
+  if (!row.is_step) {
+    const size = count(row.b - row.a + 1), title = `${size} steps, ${count(row.a)} to ${count(row.b)}: a click opens them`;
+    return `<div class="row gap" ${id} title="${title}"><span class="number t" role="rowheader">⋯ ${size}</span>${gapCells(row)}</div>`;
+  }
+  const step = stepAt(row.a);
+  const racing = isRacing(row.a) ? ' race' : '';
+  const label = step ? ` aria-label="${escaped(`step ${row.a}, ${stepText(step)}`)}"` : '';
+  return `<div class="row${racing}" ${id} aria-selected="${row.a === state.selected}"${label}><span class="number t" role="rowheader">${count(row.a)}</span>${step ? stepCell(step) : ''}</div>`;
+}
+function backHtml(row, n) {
+  const step = row.is_step && !row.is_end ? stepAt(row.a) : null, lane = step && lanes[step.lane];
+  const open = step && relation(step) === null ? `<div class="open" style="left:${lane.x + 1}px;width:${lane.w - 1}px"></div>` : '';
+  const selected = row.is_step && row.a === state.selected ? ' selected' : '';
+  return `<div class="back${n % 2 ? ' odd' : ''}${row.is_step && isRacing(row.a) ? ' race' : ''}${selected}" style="top:${n * ROW}px;width:${width}px">${open}</div>`;
+}
