@@ -6,7 +6,6 @@
 use crate::choosing::actor;
 use crate::lines::Text;
 use crate::watching::next_word;
-use anyhow::Result;
 use cell_base::{Actor, Step};
 use cell_machine::Machine;
 
@@ -18,8 +17,7 @@ fn put_words(out: &mut Text, machine: &Machine) {
     for spe in 0..machine.setup().spes() {
         if let Some(word) = next_word(machine, spe) {
             out.put("at");
-            out.number(u32::from(spe));
-            out.number(word);
+            out.numbers(&[u32::from(spe), word]);
             out.end_line();
         }
     }
@@ -32,42 +30,28 @@ fn put_step(out: &mut Text, step: Step) {
     out.end_line();
 }
 
-/// The step of an actor behind the first one, by its place; None behind the last, where choices begin anew.
-fn later_step(machine: &Machine, actor: Actor, first: Step, choice: u64) -> Option<Step> {
-    let step = machine.pick(actor, choice)?;
-    if step == first { None } else { Some(step) }
-}
-
-/// The lines of an actor's steps behind the first one.
-fn put_later_steps(out: &mut Text, machine: &Machine, actor: Actor, first: Step) {
+/// The lines of an actor's steps: behind the last one choices begin anew.
+fn put_steps(out: &mut Text, machine: &Machine, actor: Actor) {
+    let Some(first) = machine.pick(actor, 0) else {
+        return;
+    };
+    put_step(out, first);
     for choice in 1..MOST_STEPS {
-        let Some(step) = later_step(machine, actor, first, choice) else {
+        let Some(step) = machine.pick(actor, choice) else {
             break;
         };
+        if step == first {
+            break;
+        }
         put_step(out, step);
     }
 }
 
-/// The lines of an actor's steps.
-fn put_steps(out: &mut Text, machine: &Machine, actor: Actor) {
-    if let Some(first) = machine.pick(actor, 0) {
-        put_step(out, first);
-        put_later_steps(out, machine, actor, first);
-    }
-}
-
-/// The lines of all actors' steps.
-fn put_allowed(out: &mut Text, machine: &Machine) {
+/// Writes what may be done next.
+pub fn put_allowed(out: &mut Text, machine: &Machine) {
+    put_words(out, machine);
     let spes = machine.setup().spes();
     for number in 0..2 * u64::from(spes) + 1 {
         put_steps(out, machine, actor(spes, number));
     }
-}
-
-/// Prints what may be done next.
-pub fn print_allowed(rt: &HostRuntime, machine: &Machine) -> Result<()> {
-    let mut out = Text::new(rt.alloc());
-    put_words(&mut out, machine);
-    put_allowed(&mut out, machine);
-    out.print(rt)
 }

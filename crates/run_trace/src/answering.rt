@@ -1,84 +1,81 @@
-//! What is asked of the steps of a record.
+//! What is asked of files.
 
+use crate::failing::told;
 use crate::following::first_steps;
+use crate::going::Watch;
 use crate::ordering::Order;
-use crate::performing::{Task, Way, perform};
-use crate::reading::record_of;
+use crate::performing::{Task, perform};
+use crate::reading::{numbers_of, record_of};
 use crate::timing::print_count;
 use anyhow::Result;
 use cell_base::Step;
 
-/// What is to be printed of steps.
-#[derive(Clone, Copy)]
-pub enum Question {
-    /// What each of them does.
-    Effects,
-    /// What each of them does, with all places that are ordered before it.
-    Trace,
-    /// The states after them.
-    States,
-    /// The states and the flow controllers after so many of them.
-    Flows { steps: u32 },
-    /// The places that are ordered before this one.
-    Before { place: u32 },
-    /// How long each way of following them takes.
-    Time,
-}
-
 /// The ways of following steps that are timed.
-const TIMED: [Way; 4] = [
-    Way::Time,
-    Way::Order(Order::Time),
-    Way::Order(Order::TimeAsking),
-    Way::TimeRaces,
+const TIMED: [Task<'static>; 4] = [
+    Task::Time,
+    Task::Order(Order::Time),
+    Task::Order(Order::TimeAsking),
+    Task::TimeRaces,
 ];
 
-/// The way of following steps that a question asks for, but where it asks for all that are timed.
-fn way_of(question: Question) -> Option<Way> {
-    match question {
-        Question::Effects => Some(Way::Effects),
-        Question::Trace => Some(Way::Order(Order::Trace)),
-        Question::States => Some(Way::States),
-        Question::Flows { .. } => Some(Way::Flows),
-        Question::Before { .. } => Some(Way::Order(Order::Before)),
-        Question::Time => None,
+/// Prints the record of the run that the numbers of a file choose.
+pub fn print_chosen(rt: &HostRuntime, machine: &str, choices: &str) -> Result<()> {
+    let numbers = numbers_of(rt, choices)?;
+    let numbers = numbers.as_slice();
+    perform(rt, machine, &[], Task::Choose { numbers })
+}
+
+/// Performs a task with the first so many steps, or with all.
+fn answer(
+    rt: &HostRuntime,
+    task: Task<'_>,
+    machine: &str,
+    steps: &[Step],
+    count: Option<u32>,
+) -> Result<()> {
+    match first_steps(steps, count) {
+        Ok(steps) => perform(rt, machine, steps, task),
+        Err(failed) => Err(told(failed)),
     }
 }
 
-/// The steps of which a question asks, if there are so many.
-fn steps_of(question: Question, steps: &[Step]) -> Result<&[Step]> {
-    match question {
-        Question::Flows { steps: count } => first_steps(steps, count),
-        Question::Before { place } => first_steps(steps, place.saturating_add(1)),
-        _ => Ok(steps),
-    }
+/// Performs a task with the first so many steps of a record, or with all.
+pub fn print_answer(
+    rt: &HostRuntime,
+    task: Task<'_>,
+    machine: &str,
+    record: &str,
+    count: Option<u32>,
+) -> Result<()> {
+    let record = record_of(rt, record)?;
+    answer(rt, task, machine, record.steps(), count)
+}
+
+/// Goes on behind the first so many steps of a record, by the numbers of a file.
+pub fn print_going(
+    rt: &HostRuntime,
+    machine: &str,
+    record: &str,
+    count: u32,
+    choices: &str,
+) -> Result<()> {
+    let numbers = numbers_of(rt, choices)?;
+    let numbers = numbers.as_slice();
+    let task = Task::Watch(Watch::Go { numbers });
+    print_answer(rt, task, machine, record, Some(count))
 }
 
 /// Prints how long each way of following steps takes.
 fn time_all(rt: &HostRuntime, machine: &str, steps: &[Step]) -> Result<()> {
-    print_count(rt, steps)?;
-    for way in TIMED {
-        perform(rt, machine, Task::Follow { way, steps })?;
+    print_count(rt, steps).map_err(told)?;
+    for task in TIMED {
+        perform(rt, machine, steps, task)?;
     }
     Ok(())
 }
 
-/// Prints an answer about steps of a machine file.
-fn answer(rt: &HostRuntime, question: Question, machine: &str, steps: &[Step]) -> Result<()> {
-    let steps = steps_of(question, steps)?;
-    match way_of(question) {
-        Some(way) => perform(rt, machine, Task::Follow { way, steps }),
-        None => time_all(rt, machine, steps),
-    }
-}
-
-/// Prints an answer about the steps of a record.
-pub fn print_answer(
-    rt: &HostRuntime,
-    question: Question,
-    machine: &str,
-    record: &str,
-) -> Result<()> {
+/// Prints how long each way of following the steps of a record takes.
+pub fn print_times(rt: &HostRuntime, machine: &str, record: &str) -> Result<()> {
     let record = record_of(rt, record)?;
-    answer(rt, question, machine, record.steps())
+    time_all(rt, machine, record.steps())
 }

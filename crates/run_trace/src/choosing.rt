@@ -2,12 +2,11 @@
 
 ghost use Rattle.std.specs.Prelude.{◌+◌, ◌*◌, ◌<◌, ◌≤◌};
 
-use crate::performing::{Task, perform};
-use crate::showing::{show_record, show_run};
-use anyhow::Result;
+use crate::failing::Failed;
+use crate::lines::Text;
+use crate::showing::{put_record, put_states};
 use cell_base::{Actor, Step};
 use cell_machine::Machine;
-use std::fs;
 
 /// The actor of a number, of so many processors: these, their flow controllers, the host.
 pub fn actor(spes: u8, number: u64) -> Actor
@@ -42,33 +41,28 @@ fn make_chosen(machine: &mut Machine, number: u64) -> bool {
     }
 }
 
-/// Makes the step that each number of a text chooses, as long as one is allowed. The numbers stand between blanks.
-fn make_all_chosen(machine: &mut Machine, numbers: &str) -> Result<()> {
-    for word in numbers.split_whitespace() {
-        make_chosen(machine, word.parse::<u64>()?);
+/// Makes the step that each number chooses, where one is allowed, and writes the record.
+pub fn run_chosen(
+    rt: &HostRuntime,
+    out: &mut Text,
+    machine: &mut Machine,
+    numbers: &[u64],
+) -> Result<(), Failed> {
+    for number in numbers {
+        make_chosen(machine, *number);
     }
+    put_record(rt, out, machine);
     Ok(())
 }
 
-/// Makes the run that the numbers of a text choose, and prints its record.
-pub fn run_chosen(rt: &HostRuntime, machine: &mut Machine, numbers: &str) -> Result<()> {
-    make_all_chosen(machine, numbers)?;
-    show_record(rt, machine)
-}
-
-/// Prints the record of the run that the numbers of a file choose.
-pub fn print_chosen(rt: &HostRuntime, machine: &str, choices: &str) -> Result<()> {
-    let numbers = fs::read_to_string(rt, choices)?;
-    let numbers = numbers.as_str();
-    perform(rt, machine, Task::Choose { numbers })
-}
-
-/// Makes the run that the numbers from 0 on choose to its end, and prints its record and the states: the actors take turns.
-pub fn run_alone(rt: &HostRuntime, machine: &mut Machine) -> Result<()> {
+/// Makes the run that the numbers from 0 on choose to its end, and writes its record and the states: the actors take turns.
+pub fn run_alone(rt: &HostRuntime, out: &mut Text, machine: &mut Machine) -> Result<(), Failed> {
     for number in 0..u64::MAX {
         if !make_chosen(machine, number) {
             break;
         }
     }
-    show_run(rt, machine)
+    put_record(rt, out, machine);
+    put_states(rt, out, machine);
+    Ok(())
 }

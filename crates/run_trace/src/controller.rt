@@ -120,37 +120,26 @@ impl Controller {
 
     /// Loses the reservation, where it is of one of these lines.
     fn touch(&mut self, first: u32, last: u32) {
-        if let Some(Reservation { line, .. }) = self.reserved {
-            if first <= line && line <= last {
-                self.reserve(line, true);
-            }
+        if let Some(Reservation { line, is_lost }) = self.reserved {
+            let is_lost = is_lost || first <= line && line <= last;
+            self.reserved = Some(Reservation { line, is_lost });
         }
     }
 
-    fn reserve(&mut self, line: u32, is_lost: bool) {
-        self.reserved = Some(Reservation { line, is_lost });
-    }
-
-    /// What goes into a mailbox of its processor or out of it.
+    /// What goes into a mailbox of its processor or out of it, from which the oldest value is taken.
     fn pass(&mut self, note: Note, value: u32) {
         match note {
-            Note::Put { spe, mailbox } if spe == self.spe => self.put(mailbox, value),
-            Note::Take { spe, mailbox } if spe == self.spe => self.take(mailbox),
+            Note::Put { spe, mailbox } if spe == self.spe => {
+                let put = self.mailbox(mailbox).push(value);
+                self.lacks_memory |= put.is_err();
+            }
+            Note::Take { spe, mailbox } if spe == self.spe => {
+                let values = self.mailbox(mailbox);
+                if !values.is_empty() {
+                    values.remove(0);
+                }
+            }
             _ => {}
-        }
-    }
-
-    /// A value goes into a mailbox.
-    fn put(&mut self, mailbox: u8, value: u32) {
-        let put = self.mailbox(mailbox).push(value);
-        self.lacks_memory |= put.is_err();
-    }
-
-    /// The oldest value of a mailbox is taken.
-    fn take(&mut self, mailbox: u8) {
-        let values = self.mailbox(mailbox);
-        if !values.is_empty() {
-            values.remove(0);
         }
     }
 
@@ -168,16 +157,13 @@ impl Controller {
         match ch {
             MFC_LSA..=MFC_TAG_ID => self.channels.set_param(ch, value),
             MFC_WR_TAG_MASK => self.mask = value,
-            MFC_WR_TAG_UPDATE => self.ask(value),
+            MFC_WR_TAG_UPDATE => {
+                let mask = self.mask;
+                self.request = Some(Request { how: value, mask });
+                self.fixed = None;
+            }
             _ => {}
         }
-    }
-
-    /// Asks for a tag status.
-    fn ask(&mut self, how: u32) {
-        let mask = self.mask;
-        self.request = Some(Request { how, mask });
-        self.fixed = None;
     }
 
     /// What a step tells of commands and statuses, with the value that it wrote.
@@ -223,22 +209,23 @@ impl Controller {
         self.queue.retain(|command| !command.is_complete());
     }
 
-    /// Ends the atomic command in the slot, where the step is that.
+    /// Ends the atomic command in the slot, where the step is that: it reserves its line, or gives up the reservation.
     fn end_atomic(&mut self, made: &Made) {
         self.done = None;
         if let Step::Atomic { .. } = made.step {
             self.done = self.channels.slot();
         }
-        if let Some(atomic) = self.done {
-            self.channels.atomic_done(status_of(atomic, made));
-            self.keep_line(atomic);
-        }
-    }
-
-    /// An atomic command that is done reserves its line, or gives up the reservation.
-    fn keep_line(&mut self, atomic: AtomicOp) {
+        let Some(atomic) = self.done else {
+            return;
+        };
+        self.channels.atomic_done(status_of(atomic, made));
         match atomic.kind {
-            AtomicKind::GetLine => self.reserve(atomic.line, false),
+            AtomicKind::GetLine => {
+                self.reserved = Some(Reservation {
+                    line: atomic.line,
+                    is_lost: false,
+                });
+            }
             AtomicKind::PutCond => self.reserved = None,
             AtomicKind::PutLine => {}
         }

@@ -1,13 +1,12 @@
 //! The flow controllers of a run.
 
 use crate::controller::Controller;
-use crate::showing::no_memory;
+use crate::failing::Failed;
 use crate::watching::{Made, spe_of, watch};
-use anyhow::Result;
 use cell_base::Step;
 use cell_machine::{Machine, Place, Span};
 use main_memory::LINE_BYTES;
-use std::alloc::{AllocError, Global};
+use std::alloc::Global;
 
 /// The flow controllers of all processors, by their numbers.
 ///
@@ -29,21 +28,19 @@ fn lines_of(written: Span) -> Option<(u32, u32)> {
 
 impl Controllers {
     /// The controllers of so many processors at their start.
-    pub fn new(alloc: Global, spes: u8) -> Result<Controllers, AllocError> {
+    pub fn new(alloc: Global, spes: u8) -> Controllers {
         let mut each = Vec::new(alloc);
+        let mut lacks_memory = false;
         for spe in 0..spes {
-            each.push(Controller::new(alloc, spe))?;
+            lacks_memory |= each.push(Controller::new(alloc, spe)).is_err();
         }
-        Ok(Controllers {
-            each,
-            lacks_memory: false,
-        })
+        Controllers { each, lacks_memory }
     }
 
     /// Whether all was taken in.
-    pub fn told(&self) -> Result<()> {
+    pub fn told(&self) -> Result<(), Failed> {
         if self.lacks_memory {
-            Err(no_memory())
+            Err(Failed::Memory)
         } else {
             Ok(())
         }
@@ -60,7 +57,7 @@ impl Controllers {
     }
 
     /// Makes a step, takes it in, and tells what it did.
-    pub fn step(&mut self, machine: &mut Machine, step: Step) -> Result<Made> {
+    pub fn step(&mut self, machine: &mut Machine, step: Step) -> Result<Made, Failed> {
         let made = watch(machine, step)?;
         self.follow(&made);
         Ok(made)

@@ -4,27 +4,22 @@ ghost use Rattle.std.specs.Prelude.{◌≡◌, ◌+◌, ◌<◌, ◌≤◌, ◌*
 ghost use Rattle.cell_machine.specs.Run.{Ran};
 ghost use Rattle.race_order.specs.OrderedRuns.{StandsForRun};
 
-use anyhow::{Error, Result, anyhow};
+use crate::failing::Failed;
 use cell_base::Step;
 use cell_machine::{Effect, Machine};
 use race_order::Orderer;
 
-/// The fault of a step that isn't allowed.
-fn refused(step: Step) -> Error {
-    anyhow!("step {step:?} isn't allowed")
-}
-
 /// Makes a step, and answers its effect.
-pub fn make(machine: &mut Machine, step: Step) -> Result<Effect> {
+pub fn make(machine: &mut Machine, step: Step) -> Result<Effect, Failed> {
     let effect = machine.effect(step);
     match machine.step(step).ok().and(effect) {
         Some(effect) => Ok(effect),
-        None => Err(refused(step)),
+        None => Err(Failed::Refused(step)),
     }
 }
 
 /// Makes steps.
-pub fn make_all(machine: &mut Machine, steps: &[Step]) -> Result<()> {
+pub fn make_all(machine: &mut Machine, steps: &[Step]) -> Result<(), Failed> {
     for step in steps {
         make(machine, *step)?;
     }
@@ -32,18 +27,20 @@ pub fn make_all(machine: &mut Machine, steps: &[Step]) -> Result<()> {
 }
 
 /// Makes a step, takes it into the order, and answers its effect.
-pub fn take(orderer: &mut Orderer, machine: &mut Machine, step: Step) -> Result<Effect>
+pub fn take(orderer: &mut Orderer, machine: &mut Machine, step: Step) -> Result<Effect, Failed>
     ghost m: { Ran }
     requires same { m ≡ machine.old }
     requires stands { StandsForRun orderer.old m }
     ensures { IfOk result (λ _. StandsForRun orderer.new machine.new) }
 {
     let Some(effect) = machine.effect(step) else {
-        return Err(refused(step));
+        return Err(Failed::Refused(step));
     };
-    orderer.advance(step, effect)?;
+    if orderer.advance(step, effect).is_err() {
+        return Err(Failed::Memory);
+    }
     if machine.step(step).is_err() {
-        return Err(refused(step));
+        return Err(Failed::Refused(step));
     }
     Ok(effect)
 }
@@ -86,7 +83,7 @@ pub fn take_all(
     machine: &mut Machine,
     steps: &[Step],
     asks: bool,
-) -> Result<u64>
+) -> Result<u64, Failed>
     ghost m: { Ran }
     requires same { m ≡ machine.old }
     requires stands { StandsForRun orderer.old m }
@@ -102,15 +99,11 @@ pub fn take_all(
     Ok(yes)
 }
 
-/// The fault of a record that has fewer steps than are asked for.
-fn too_short(count: u32) -> Error {
-    anyhow!("the record has fewer than {count} steps")
-}
-
-/// The first so many steps, if there are so many.
-pub fn first_steps(steps: &[Step], count: u32) -> Result<&[Step]> {
-    if count as usize > steps.len() {
-        return Err(too_short(count));
+/// The first so many steps, if there are so many, or all.
+pub fn first_steps(steps: &[Step], count: Option<u32>) -> Result<&[Step], Failed> {
+    match count {
+        Some(count) if count as usize > steps.len() => Err(Failed::TooShort(count)),
+        Some(count) => Ok(&steps[..count as usize]),
+        None => Ok(steps),
     }
-    Ok(&steps[..count as usize])
 }

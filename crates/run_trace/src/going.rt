@@ -1,101 +1,141 @@
-//! Runs that go on behind the first steps of a record, by choices.
+//! Runs that the flow controllers follow, and runs that go on behind the first steps of a record, by choices.
 
-use crate::allowed::print_allowed;
+use crate::allowed::put_allowed;
 use crate::choosing::chosen;
 use crate::controllers::Controllers;
 use crate::effects::put_line;
-use crate::flows::{follow, show_all};
-use crate::following::first_steps;
+use crate::failing::Failed;
+use crate::flows::put_flows;
 use crate::lines::Text;
-use crate::performing::{Task, perform};
-use crate::reading::record_of;
-use anyhow::Result;
+use crate::showing::put_states;
 use cell_base::Step;
 use cell_machine::Machine;
-use std::fs;
 
-/// Makes the step that the number chooses, if one is allowed, and writes its effect.
-fn make_chosen(
-    out: &mut Text,
-    controllers: &mut Controllers,
-    machine: &mut Machine,
-    number: u64,
-) -> Result<()> {
-    if let Some(step) = chosen(machine, number) {
-        let made = controllers.step(machine, step)?;
-        put_line(out, &made, controllers.maker(step));
-    }
-    Ok(())
+/// What is told of a run that the flow controllers follow.
+#[derive(Clone, Copy)]
+pub enum Watch<'a> {
+    /// What each step does.
+    Effects,
+    /// The states and the flow controllers behind the steps.
+    Flows,
+    /// What further steps do, which the numbers choose, then the states and the flow controllers, and what may be done next.
+    Go { numbers: &'a [u64] },
 }
 
-/// Makes the steps that the numbers choose, and prints their effects.
-fn make_all_chosen(
+/// Makes a step, and prints its effect.
+fn show_step(
     rt: &HostRuntime,
     out: &mut Text,
     controllers: &mut Controllers,
     machine: &mut Machine,
-    numbers: &str,
-) -> Result<()> {
-    for word in numbers.split_whitespace() {
-        make_chosen(out, controllers, machine, word.parse::<u64>()?)?;
-        out.print_pages(rt)?;
+    step: Step,
+) -> Result<(), Failed> {
+    let made = controllers.step(machine, step)?;
+    put_line(out, &made, controllers.maker(step));
+    out.print_pages(rt)
+}
+
+/// Makes the steps, and prints their effects.
+fn show_effects(
+    rt: &HostRuntime,
+    out: &mut Text,
+    controllers: &mut Controllers,
+    machine: &mut Machine,
+    steps: &[Step],
+) -> Result<(), Failed> {
+    for step in steps {
+        show_step(rt, out, controllers, machine, *step)?;
     }
     controllers.told()
 }
 
-/// Makes the steps that the numbers choose, and prints their effects, and then how the machine stands.
+/// Makes the steps that the numbers choose, where one is allowed, and prints their effects.
 fn show_chosen(
     rt: &HostRuntime,
+    out: &mut Text,
     controllers: &mut Controllers,
     machine: &mut Machine,
-    numbers: &str,
-) -> Result<()> {
-    let mut out = Text::new(rt.alloc());
-    make_all_chosen(rt, &mut out, controllers, machine, numbers)?;
-    out.print(rt)?;
-    show_all(rt, controllers, machine)?;
-    print_allowed(rt, machine)
+    numbers: &[u64],
+) -> Result<(), Failed> {
+    for number in numbers {
+        if let Some(step) = chosen(machine, *number) {
+            show_step(rt, out, controllers, machine, step)?;
+        }
+    }
+    controllers.told()
 }
 
-/// Makes steps, and then those that the numbers choose.
-fn follow_and_choose(
-    rt: &HostRuntime,
+/// Makes the steps, and takes them in.
+fn follow(
     controllers: &mut Controllers,
     machine: &mut Machine,
     steps: &[Step],
-    numbers: &str,
-) -> Result<()> {
+) -> Result<(), Failed> {
+    for step in steps {
+        controllers.step(machine, *step)?;
+    }
+    controllers.told()
+}
+
+/// Writes the states of a machine, and its flow controllers.
+fn put_all(rt: &HostRuntime, out: &mut Text, controllers: &Controllers, machine: &Machine) {
+    put_states(rt, out, machine);
+    put_flows(out, controllers.each(), machine);
+}
+
+/// Makes steps, and writes the states and the flow controllers behind them.
+fn show_flows(
+    rt: &HostRuntime,
+    out: &mut Text,
+    controllers: &mut Controllers,
+    machine: &mut Machine,
+    steps: &[Step],
+) -> Result<(), Failed> {
     follow(controllers, machine, steps)?;
-    show_chosen(rt, controllers, machine, numbers)
+    put_all(rt, out, controllers, machine);
+    Ok(())
 }
 
-/// Makes steps from a machine's start, and then those that the numbers choose.
-pub fn go_on(rt: &HostRuntime, machine: &mut Machine, steps: &[Step], numbers: &str) -> Result<()> {
-    let mut controllers = Controllers::new(rt.alloc(), machine.setup().spes())?;
-    follow_and_choose(rt, &mut controllers, machine, steps, numbers)
-}
-
-/// Goes on behind the first so many steps of a record by numbers.
-fn perform_going(
+/// Makes steps, and then those that the numbers choose, and writes how the machine stands.
+fn go_on(
     rt: &HostRuntime,
-    machine: &str,
+    out: &mut Text,
+    controllers: &mut Controllers,
+    machine: &mut Machine,
     steps: &[Step],
-    count: u32,
-    numbers: &str,
-) -> Result<()> {
-    let steps = first_steps(steps, count)?;
-    perform(rt, machine, Task::Go { steps, numbers })
+    numbers: &[u64],
+) -> Result<(), Failed> {
+    follow(controllers, machine, steps)?;
+    show_chosen(rt, out, controllers, machine, numbers)?;
+    put_all(rt, out, controllers, machine);
+    put_allowed(out, machine);
+    Ok(())
 }
 
-/// Goes on behind the first so many steps of a record, by the numbers of a file.
-pub fn print_going(
+/// Makes steps, and writes what is told of them.
+fn watch_steps(
     rt: &HostRuntime,
-    machine: &str,
-    record: &str,
-    count: u32,
-    choices: &str,
-) -> Result<()> {
-    let record = record_of(rt, record)?;
-    let numbers = fs::read_to_string(rt, choices)?;
-    perform_going(rt, machine, record.steps(), count, numbers.as_str())
+    out: &mut Text,
+    controllers: &mut Controllers,
+    machine: &mut Machine,
+    steps: &[Step],
+    watch: Watch<'_>,
+) -> Result<(), Failed> {
+    match watch {
+        Watch::Effects => show_effects(rt, out, controllers, machine, steps),
+        Watch::Flows => show_flows(rt, out, controllers, machine, steps),
+        Watch::Go { numbers } => go_on(rt, out, controllers, machine, steps, numbers),
+    }
+}
+
+/// Makes steps from a machine's start, and writes what is told of them.
+pub fn watch_run(
+    rt: &HostRuntime,
+    out: &mut Text,
+    machine: &mut Machine,
+    steps: &[Step],
+    watch: Watch<'_>,
+) -> Result<(), Failed> {
+    let mut controllers = Controllers::new(rt.alloc(), machine.setup().spes());
+    watch_steps(rt, out, &mut controllers, machine, steps, watch)
 }

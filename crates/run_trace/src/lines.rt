@@ -1,11 +1,12 @@
 //! The lines that tools read: fields behind bars, each of words between blanks.
 
-use crate::showing::{no_memory, print_bytes};
-use anyhow::Result;
+use crate::failing::Failed;
 use cell_base::Step;
 use cell_base::line_text::put_decimal;
-use cell_report::put_step;
+use cell_report::{TextError, put_step};
 use std::alloc::Global;
+use std::io;
+use std::io::Write;
 
 /// How many bytes are gathered before they are printed.
 const PAGE: usize = 65_536;
@@ -29,6 +30,15 @@ impl Text {
     pub fn put(&mut self, characters: &str) {
         let written = self.bytes.extend_from_slice(characters.as_bytes());
         self.lacks_memory |= written.is_err();
+    }
+
+    /// Writes a text, if there was room for it.
+    pub fn put_text(&mut self, text: Result<Vec<u8>, TextError>) {
+        let written = match text {
+            Ok(text) => self.bytes.extend_from_slice(text.as_slice()).is_ok(),
+            Err(_) => false,
+        };
+        self.lacks_memory |= !written;
     }
 
     /// Writes a number.
@@ -56,22 +66,11 @@ impl Text {
         }
     }
 
-    /// Begins a field by its name.
-    pub fn field(&mut self, name: &str) {
+    /// Writes a field of a name and numbers.
+    pub fn field(&mut self, name: &str, numbers: &[u32]) {
         self.put(" | ");
         self.put(name);
-    }
-
-    /// Writes a field of one number.
-    pub fn field_of(&mut self, name: &str, n: u32) {
-        self.field(name);
-        self.number(n);
-    }
-
-    /// Writes a field of two numbers.
-    pub fn field_of_two(&mut self, name: &str, first: u32, second: u32) {
-        self.field_of(name, first);
-        self.number(second);
+        self.numbers(numbers);
     }
 
     /// Begins a line by a step as its line in a record.
@@ -87,17 +86,17 @@ impl Text {
     }
 
     /// Prints the text, and begins it anew.
-    pub fn print(&mut self, rt: &HostRuntime) -> Result<()> {
+    pub fn print(&mut self, rt: &HostRuntime) -> Result<(), Failed> {
         if self.lacks_memory {
-            return Err(no_memory());
+            return Err(Failed::Memory);
         }
-        print_bytes(rt, self.bytes.as_slice())?;
+        io::writer(rt).write_all(self.bytes.as_slice())?;
         self.bytes.clear();
         Ok(())
     }
 
     /// Prints the text, where it fills a page.
-    pub fn print_pages(&mut self, rt: &HostRuntime) -> Result<()> {
+    pub fn print_pages(&mut self, rt: &HostRuntime) -> Result<(), Failed> {
         if self.bytes.len() < PAGE {
             return Ok(());
         }

@@ -18,6 +18,7 @@ mod choosing;
 mod controller;
 mod controllers;
 mod effects;
+mod failing;
 mod flows;
 mod following;
 mod going;
@@ -33,29 +34,25 @@ mod tracing;
 mod watching;
 mod words;
 
-use answering::print_answer;
-use anyhow::{Error, Result, anyhow};
-use choosing::print_chosen;
-use going::print_going;
+use answering::{print_answer, print_chosen, print_going, print_times};
+use anyhow::Result;
+use failing::{Failed, told};
 use performing::{Task, perform};
 use std::env;
-use words::{Form, USAGE, form_of};
-
-/// The fault of words that have no form.
-fn misused() -> Error {
-    anyhow!("{USAGE}")
-}
+use words::{Form, form_of};
 
 /// Prints what the words ask for.
 fn obey(rt: &HostRuntime, form: Form<'_>) -> Result<()> {
     match form {
-        Form::Alone { machine } => perform(rt, machine, Task::Alone),
+        Form::Alone { machine } => perform(rt, machine, &[], Task::Alone),
         Form::Choose { machine, choices } => print_chosen(rt, machine, choices),
         Form::Ask {
-            question,
+            task,
             machine,
             record,
-        } => print_answer(rt, question, machine, record),
+            count,
+        } => print_answer(rt, task, machine, record, count),
+        Form::Time { machine, record } => print_times(rt, machine, record),
         Form::Go {
             machine,
             record,
@@ -69,6 +66,6 @@ fn main(rt: HostRuntime) -> Result<()> {
     let words: Vec<String> = env::args(&rt)?.skip(1).collect(rt.alloc())?;
     match form_of(words.as_slice()) {
         Some(form) => obey(&rt, form),
-        None => Err(misused()),
+        None => Err(told(Failed::Misused)),
     }
 }

@@ -4,11 +4,12 @@ ghost use Rattle.std.specs.Prelude.{◌≡◌, []};
 ghost use Rattle.cell_machine.specs.Run.{Ran};
 ghost use Rattle.race_order.specs.OrderedRuns.{StandsForRun};
 
-use crate::before::print_ranges;
+use crate::before::put_ranges;
+use crate::failing::Failed;
 use crate::following::take_all;
+use crate::lines::Text;
 use crate::timing::time_order;
 use crate::tracing::print_steps;
-use anyhow::Result;
 use cell_base::Step;
 use cell_machine::Machine;
 use race_order::Orderer;
@@ -29,11 +30,12 @@ pub enum Order {
 /// Follows steps, and prints something of their order.
 fn show_ordered(
     rt: &HostRuntime,
+    out: &mut Text,
     order: Order,
     orderer: &mut Orderer,
     machine: &mut Machine,
     steps: &[Step],
-) -> Result<()>
+) -> Result<(), Failed>
     ghost m: { Ran }
     requires same { m ≡ machine.old }
     requires stands { StandsForRun orderer.old m }
@@ -42,7 +44,8 @@ fn show_ordered(
         Order::Trace => print_steps(rt, orderer, machine, steps),
         Order::Before => {
             take_all(orderer, machine, steps, false)?;
-            print_ranges(rt, orderer, machine)
+            put_ranges(out, orderer, machine);
+            Ok(())
         }
         Order::Time => time_order(rt, false, orderer, machine, steps),
         Order::TimeAsking => time_order(rt, true, orderer, machine, steps),
@@ -52,12 +55,15 @@ fn show_ordered(
 /// Follows steps from a machine's start, and prints something of their order.
 pub fn show_order(
     rt: &HostRuntime,
+    out: &mut Text,
     order: Order,
     machine: &mut Machine,
     steps: &[Step],
-) -> Result<()>
+) -> Result<(), Failed>
     requires { machine.old ≡ record { setup = machine.old.setup; steps = [] } }
 {
-    let mut orderer = Orderer::new(rt.alloc(), machine.setup())?;
-    show_ordered(rt, order, &mut orderer, machine, steps)
+    match Orderer::new(rt.alloc(), machine.setup()) {
+        Ok(mut orderer) => show_ordered(rt, out, order, &mut orderer, machine, steps),
+        Err(_) => Err(Failed::Memory),
+    }
 }

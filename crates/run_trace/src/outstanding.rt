@@ -57,25 +57,21 @@ fn parts_of(command: &Command) -> u32 {
     }
 }
 
-/// The command whose step it is.
-fn command_of(step: Step) -> Option<u32> {
-    match step {
-        Step::Piece { cmd, .. } => Some(cmd),
-        Step::Elem { cmd, .. } => Some(cmd),
-        Step::Retire { cmd, .. } => Some(cmd),
-        _ => None,
-    }
-}
-
 impl Outstanding {
-    /// A list that is issued.
-    fn list(number: u32, command: Command, high: u32) -> Outstanding {
+    /// A command that is issued.
+    pub fn new(number: u32, command: Command, high: u32) -> Outstanding {
+        let (whole, left) = if is_list(&command) {
+            (command.size / ELEMENT_BYTES, 0)
+        } else {
+            let parts = parts_of(&command);
+            (parts, parts)
+        };
         Outstanding {
             number,
             command,
             high,
-            whole: command.size / ELEMENT_BYTES,
-            left: 0,
+            whole,
+            left,
             read: 0,
             element: None,
             is_stalled: false,
@@ -83,45 +79,23 @@ impl Outstanding {
         }
     }
 
-    /// A command that is issued.
-    pub fn new(number: u32, command: Command, high: u32) -> Outstanding {
-        let mut issued = Outstanding::list(number, command, high);
-        if !is_list(&command) {
-            issued.whole = parts_of(&command);
-            issued.left = issued.whole;
-        }
-        issued
-    }
-
-    /// Takes in a step of its processor or flow controller, and says whether the list stalls by it.
+    /// Takes in a step of its processor or flow controller, and says whether the list stalls by it. An acknowledgement of its tag ends a stall.
     pub fn follow(&mut self, made: &Made) -> bool {
         if let Note::Ack { tag } = made.effect.note {
-            self.resume(tag);
+            self.is_stalled &= u32::from(self.command.tag) != tag;
         }
-        if command_of(made.step) != Some(self.number) {
-            return false;
-        }
-        self.go_on(made)
-    }
-
-    /// Goes on behind a stall, where the acknowledgement is of its tag.
-    fn resume(&mut self, tag: u32) {
-        if u32::from(self.command.tag) == tag {
-            self.is_stalled = false;
-        }
-    }
-
-    /// Takes in a step of its own. An element at fault isn't read.
-    fn go_on(&mut self, made: &Made) -> bool {
         match made.step {
-            Step::Piece { .. } => self.left = self.left.saturating_sub(1),
-            Step::Retire { .. } => self.is_retired = true,
-            _ => self.read_element(made.element),
+            Step::Piece { cmd, .. } if cmd == self.number => {
+                self.left = self.left.saturating_sub(1);
+            }
+            Step::Retire { cmd, .. } if cmd == self.number => self.is_retired = true,
+            Step::Elem { cmd, .. } if cmd == self.number => self.read_element(made.element),
+            _ => return false,
         }
         self.left == 0 && self.end_element()
     }
 
-    /// Reads the next element of a list.
+    /// Reads the next element of a list. An element at fault isn't read.
     fn read_element(&mut self, element: Option<Element>) {
         if let Some(element) = element {
             self.read = element.number.wrapping_add(1);
@@ -139,19 +113,13 @@ impl Outstanding {
         ended.flagged
     }
 
-    /// Whether all elements of a list were read, and the list waits for nothing.
-    fn is_through(&self) -> bool {
-        self.read == self.whole && self.element.is_none() && !self.is_stalled
-    }
-
-    /// Whether nothing of it is left. A command that has no parts and no elements is retired.
+    /// Whether nothing of it is left: of a list all elements were read, and it waits for nothing. A command that has no parts and no elements is retired.
     pub fn is_complete(&self) -> bool {
         if self.whole == 0 || self.left != 0 {
             self.is_retired
-        } else if is_list(&self.command) {
-            self.is_through()
         } else {
-            true
+            !is_list(&self.command)
+                || self.read == self.whole && self.element.is_none() && !self.is_stalled
         }
     }
 }

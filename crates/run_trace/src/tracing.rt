@@ -4,8 +4,8 @@ ghost use Rattle.std.specs.Prelude.{◌≡◌, ◌+◌, ◌*◌, ◌<◌, ◌≤
 ghost use Rattle.cell_machine.specs.Run.{Ran};
 ghost use Rattle.race_order.specs.OrderedRuns.{StandsForRun};
 
+use crate::failing::Failed;
 use crate::following::{is_before, take};
-use anyhow::Result;
 use cell_base::Step;
 use cell_machine::{Effect, Machine};
 use race_order::Orderer;
@@ -32,7 +32,7 @@ fn places_before(
 }
 
 /// Prints a step with its effect and the places that are ordered before it.
-fn print_step(rt: &HostRuntime, step: Step, effect: Effect, before: &[u32]) -> Result<()> {
+fn print_step(rt: &HostRuntime, step: Step, effect: Effect, before: &[u32]) -> Result<(), Failed> {
     println!(rt; "{step:?} | {effect:?} | {before:?}")?;
     Ok(())
 }
@@ -44,7 +44,7 @@ fn print_last(
     machine: &Machine,
     step: Step,
     effect: Effect,
-) -> Result<()>
+) -> Result<(), Failed>
     ghost m: { Ran }
     requires same { m ≡ machine.now }
     requires stands { StandsForRun orderer.now m }
@@ -59,7 +59,7 @@ pub fn print_steps(
     orderer: &mut Orderer,
     machine: &mut Machine,
     steps: &[Step],
-) -> Result<()>
+) -> Result<(), Failed>
     ghost m: { Ran }
     requires same { m ≡ machine.old }
     requires stands { StandsForRun orderer.old m }

@@ -1,8 +1,8 @@
 //! Steps as they are made, with what passes through channels and mailboxes.
 
+use crate::failing::Failed;
 use crate::following::make;
 use crate::outstanding::Element;
-use anyhow::Result;
 use cell_base::{ChannelOp, Step};
 use cell_host::HostAction;
 use cell_machine::{Effect, Machine, Note};
@@ -64,21 +64,19 @@ pub fn next_word(machine: &Machine, spe: u8) -> Option<u32> {
     }
 }
 
-/// What an instruction asks of a channel, whose register RT has this word.
-fn operation(instruction: Instr, value: u32) -> Option<ChannelOp> {
+/// What the next instruction of a processor asks of a channel.
+fn asked_of(machine: &Machine, spe: u8) -> Option<ChannelOp> {
+    let instruction = next_word(machine, spe).and_then(decode)?;
     let (rt, ch) = (instruction.rt, instruction.ra);
     match instruction.row {
         Row::Rdch => Some(ChannelOp::Read { rt, ch }),
         Row::Rchcnt => Some(ChannelOp::Count { rt, ch }),
-        Row::Wrch => Some(ChannelOp::Write { ch, value }),
+        Row::Wrch => Some(ChannelOp::Write {
+            ch,
+            value: register_of(machine, spe, rt),
+        }),
         _ => None,
     }
-}
-
-/// What the next instruction of a processor asks of a channel.
-fn asked_of(machine: &Machine, spe: u8) -> Option<ChannelOp> {
-    let instruction = decode(next_word(machine, spe)?)?;
-    operation(instruction, register_of(machine, spe, instruction.rt))
 }
 
 /// The value that the host took last.
@@ -89,15 +87,10 @@ fn value_taken(machine: &Machine) -> u32 {
     }
 }
 
-/// The action that the host did last.
-fn last_action(machine: &Machine) -> Option<&HostAction> {
-    let done = machine.host().place() as usize;
-    machine.setup().actions().get(done.saturating_sub(1))
-}
-
 /// What the action that the host did last sent or took.
 fn value_of_host(machine: &Machine) -> u32 {
-    match last_action(machine) {
+    let done = machine.host().place() as usize;
+    match machine.setup().actions().get(done.saturating_sub(1)) {
         Some(HostAction::Send { value, .. }) => *value,
         _ => value_taken(machine),
     }
@@ -143,34 +136,24 @@ fn element_of(machine: &Machine, spe: u8, effect: &Effect) -> Option<Element> {
     })
 }
 
-/// What the next instruction asks of a channel, where the step is one.
-fn channel_of(machine: &Machine, step: Step) -> Option<ChannelOp> {
-    match step {
+/// Makes a step, and tells what it did.
+pub fn watch(machine: &mut Machine, step: Step) -> Result<Made, Failed> {
+    let channel = match step {
         Step::Exec { spe } => asked_of(machine, spe),
         _ => None,
-    }
-}
-
-/// What a step did, once it was made.
-fn made_by(machine: &Machine, step: Step, effect: Effect, channel: Option<ChannelOp>) -> Made {
+    };
+    let effect = make(machine, step)?;
     let (value, element) = match step {
         Step::Exec { spe } => (value_of(machine, spe, channel), None),
         Step::Elem { spe, .. } => (0, element_of(machine, spe, &effect)),
         Step::Host => (value_of_host(machine), None),
         _ => (0, None),
     };
-    Made {
+    Ok(Made {
         step,
         effect,
         channel,
         value,
         element,
-    }
-}
-
-/// Makes a step, and tells what it did.
-pub fn watch(machine: &mut Machine, step: Step) -> Result<Made> {
-    let channel = channel_of(machine, step);
-    let effect = make(machine, step)?;
-    Ok(made_by(machine, step, effect, channel))
+    })
 }

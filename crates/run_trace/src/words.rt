@@ -1,6 +1,8 @@
 //! The words of the command line.
 
-use crate::answering::Question;
+use crate::going::Watch;
+use crate::ordering::Order;
+use crate::performing::Task;
 
 /// What is said where the words have no form.
 pub const USAGE: &str =
@@ -16,8 +18,14 @@ pub enum Form<'a> {
         machine: &'a str,
         choices: &'a str,
     },
+    /// A task with the first so many steps, or with all.
     Ask {
-        question: Question,
+        task: Task<'a>,
+        machine: &'a str,
+        record: &'a str,
+        count: Option<u32>,
+    },
+    Time {
         machine: &'a str,
         record: &'a str,
     },
@@ -29,55 +37,32 @@ pub enum Form<'a> {
     },
 }
 
-/// The question that a word asks of all steps.
-fn question_named(word: &str) -> Option<Question> {
-    match word {
-        "effects" => Some(Question::Effects),
-        "trace" => Some(Question::Trace),
-        "states" => Some(Question::States),
-        "time" => Some(Question::Time),
-        _ => None,
-    }
-}
-
-/// The question that a word asks with a number.
-fn question_with(word: &str, number: u32) -> Option<Question> {
-    match word {
-        "before" => Some(Question::Before { place: number }),
-        "states" => Some(Question::Flows { steps: number }),
-        _ => None,
-    }
-}
-
-/// The form of a question, if there is one.
-fn ask<'a>(question: Option<Question>, machine: &'a str, record: &'a str) -> Option<Form<'a>> {
-    match question {
-        Some(question) => Some(Form::Ask {
-            question,
-            machine,
-            record,
-        }),
-        None => None,
-    }
-}
-
-/// The form of two words.
-fn form_of_two<'a>(form: &str, machine: &'a str) -> Option<Form<'a>> {
-    match form {
-        "alone" => Some(Form::Alone { machine }),
-        _ => None,
-    }
-}
-
 /// The form of three words, of which the last names a file.
 fn form_of_three<'a>(form: &str, machine: &'a str, file: &'a str) -> Option<Form<'a>> {
-    match form {
-        "choose" => Some(Form::Choose {
-            machine,
-            choices: file,
-        }),
-        _ => ask(question_named(form), machine, file),
-    }
+    let task = match form {
+        "choose" => {
+            return Some(Form::Choose {
+                machine,
+                choices: file,
+            });
+        }
+        "time" => {
+            return Some(Form::Time {
+                machine,
+                record: file,
+            });
+        }
+        "effects" => Task::Watch(Watch::Effects),
+        "trace" => Task::Order(Order::Trace),
+        "states" => Task::States,
+        _ => return None,
+    };
+    Some(Form::Ask {
+        task,
+        machine,
+        record: file,
+        count: None,
+    })
 }
 
 /// The form of four words, of which the last is a number.
@@ -87,35 +72,52 @@ fn form_of_four<'a>(
     record: &'a str,
     number: &str,
 ) -> Option<Form<'a>> {
-    match number.parse::<u32>() {
-        Ok(number) => ask(question_with(form, number), machine, record),
-        Err(_) => None,
-    }
+    let number = number.parse::<u32>().ok()?;
+    let (task, count) = match form {
+        "before" => (Task::Order(Order::Before), number.saturating_add(1)),
+        "states" => (Task::Watch(Watch::Flows), number),
+        _ => return None,
+    };
+    Some(Form::Ask {
+        task,
+        machine,
+        record,
+        count: Some(count),
+    })
 }
 
-/// The form that goes on behind so many steps of a record.
-fn go<'a>(machine: &'a str, record: &'a str, number: &str, choices: &'a str) -> Option<Form<'a>> {
-    match number.parse::<u32>() {
-        Ok(steps) => Some(Form::Go {
-            machine,
-            record,
-            steps,
-            choices,
-        }),
-        Err(_) => None,
-    }
-}
-
-/// The form of five words, of which the last but one is a number.
+/// The form of five words, which goes on behind so many steps of a record.
 fn form_of_five<'a>(
     form: &str,
     machine: &'a str,
     record: &'a str,
-    number: &str,
+    steps: &str,
     choices: &'a str,
 ) -> Option<Form<'a>> {
-    match form {
-        "go" => go(machine, record, number, choices),
+    if form != "go" {
+        return None;
+    }
+    Some(Form::Go {
+        machine,
+        record,
+        steps: steps.parse::<u32>().ok()?,
+        choices,
+    })
+}
+
+/// The form of a word with a machine file and the words behind it.
+fn form_with<'a>(form: &str, machine: &'a str, rest: &'a [String]) -> Option<Form<'a>> {
+    match rest {
+        [] => {
+            if form == "alone" {
+                Some(Form::Alone { machine })
+            } else {
+                None
+            }
+        }
+        [file] => form_of_three(form, machine, file),
+        [record, number] => form_of_four(form, machine, record, number),
+        [record, steps, choices] => form_of_five(form, machine, record, steps, choices),
         _ => None,
     }
 }
@@ -123,12 +125,7 @@ fn form_of_five<'a>(
 /// The form of the words, if they have one.
 pub fn form_of(words: &[String]) -> Option<Form<'_>> {
     match words {
-        [form, machine] => form_of_two(form, machine),
-        [form, machine, file] => form_of_three(form, machine, file),
-        [form, machine, record, number] => form_of_four(form, machine, record, number),
-        [form, machine, record, number, choices] => {
-            form_of_five(form, machine, record, number, choices)
-        }
+        [form, machine, rest @ ..] => form_with(form, machine, rest),
         _ => None,
     }
 }

@@ -6,8 +6,8 @@ ghost-print_steps g a = g.m
 abbrev pub ghost-take_all : goal.ghost-take_all
 ghost-take_all g a = g.m
 
-abbrev pub ghost-print_ranges : goal.ghost-print_ranges
-ghost-print_ranges g a = a.machine.now
+abbrev pub ghost-put_ranges : goal.ghost-put_ranges
+ghost-put_ranges g a = a.machine.now
 
 abbrev pub ghost-time_order : goal.ghost-time_order
 ghost-time_order g a = g.m
