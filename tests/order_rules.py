@@ -116,6 +116,10 @@ def place_free(t, i, j):
     return nth(t, i, "take") + places == nth(t, j, "put")
 
 
+def signalled(t, i, j):
+    return "signal" in t.steps[i].told and t.steps[i].told["signal"] == t.steps[j].told.get("signal")
+
+
 def finished(t, i, j):
     return "ended" in t.steps[i].told and "awaited" in t.steps[j].told and t.steps[i].spe == t.steps[j].number("awaited")
 
@@ -164,7 +168,7 @@ def tag_seen(t, i, j):
 
 RULES = {
     "Program": program, "Script": script, "Issued": issued, "AtomicIssued": atomic_issued, "NextAtomic": next_atomic, "AtomicSeen": atomic_seen,
-    "Line": line, "Passed": passed, "PlaceFree": place_free, "Finished": finished, "Queue": queue, "ElementPiece": element_piece,
+    "Line": line, "Passed": passed, "PlaceFree": place_free, "Signalled": signalled, "Finished": finished, "Queue": queue, "ElementPiece": element_piece,
     "NextElement": next_element, "StallSeen": stall_seen, "Resumed": resumed, "ResumedEarlier": resumed_earlier, "TagSeen": tag_seen,
 }
 

@@ -1,4 +1,4 @@
-// Put behind a page by tests/picture: tells which of its texts overlap, which are cut, and whether the page got ready, as the text of an element.
+// Given to a page by tests/picture in a browser: tells which of its texts overlap, which are cut, which lines cross one, and what has no name for a reader's ear.
 function shownBox(node, rect) {
   let box = rect;
   for (let up = node.parentElement; up; up = up.parentElement) {
@@ -14,34 +14,60 @@ const isText = node => node.textContent.trim() && !['SCRIPT', 'STYLE', 'TITLE', 
 
 // The boxes of a text as far as they are seen; a line's box is higher than its letters.
 function boxesOf(node) {
-  const range = document.createRange(), within = node.parentElement.closest('svg') ? 2 : 3;
+  const range = document.createRange(), within = node.parentElement.closest('svg') ? 2 : 3, up = node.parentElement;
   range.selectNodeContents(node);
   return [...range.getClientRects()].map(rect => ({ rect, box: shownBox(node, rect) })).filter(({ box }) => box.right - box.left > 1 && box.bottom - box.top > 1)
-    .map(({ rect, box }) => ({ node, is_head: node.parentElement.closest('#heads') !== null, is_cut: rect.right > box.right + 1, left: box.left, right: box.right, top: box.top + within, bottom: box.bottom - within }));
+    .map(({ rect, box }) => ({
+      node, is_head: up.closest('#heads') !== null, is_in_rows: up.closest('#sheet') !== null, is_cut: rect.right > box.right + 1,
+      left: box.left, right: box.right, top: box.top + within, bottom: box.bottom - within,
+    }));
 }
 function allBoxes() {
   const walker = document.createTreeWalker(document.body, NodeFilter.SHOW_TEXT), found = [];
   while (walker.nextNode()) if (isText(walker.currentNode)) found.push(...boxesOf(walker.currentNode));
   return found;
 }
+const nameOf = box => box.node.textContent.trim().slice(0, 60);
+
+// ---- texts on texts
 // Rows go on below the heads of the columns, which stay where they are.
 const isBeneath = (one, other) => one.is_head !== other.is_head;
-const overlap = (one, other) => one.node !== other.node && !isBeneath(one, other) && one.left < other.right - 1 && other.left < one.right - 1 && one.top < other.bottom && other.top < one.bottom;
+const touch = (one, other) => one.left < other.right - 1 && other.left < one.right - 1 && one.top < other.bottom && other.top < one.bottom;
+const overlap = (one, other) => one.node !== other.node && !isBeneath(one, other) && touch(one, other);
+const overlaps = boxes => boxes.flatMap((one, i) => boxes.slice(0, i).filter(other => overlap(one, other)).map(other => [nameOf(one), nameOf(other)]));
 
-function tell() {
-  const boxes = allBoxes(), pairs = [], name = box => box.node.textContent.trim().slice(0, 60);
-  boxes.forEach((one, i) => boxes.slice(0, i).forEach(other => { if (overlap(one, other)) pairs.push([name(one), name(other)]); }));
-  const cut = boxes.filter(box => box.is_cut && !box.node.parentElement.closest('#side')).map(name);
-  const told = document.createElement('pre');
-  told.id = 'told';
-  told.textContent = JSON.stringify({ texts: boxes.length, ready: document.body.dataset.ready === 'yes', missing: document.getElementById('missing') !== null, overlaps: pairs, cut });
-  document.body.append(told);
+// ---- lines on texts
+const EVERY = 3; // pixels between the points of a line that are looked at
+function pointsOf(line) {
+  const length = line.getTotalLength(), matrix = line.getScreenCTM();
+  return [...Array(Math.ceil(length / EVERY) + 1).keys()].map(k => line.getPointAtLength(Math.min(length, k * EVERY)).matrixTransform(matrix));
 }
-// The browser's clock is a virtual one, which doesn't wait for what it opens on other threads: so the page is asked again and again, with work in between.
-function tellWhenReady(left) {
-  let sum = 0;
-  for (let k = 0; k < 5e6; k++) sum += k % 7;
-  if (left === 0 || sum > 0 && document.body.dataset.ready === 'yes') setTimeout(tell, 500);
-  else setTimeout(() => tellWhenReady(left - 1), 100);
+const titleOf = line => (line.querySelector('title') || line.closest('g')?.querySelector('title') || { textContent: 'a line' }).textContent;
+function crossings(boxes) {
+  const drawn = [...document.querySelectorAll('#sheet .under path, #sheet .under line, #sheet .under rect')].filter(line => !line.closest('defs'));
+  return drawn.flatMap(line => {
+    const around = line.getBoundingClientRect(), reach = { left: around.left - 2, right: around.right + 2, top: around.top - 1, bottom: around.bottom + 1 };
+    const near = boxes.filter(box => box.is_in_rows && touch(box, reach));
+    const points = near.length ? pointsOf(line) : [], isIn = box => ({ x, y }) => x > box.left && x < box.right && y > box.top && y < box.bottom;
+    return near.filter(box => points.some(isIn(box))).map(box => [titleOf(line), nameOf(box)]);
+  });
 }
-tellWhenReady(200);
+
+// ---- for a reader's ear
+const hasName = node => node.getAttribute('aria-label') || node.getAttribute('aria-labelledby') || node.closest('label') || node.textContent.trim();
+function unnamed() {
+  const wanted = [...document.querySelectorAll('button, input, select, summary, [role=img], [role=grid], [role=row], aside, [tabindex]')];
+  return wanted.filter(node => !node.closest('[hidden]') && !hasName(node)).map(node => node.outerHTML.slice(0, 80));
+}
+
+function told() {
+  const boxes = allBoxes(), cut = boxes.filter(box => box.is_cut && !box.node.parentElement.closest('#side')).map(nameOf);
+  const is_ready = document.body.dataset.ready === 'yes', has_missing = document.getElementById('missing') !== null;
+  return { is_ready, has_missing, overlaps: overlaps(boxes), cut, crossings: crossings(boxes), unnamed: unnamed() };
+}
+// Waits until the page is ready, as long as that may take.
+new Promise(done => {
+  const end = Date.now() + 20000;
+  const look = () => document.body && document.body.dataset.ready === 'yes' || Date.now() > end ? done(told()) : setTimeout(look, 10);
+  look();
+});

@@ -1,10 +1,11 @@
 """A debugger to talk to: it reads commands, makes steps of one run, and tells how the run stands."""
 import pathlib
 
+from channels import channel_named
 from debugger_help import COMMANDS, SHORT, help_lines
 from debugger_places import MOST, MOST_STEPS, PLAIN_SIZE, STORE, Places, Wrong, actor_of_word, count_of, is_processor, number_of, processor_of, register_of
 from debugger_run import actor_of
-from debugger_stops import Behind, Break, Watch, first_stop
+from debugger_stops import Behind, Break, ChannelBreak, Watch, first_stop
 from debugger_words import ENDS, Words, counted, dump, quad
 from effects import Span
 from sites import sets_link
@@ -66,7 +67,7 @@ class Debugger:
 
     def step_actor(self, actor, count):
         """Makes steps of one actor, as long as it has one."""
-        start, left = self.run.place, self.run.other
+        start, left = self.run.place, len(self.run.left)
         if actor[0] == "x":
             self.spe = actor[1]
         for size in self.chunks(count):
@@ -78,10 +79,10 @@ class Debugger:
         return [*self.told_left(left), *(self.told_move(start, None, False) if made else []), *said]
 
     def told_left(self, left):
-        """Says that what lay ahead was left, where it was."""
-        if self.run.other is left:
+        """Says that what lay ahead was left, where it was: so many ways had been left before."""
+        if len(self.run.left) == left:
             return []
-        return [f"this leaves {counted(len(self.run.other[1]), 'step')} that lay ahead; `other` lays them ahead again"]
+        return [f"this leaves {counted(self.run.left[-1].ahead, 'step')} that lay ahead; `other` lays them ahead again"]
 
     def take_own(self, actor, count):
         """Makes up to so many steps of one actor, and says whether it had as many."""
@@ -105,7 +106,7 @@ class Debugger:
         number = state.choice(step)
         if number is None:
             raise Wrong(f"the step `{step}` isn't allowed now: `actors` tells those that are")
-        left = self.run.other
+        left = len(self.run.left)
         self.run.take(*self.run.make([number]))
         return [*self.told_left(left), *self.told_move(start, None, False)]
 
@@ -132,8 +133,8 @@ class Debugger:
 
     def do_run(self, words):
         if len(words) > 1:
-            raise Wrong("type `run`, or `run` and one place to run to: a label, FILE:LINE or an address")
-        once = [Break(words[0], self.places.addresses(words[0], range(self.run.spes)))] if words else []
+            raise Wrong("type `run`, or `run` and one place to run to: a label, FILE:LINE, an address or a channel")
+        once = [self.stop_at(words[0], range(self.run.spes))] if words else []
         return self.told_move(self.run.place, *self.advance([*self.stops.values(), *once], MOST_STEPS))
 
     def advance(self, whats, most):
@@ -231,10 +232,21 @@ class Debugger:
         return ["no steps lie ahead any more: from here on the actors take turns; `other` lays them ahead again"]
 
     def do_other(self, words):
-        if words or not self.run.other:
-            raise Wrong("no steps were left for others: `other` lays those ahead again" if not words else "`other` stands alone")
-        self.run.swap()
+        many = len(self.run.left)
+        if not many:
+            raise Wrong("no steps were left for others: `other` lays those ahead again")
+        number = many if not words else number_of(words[0]) if len(words) == 1 else None
+        if not number or number > many:
+            raise Wrong(f"type `other`, or `other` and a number from 1 to {many}: `left` tells what was left")
+        self.run.take_way(number - 1)
         return self.told_back()
+
+    def do_left(self, words):
+        if words:
+            raise Wrong("`left` stands alone: it tells the steps that were left for others")
+        ways = enumerate(self.run.left, 1)
+        told = [f"{number}: left after {counted(way.place, 'step')}, with {counted(way.ahead, 'step')} ahead, the next `{way.next_head}`" for number, way in ways]
+        return told or ["no steps were left for others"]
 
     # ---- stops
 
@@ -248,9 +260,13 @@ class Debugger:
             return self.told_stops()
         actor = actor_of_word(words[0], self.run.spes) if len(words) == 2 else None
         if len(words) > 1 and (not actor or actor[0] != "x"):
-            raise Wrong("type `break` and a place, or `break x1` and a place of processor 1 alone: a label, FILE:LINE or an address")
-        spes = [actor[1]] if actor else range(self.run.spes)
-        return self.keep_stop(Break(words[-1], self.places.addresses(words[-1], spes)))
+            raise Wrong("type `break` and a place, or `break x1` and a place of processor 1 alone: a label, FILE:LINE, an address or a channel")
+        return self.keep_stop(self.stop_at(words[-1], [actor[1]] if actor else range(self.run.spes)))
+
+    def stop_at(self, word, spes):
+        """What stops a run where one of these processors comes to a place, or to an instruction of a channel."""
+        channel = None if any(self.places.label(word, spe) for spe in spes) else channel_named(word)
+        return Break(word, self.places.addresses(word, spes)) if channel is None else ChannelBreak(word, channel, spes)
 
     def do_watch(self, words):
         if not words:
@@ -321,6 +337,9 @@ class Debugger:
 
     def do_tags(self, words):
         return self.words.tags(self.spe_in(words), self.run.state())
+
+    def do_signals(self, words):
+        return self.words.signals(self.spe_in(words), self.run.state())
 
     def spe_in(self, words):
         """The processor that words name, or else the one that is looked at."""

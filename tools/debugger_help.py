@@ -14,17 +14,20 @@ COMMANDS = {
         The steps gone back over lie ahead then: `step`, `next` and `run` make them again, until another step than the next of them is made."""),
     "cut": ("cut", "leaves the steps that lie ahead: from there on the actors take turns", """
         So does a step of an actor that is another than the next one ahead. `other` lays them ahead again."""),
-    "other": ("other", "goes back to where steps were last left for others, and lays those ahead again", """
-        Typed twice it comes back to the others: so two ways of going on can be held against one another."""),
+    "other": ("other [N]", "goes back to where steps were last left for others, and lays those ahead again", """
+        Typed twice it comes back to the others: so two ways of going on can be held against one another.
+        All steps that were left are kept: `left` tells them, and with a number of its lines those come back."""),
+    "left": ("left", "tells all steps that were left for others, in the order in which they were", ""),
     "break": ("break [xP] PLACE", "stops a run where a processor comes to a place; alone it lists what stops a run", """
         PLACE is a label (again, again+8), FILE:LINE or an address of the store. It is that of each processor that has it, or of processor P alone.
-        A line that placed nothing stands for the next one that did."""),
+        A line that placed nothing stands for the next one that did.
+        A channel by its name ($ch29, SPU_RdInMbox) is each instruction that reads, counts or writes it."""),
     "watch": ("watch RANGE", "stops a run behind a step that writes into a range", """
         `help x` says what a range is. The step is named, with the bytes before and behind it."""),
     "delete": ("delete N, delete all", "deletes a break or a watch", ""),
     "where": ("where", "tells where all processors are, what they wait for, and how far the host has come", ""),
     "actors": ("actors", "tells who may step now, and how", ""),
-    "spe": ("spe [P]", "looks at processor P: `print`, `x`, `next`, `list`, `dis`, `queue` and `tags` are of it", """
+    "spe": ("spe [P]", "looks at processor P: `print`, `x`, `next`, `list`, `dis`, `queue`, `tags` and `signals` are of it", """
         A processor that steps by its name or that stops a run is looked at, too, and where the one that is looked at has stopped, the one that steps."""),
     "print": ("print [$N|pc|LABEL]", "prints a register, the PC, a label's bytes, or all registers that aren't zero", ""),
     "x": ("x RANGE", "prints the bytes of a range", """
@@ -32,6 +35,7 @@ COMMANDS = {
         and N how many bytes; without it they are those of the label, or 16."""),
     "queue": ("queue [P]", "tells the commands that are outstanding in a flow controller", ""),
     "tags": ("tags [P]", "tells a flow controller's parameters, tag groups, statuses, slot, reservation and mailboxes", ""),
+    "signals": ("signals [P]", "tells a processor's signal registers, event mask and pending events", ""),
     "list": ("list [PLACE]", "prints the source around a place, or around the PC", """
         > marks the line of the PC, and * a break. Where no source placed the instruction it prints what `dis` does."""),
     "dis": ("dis [PLACE [N]]", "prints N words of the store, or 8, as instructions", ""),

@@ -97,6 +97,24 @@ def refuse_machine(machine):
         raise Refused(said + next_step(said, machine, ""))
 
 
+class Way:
+    """A way of going on that was left for another: its steps from `base` on, up to which it is one with the run, and `place`, where it was left."""
+
+    def __init__(self, place, lines):
+        self.place = self.base = place
+        self.lines = lines
+
+    @property
+    def ahead(self):
+        """How many of its steps lie behind the place where it was left."""
+        return self.base + len(self.lines) - self.place
+
+    @property
+    def next_head(self):
+        """The first step that lay ahead where it was left."""
+        return self.lines[self.place - self.base].partition(" | ")[0]
+
+
 class Run:
     """The steps of a run, up to `place` made and from there on ahead."""
 
@@ -106,7 +124,7 @@ class Run:
         self.text = SHOW_LINE.sub(b"", pathlib.Path(machine).read_bytes())
         self.memory = MEMORY_LINE * int(SIZE_LINE.search(self.text)[1], 0)
         self.trace, self.heads, self.place = Trace([]), [], 0
-        self.other = None  # where steps were last left for others, and those that lay ahead there
+        self.left = []  # the ways that were left, the latest last
         self.states, self.is_written, self.is_built = {}, False, False
         self.spes = len(self.state().spes)
 
@@ -123,17 +141,24 @@ class Run:
 
     def cut(self):
         """Leaves the steps that lie ahead, and keeps them in mind."""
-        self.other = self.place, self.lines()
+        for way in self.left:
+            if way.base > self.place:
+                way.lines = self.trace.lines[self.place:way.base] + way.lines
+                way.base = self.place
+        self.left.append(Way(self.place, self.lines()))
         self.trace.cut(self.place)
         del self.heads[self.place:]
         self.states = {place: state for place, state in self.states.items() if place <= self.place}
         self.is_written = False
 
-    def swap(self):
-        """Goes back to where steps were last left for others, and lays them ahead again."""
-        self.place, lines = self.other
-        self.cut()
-        self.extend(lines)
+    def take_way(self, number):
+        """Goes back to where a way was left, the first of which has the number 0, and lays its steps ahead again."""
+        way = self.left.pop(number)
+        self.place = way.base
+        if self.ahead:
+            self.cut()
+        self.extend(way.lines)
+        self.place = way.place
 
     @property
     def ahead(self):
@@ -151,12 +176,15 @@ class Run:
         return self.trace.lines[self.place:end]
 
     def take(self, lines, state=None):
-        """Makes these steps, behind which the machine stands so. What lies ahead stays where it begins with them."""
+        """Makes these steps, behind which the machine stands so. What lies ahead is left where it isn't as they are."""
         end = self.place + len(lines)
-        if self.trace.lines[self.place:end] != lines:
-            if self.ahead:
-                self.cut()
-            self.extend(lines)
+        known = self.trace.lines[self.place:end]
+        same = next((k for k, line in enumerate(known) if line != lines[k]), len(known))
+        if same < len(known):
+            self.place += same
+            self.cut()
+        if same < len(lines):
+            self.extend(lines[same:])
         self.place = end
         if state:
             self.keep(end, state)

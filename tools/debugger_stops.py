@@ -1,8 +1,12 @@
-"""Where a debugger stops a run: at places of programs, behind steps that write watched bytes, and behind an instruction with all that it calls."""
+"""Where a debugger stops a run: at places of programs, at instructions of channels, behind steps that write watched bytes, and behind an instruction with
+all that it calls."""
 import collections
 import re
 
+from channels import channel_name, channel_of
+
 EXEC = re.compile(r"x (\d+) \| fetch \d+ (\d+)")
+CHANNEL = re.compile(r" \| (?:rdch|rchcnt|wrch) (\d+) ")
 WRITE = re.compile(r" \| write (\S+) (\d+) (\d+)")
 
 # Where a run stops: behind how many of the steps that were looked at, at what, and which processor came there.
@@ -37,6 +41,35 @@ class Break:
     def find(self, lines, end):
         """Where a processor comes there, and its number."""
         return min(((behind, spe) for behind, spe, at in arrivals(lines, end) if self.places.get(spe) == at), default=None)
+
+
+class ChannelBreak:
+    """A channel: a run stops where one of these processors comes to an instruction that reads, counts or writes it."""
+
+    def __init__(self, text, channel, spes):
+        self.text, self.channel, self.spes = text, channel, spes
+
+    def __str__(self):
+        return f"break {self.text}: {channel_name(self.channel)}, by {', '.join(f'x{spe}' for spe in self.spes)}"
+
+    def find(self, lines, end):
+        """Where a processor comes to such an instruction, and its number."""
+        found = ((behind, spe) for behind, spe, channel in self.arrivals(lines, end) if channel == self.channel and spe in self.spes)
+        return min(found, default=None)
+
+    def arrivals(self, lines, end):
+        """Behind how many of these steps which processor comes to an instruction, and to which channel: as it did it then, or as it stands at the `end`."""
+        last = {}
+        for place, line in enumerate(lines):
+            if line.startswith("x "):
+                spe, channel = int(line.split(" ", 2)[1]), CHANNEL.search(line)
+                if channel and spe in last:
+                    yield last[spe] + 1, spe, int(channel[1])
+                last[spe] = place
+        for spe, place in last.items():
+            stands = end().spes[spe]
+            if stands.runs and stands.word is not None:
+                yield place + 1, spe, channel_of(stands.word)
 
 
 class Watch:

@@ -2,6 +2,7 @@
 import os
 import sys
 
+from channels import NAMES
 from debugger_help import COMMANDS
 from debugger_places import Wrong
 from runs import Refused
@@ -16,7 +17,7 @@ def words_to_complete(debugger):
     paths = {site.file for sites in debugger.sites.of_processor for site in sites.values()}
     files = {f"{name}:" for path in paths for name in (path, os.path.basename(path))}
     actors = [f"{kind}{spe}" for spe in range(debugger.run.spes) for kind in "xm"] + ["h"]
-    return sorted({*labels, *files, *actors, *(f"${number}" for number in range(128)), "mem", "ls", "pc"})
+    return sorted({*labels, *files, *actors, *(f"${number}" for number in range(128)), *NAMES.values(), "mem", "ls", "pc"})
 
 
 def completer(debugger, readline):
@@ -67,15 +68,15 @@ def given(debugger):
 
 def answered(debugger, line):
     """Prints the answer to a line, and says whether it was right."""
+    is_right = True
     try:
-        print(*(f"{said}\n" for said in debugger.obey(line)), sep="", end="", flush=True)
+        said = debugger.obey(line)
     except (Wrong, Refused) as why:
-        print(why, flush=True)
-        return False
+        is_right, said = False, [str(why)]
     except OSError as why:
-        print(f"{why.filename}: {why.strerror}", flush=True)
-        return False
-    return True
+        is_right, said = False, [f"{why.filename}: {why.strerror}"]
+    print(*(f"{words}\n" for words in said), sep="", end="", flush=True)
+    return is_right
 
 
 def talk(debugger):

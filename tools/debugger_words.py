@@ -1,12 +1,14 @@
 """Says in words how a run stands: its processors, flow controllers and host, and what its steps did."""
+from channels import EVENT_STATUS, SIGNAL_REGISTERS, channel_of, events_in, may_wait
 from debugger_run import actor_of
 from disassembly import instructions
-from flows import command_line, fields_of, flow_lines, line_name
+from flows import command_line, event_lines, events_of, fields_of, flow_lines, line_name, signal_line
 from runs import Refused
 from words import ATOMIC, Teller, with_article
 
-READS, WRITES = 0x00D, 0x10D  # the opcodes of `rdch` and `wrch`
 WAITS = {
+    3: "nothing is in signal register 1",
+    4: "nothing is in signal register 2",
     21: "no place is free for a command",
     24: "no tag status is there",
     25: "no list has stalled",
@@ -22,11 +24,6 @@ ENDS = {
 }
 ROW = 16  # bytes of a line
 LAST_PRINTABLE = 0x7E
-
-
-def channel_of(word):
-    """The channel that an instruction reads or writes, if it does."""
-    return word >> 7 & 127 if word >> 21 in (READS, WRITES) else None
 
 
 def quad(digits):
@@ -103,10 +100,18 @@ class Words:
 
     def waits(self, spe, state):
         """What a processor waits for, if it does."""
-        if not spe.runs or f"x {spe.number}" in state.may or state.end == "Budget" or spe.word is None:
+        if not spe.runs or f"x {spe.number}" in state.may or state.end == "Budget" or spe.word is None or not may_wait(spe.word):
             return None
         channel = channel_of(spe.word)
+        if channel == EVENT_STATUS:
+            return f"it waits at channel {channel}: {self.no_event(spe, state)}"
         return f"it waits at channel {channel}: {WAITS.get(channel, 'it has no count')}{self.request(spe, state) if channel == 24 else ''}"
+
+    def no_event(self, spe, state):
+        """Why a processor has no event that it could read."""
+        mask, pending = events_of(self.flow(spe.number, state))
+        outside = f"; pending outside it: {events_in(pending)}" if pending else ""
+        return (f"no event of its mask, {events_in(mask)}, is pending" if mask else "its event mask is 0, so no event shows") + outside
 
     def request(self, spe, state):
         """What is behind a tag status that doesn't come."""
@@ -214,3 +219,10 @@ class Words:
     def flow(self, spe, state):
         """What run_trace tells of a processor's flow controller, by names."""
         return next(fields_of(line)[1] for number, line in state.flows if number == spe and line.startswith("flow "))
+
+    # ---- signals and events
+
+    def signals(self, spe, state):
+        """The signal registers and the events of a processor."""
+        told = self.flow(spe, state)
+        return [*(signal_line(told, register, (spe, register) in self.sites.or_modes) for register in SIGNAL_REGISTERS.values()), *event_lines(told)]

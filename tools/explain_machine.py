@@ -9,9 +9,13 @@ LINE = 128  # bytes of a line of main memory
 HEADS = {"cell-machine": 1, "lines": 524_288, "budget": 1_000_000}  # each with its greatest number
 LINES = {
     "spe": "", "code": "A HEX", "bytes": "A HEX", "source": "NAME", "entry": "A", "mem": "A HEX", "host send": "P V",
-    "host take": "P", "host takeintr": "P", "host await": "P", "host store": "A HEX", "show ls": "P A N",
-    "show mem": "A N",
+    "host take": "P", "host takeintr": "P", "host await": "P", "host signal": "P R V", "host store": "A HEX", "ormode": "P R",
+    "show ls": "P A N", "show mem": "A N",
 }  # fmt: skip
+OF_SIGNALS = {
+    "host signal": "the value V for signal register R, 1 or 2, of processor P",
+    "ormode": "signal register R, 1 or 2, of processor P",
+}
 MOST_LINES = {"spe": 16, "source": 32, "host": 4096, "show": 64}
 MACHINE_NUMBER = re.compile(r"0|[1-9]\d*|0x[0-9A-Fa-f]{1,8}", re.A)
 
@@ -94,6 +98,13 @@ def why_range(name, value, seen):
     return None if 1 <= size <= 4096 else "a range has 1 to 4,096 bytes"
 
 
+def hint_of_form(name, form, count):
+    """What is to be known of a line's form, behind the form itself."""
+    if name in OF_SIGNALS:
+        return f": {OF_SIGNALS[name]}"
+    return "; the bytes stand together, without blanks" if "HEX" in form and count > len(form) else ""
+
+
 def why_machine_line(words, seen):
     """What is wrong with a line of a machine file, behind the first three, in words."""
     name = " ".join(words[:2]) if words[0] in ("host", "show") else words[0]
@@ -101,8 +112,7 @@ def why_machine_line(words, seen):
         return f"no line begins with `{name}`; lines are: {', '.join(LINES)}"
     arguments, form = words[name.count(" ") + 1 :], LINES[name].split()
     if len(arguments) != len(form):
-        apart = "; the bytes stand together, without blanks" if "HEX" in form and len(arguments) > len(form) else ""
-        return f"the form is `{' '.join([name, *form])}`{apart}"
+        return f"the form is `{' '.join([name, *form])}`{hint_of_form(name, form, len(arguments))}"
     for kind, word in zip(form, arguments):
         if why := why_word(kind, word):
             return why
@@ -112,6 +122,8 @@ def why_machine_line(words, seen):
         return f"`{name}` stands behind a `spe` line"
     if value.get("P", -1) > seen.spe:
         return f"there is no processor {value['P']}: {seen.counts['spe']} `spe` lines stand before, counted from 0"
+    if value.get("R", 1) not in (1, 2):
+        return f"there is no signal register {value['R']}: each processor has 1 and 2"
     if why := why_range(name, value, seen) if "A" in value else None:
         return why
     if name == "entry" and seen.spe in seen.entries:

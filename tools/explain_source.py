@@ -2,6 +2,7 @@
 import pathlib
 import re
 
+from channels import VALUES
 from explaining import MOST, STORE, cell_of, in_latin
 from gas import refused_lines
 from language import CHANNEL, DATA, FORMS, NAME, NUMBER, REGISTER, RELATIVE_FORMS, SECTIONS, SKIPPED, STRINGS
@@ -239,6 +240,8 @@ def why_undefined(statement, defined):
     missing = [name for name in re.findall(r"(?<![\w.$@])[A-Za-z_.][\w.]*", rest) if name not in defined]
     if "." in missing:
         return "`.` is no address: put a label on the line" + OR_BY_TOOL
+    if missing and VALUES.keys() >= set(missing):
+        return f"`{missing[0]}` is a name of spu_mfcio.h, for {VALUES[missing[0]]:#x}: this language has no such names" + BY_TOOL
     names = ", ".join(f"`{name}`" for name in dict.fromkeys(missing))
     return f"no line defines {names} (there is no linker: one source is the whole program)" if names else None
 

@@ -1,6 +1,7 @@
-"""Says in words what the flow controllers and mailboxes of a run hold, from the lines that run_trace prints of them."""
+"""Says in words what the flow controllers, mailboxes and signal registers of a run hold, from the lines that run_trace prints of them."""
+from channels import SIGNAL_REGISTERS, events_in
 from effects import Command
-from words import ATOMIC, ATOMIC_LINE, BOXES, name_of, tags
+from words import ATOMIC, ATOMIC_LINE, BOXES, name_of, signal_register, tags
 
 HOW = {"0": "at once", "1": "any"}
 STATUSES = {"0": "PUTLLC stored", "1": "PUTLLC lost its line", "2": "PUTLLUC", "4": "GETLLAR"}
@@ -38,6 +39,35 @@ def flow_lines(told):
         yield f"{BOXES[box].removeprefix('the ')}: {', '.join(f'0x{int(value):x}' for value in told[box])}"
 
 
+def events_of(told):
+    """The event mask and the pending events of a processor."""
+    return tuple(map(int, told.get("events", (0, 0))))
+
+
+def event_lines(told):
+    """The same in words."""
+    mask, pending = events_of(told)
+    return [f"event mask: {events_in(mask)}", f"pending events: {events_in(pending)}"]
+
+
+def signal_of(told, register, is_or):
+    """What a signal register holds; None where it isn't ready."""
+    last, bits = told.get(f"sig{register}", (None, None))
+    return last and int(bits if is_or else last)
+
+
+def signal_line(told, register, is_or):
+    """The same in words."""
+    value = signal_of(told, register, is_or)
+    return f"signal register {register}: {'nothing' if value is None else f'0x{value:x}'}{', in OR mode' if is_or else ''}"
+
+
+def used_lines(told, in_or_mode):
+    """The signal registers that are ready, of which those are in OR mode, and the events, where a mask has some: of all others a program sees nothing."""
+    yield from (signal_line(told, register, register in in_or_mode) for register in SIGNAL_REGISTERS.values() if f"sig{register}" in told)
+    yield from event_lines(told) if events_of(told)[0] else []
+
+
 def groups_of(groups):
     return f"0x{int(groups):08x}, {tags(int(groups))}"
 
@@ -59,8 +89,10 @@ def moved(command):
         return ""
     if command.kind in ("putl", "getl"):
         return f", a list of {command.size} bytes at 0x{command.ea:x} of the store, elements from 0x{command.ls:x} on"
+    if command.kind == "sndsig":
+        return f", {command.size} bytes from 0x{command.ls:x} of the store to {signal_register(command.ea)}"
     store, memory = f"0x{command.ls:x} of the store", f"0x{command.ea:x} of main memory"
-    source, target = (store, memory) if command.kind == "put" else (memory, store)
+    source, target = (memory, store) if command.kind == "get" else (store, memory)
     return f", {command.size} bytes from {source} to {target}"
 
 
@@ -79,11 +111,13 @@ def left_of(told):
         yield "stalled: it waits for an acknowledgement of its tag (`wrch` of channel 26)"
 
 
-def in_words(line):
-    """A line of run_trace about a flow controller, a command or the host's script, in words; every other as it is."""
+def in_words(line, or_modes):
+    """A line of run_trace about a flow controller, a command or the host's script, in words; every other as it is. The registers of processors that are in
+    OR mode are pairs of their numbers."""
     if not line.startswith(("flow ", "command ", "script ")):
         return [line]
     (name, *words), told = fields_of(line)
     if name == "flow":
-        return [f"flow controller {words[0]}", *(f"    {said}" for said in flow_lines(told))]
+        in_or_mode = [register for spe, register in or_modes if spe == int(words[0])]
+        return [f"flow controller {words[0]}", *(f"    {said}" for said in [*flow_lines(told), *used_lines(told, in_or_mode)])]
     return [f"    {command_line(words, told)}"] if name == "command" else []

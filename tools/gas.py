@@ -3,6 +3,7 @@ import collections
 import itertools
 import re
 
+from channels import VALUES, channel_named
 from gas_expressions import ATOM, CHARACTERS, NUMERIC_LABEL, Expression, Unwritable, Value, combined
 from language import CHANNEL, DATA, FORMS, HIDING, NAME, NUMBER, REGISTER, RELATIVE_FORMS, SECTIONS, STRINGS
 from language import cut, is_text_section, operand_forms, without_comments
@@ -14,11 +15,6 @@ DROPPED = set(
 )
 SETS = (".set", ".equ", ".equiv")
 RENAMED = {".zero": ".space", ".half": ".hword", "hbrp": "lnop", "syncc": "sync"}
-CHANNELS = {
-    "mfc_rdtagmask": 12, "mfc_lsa": 16, "mfc_eah": 17, "mfc_eal": 18, "mfc_size": 19, "mfc_tagid": 20, "mfc_cmd": 21,
-    "mfc_wrtagmask": 22, "mfc_wrtagupdate": 23, "mfc_rdtagstat": 24, "mfc_rdliststallstat": 25, "mfc_wrliststallack": 26,
-    "mfc_rdatomicstat": 27, "spu_wroutmbox": 28, "spu_rdinmbox": 29, "spu_wroutintrmbox": 30,
-}  # fmt: skip
 STATEMENT = re.compile(r"\s*((?:[\w.$]+\s*:\s*)*)(?:([\w.$]+)\s*(=(?!=))?\s*(.*?))?\s*", re.S | re.A)
 MOST_REPEATS = 4096
 MOST_ALIGNED = 12
@@ -209,7 +205,7 @@ class Writer:
         return self.numeric[key]
 
     def look_up(self, word):
-        """The value of a name, of `.`, or of a numeric label such as 1b."""
+        """The value of a name, also of one of spu_mfcio.h that no source defines, of `.`, or of a numeric label such as 1b."""
         if found := NUMERIC_LABEL.fullmatch(word):
             count = self.counts[found[1]] + (found[2] == "f")
             if count == 0:
@@ -222,6 +218,8 @@ class Writer:
         if word not in self.sets:
             if word in self.source.sets:
                 return self.later_value(word)
+            if word in VALUES and word not in self.names:
+                return Value(None, VALUES[word])
             return Value(self.renamed(word), 0)
         if word in self.open_sets:
             raise Unwritable(f"`{word}` is set to a value of itself")
@@ -263,10 +261,18 @@ class Writer:
         text = text.strip()
         if found := re.fullmatch(r"(.*)\(\s*(\$\w+)\s*\)", text, re.S):
             return f"{self.expression(found[1] or '0')}({found[2].lower()})"
-        if text.startswith("$"):
-            register = text[1:].lower()
-            return f"$ch{CHANNELS[register]}" if register in CHANNELS else f"${register}"
-        return self.expression(text, is_distance)
+        return text.lower() if text.startswith("$") else self.expression(text, is_distance)
+
+    def channel(self, text):
+        """A channel, by its name or its number."""
+        number = channel_named(text.strip())
+        return self.operand(text, False) if number is None else f"$ch{number}"
+
+    def operands(self, rest, form):
+        """The operands of an instruction, as many as there are."""
+        kinds = itertools.chain(FORMS[form][0].split(","), itertools.repeat(""))
+        parts = zip(cut(rest, ","), kinds)
+        return [self.channel(part) if kind == "channel" else self.operand(part, form in RELATIVE_FORMS) for part, kind in parts]
 
     # Statements
 
@@ -336,7 +342,7 @@ class Writer:
             return [f"\t{word}"]
         if form == "Code" and not rest:
             rest = "0"
-        operands = [self.operand(part, form in RELATIVE_FORMS) for part in cut(rest, ",")]
+        operands = self.operands(rest, form)
         if not fits_form(operands, FORMS[form][0].split(",")):
             raise Unwritable(f"`{word}` takes {FORMS[form][0]}")
         return [f"\t{word}\t{','.join(operands)}"]

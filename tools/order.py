@@ -8,10 +8,8 @@ import array
 import bisect
 import collections
 
-from effects import MEMORY_LINE, mailbox
-
-RULES = ("Program", "Script", "Issued", "AtomicIssued", "NextAtomic", "AtomicSeen", "Line", "Passed", "PlaceFree", "Finished", "Queue", "ElementPiece",
-         "NextElement", "StallSeen", "Resumed", "ResumedEarlier", "TagSeen")
+RULES = ("Program", "Script", "Issued", "AtomicIssued", "NextAtomic", "AtomicSeen", "Line", "Passed", "PlaceFree", "Signalled", "Finished", "Queue",
+         "ElementPiece", "NextElement", "StallSeen", "Resumed", "ResumedEarlier", "TagSeen")
 INBOX_PLACES, OTHER_PLACES = 4, 1
 HOST, NO_CHAIN = -1, -2  # the chain of the host, and what a step of a flow controller has; that of a processor is its number
 
@@ -51,10 +49,10 @@ class Order:
         self.special = collections.defaultdict(list)  # of each chain, the places of its steps that have edges
         self.commands = {}  # (processor, number): the command with its sets
         self.flows = collections.defaultdict(Flow)
-        self.on_line, self.put, self.taken, self.ended = {}, {}, {}, {}
+        self.on_line, self.put, self.taken, self.ended, self.signalled = {}, {}, {}, {}, {}
         for place, line in enumerate(trace.lines):
             self.look_at(place, line)
-        del self.flows, self.on_line, self.put, self.taken, self.ended
+        del self.flows, self.on_line, self.put, self.taken, self.ended, self.signalled
 
     # ---- the graph
 
@@ -80,6 +78,12 @@ class Order:
         found = [(node, rule) for node in nodes if node is not None]
         if found:
             self.edges.setdefault(place, []).extend(found)
+
+    def lead_also(self, place, rule, node):
+        """Puts a node before a step that may share its edges with other steps of its command."""
+        if place in self.edges:
+            self.edges[place] = list(self.edges[place])
+        self.lead(place, rule, node)
 
     # ---- instructions and actions of the host
 
@@ -170,6 +174,12 @@ class Order:
         self.lead(place, "Passed", self.put[box][len(values)])
         values.append(place)
 
+    def pass_signal(self, place, _, words):
+        """Signalled."""
+        register = tuple(words)
+        self.lead_also(place, "Signalled", self.signalled.get(register))
+        self.signalled[register] = self.new_set(self.signalled.get(register), place)
+
     def end_processor(self, place, spe, _):
         self.ended[spe] = place
 
@@ -191,6 +201,10 @@ class Order:
             self.finish(place, spe, member)
         elif member.command.kind == "putqlluc":
             self.of_lines(place)
+        elif member.command.kind == "sndsig":
+            told = self.trace.steps[place].told
+            if "signal" in told:  # a register that isn't there takes nothing
+                self.pass_signal(place, spe, told["signal"])
 
     def of_flow(self, place, letter):
         """The reading of an element, the retirement of a command, or an atomic command."""
@@ -239,10 +253,8 @@ class Order:
 
     def of_lines(self, place):
         """Line."""
-        if place in self.edges:
-            self.edges[place] = list(self.edges[place])
         for at in sorted(self.trace.whole_lines(place)):
-            self.lead(place, "Line", self.on_line.get(at))
+            self.lead_also(place, "Line", self.on_line.get(at))
             self.on_line[at] = self.new_set(self.on_line.get(at), place)
 
     # ---- what is read off the graph
@@ -363,5 +375,6 @@ class Past:
 
 BY_FIELD = {
     "issue": Order.issue, "atomic": Order.issue_atomic, "tags": Order.tag_status, "stalls": Order.stall_status, "ack": Order.acknowledge,
-    "atomicread": Order.atomic_status, "put": Order.put_value, "take": Order.take_value, "ended": Order.end_processor, "awaited": Order.await_processor,
+    "atomicread": Order.atomic_status, "put": Order.put_value, "take": Order.take_value, "signal": Order.pass_signal, "ended": Order.end_processor,
+    "awaited": Order.await_processor,
 }

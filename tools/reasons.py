@@ -4,11 +4,16 @@ import re
 
 from effects import OF_COMMANDS, has_group
 from order import Order
-from words import name_of, tags, with_article
+from words import MARKS, name_of, tags, with_article
 
 MOST = 6  # events of a kind that are told
 STATUS_CHANNELS = {24: "the tag status", 25: "the stall status", 27: "the atomic status"}
 HOW = {0: "at once, ", 1: "any "}
+UNMARKED = ("putqlluc",)  # the queued commands that have neither a fence nor a barrier
+# How a word comes from one processor to another, to the host, and from the host, and the rules by which it orders.
+BETWEEN = "Line, Passed or Signalled", "by an atomic command of each on one line, by the mailboxes, or by a signal"
+TO_HOST = "Passed or Finished", "by an outbound mailbox, or by the processor's end, which the host awaits"
+FROM_HOST = "Passed or Signalled", "by the inbound mailbox or a signal register"
 
 
 class Race:
@@ -70,9 +75,9 @@ class Race:
             return self.of_line()
         if self.same:
             return self.within_side() + self.of_marks()
-        if self.begin > self.last:
-            return self.of_later() + self.of_words()
-        return self.within_side()
+        if self.begin > self.bound:
+            return self.of_later() + self.of_words() + self.of_signal(self.second)
+        return self.within_side() + self.of_signal(self.first)
 
     def within_side(self):
         """Why the first isn't ordered before what its own side did at the bound."""
@@ -89,9 +94,11 @@ class Race:
 
     def of_later(self):
         """Of a first step behind all that its side did before the second."""
-        what = "the first" if self.begin == self.first else f"the first's command was issued in step {self.begin},"
+        what = "the first comes" if self.begin == self.first else f"the first's command was issued in step {self.begin},"
+        if self.last > self.begin:
+            return [f"{what} behind step {self.bound}, which issued the command of step {self.last}"]
         if self.last >= 0:
-            return [f"{what} comes behind step {self.last}" if self.begin == self.first else f"{what} behind step {self.last}"]
+            return [f"{what} behind step {self.last}"]
         return [f"{self.side()} gave no word that {self.other()} took before step {self.anchor}"]
 
     def of_statuses(self):
@@ -166,13 +173,40 @@ class Race:
             return [f"the second's command, {name}, has no fence and no barrier: commands go in any order, those of one tag too"]
         return [f"the second's command, {name}, has a {two.mark} that waits for commands of its own tag, {two.tag}: the first's has tag {one.tag}"]
 
+    def signal_behind(self, place):
+        """The place at which a SNDSIG is delivered with which the side of one of the two steps, of a queued command, let the other go on, and which was
+        issued behind that command; None where there is none."""
+        command = self.trace.commands.get(self.trace.steps[place].command_key())
+        other, start = (self.second, self.begin) if place == self.first else (self.first, self.anchor)
+        sent = [k for k in self.trace.with_field("signal", start, other) if command and self.is_sent_behind(k, command)]
+        before = self.before if place == self.first or not sent else self.order.before(self.first)
+        return next((k for k in reversed(sent) if k in before), None)
+
+    def is_sent_behind(self, place, command):
+        """Whether a step is one of a later command of the same processor."""
+        later = self.trace.commands.get(self.trace.steps[place].command_key())
+        return later is not None and later.spe == command.spe and later.number > command.number
+
+    def of_signal(self, place):
+        """Why a SNDSIG that was issued behind the command of one of the two steps didn't come behind it."""
+        sent = self.signal_behind(place)
+        if sent is None:
+            return []
+        command, signal = (self.trace.commands[self.trace.steps[k].command_key()] for k in (place, sent))
+        which = "first" if place == self.first else "second"
+        when = f"and here it was delivered before the {which}" if sent < place else f"and only by chance was it delivered behind the {which}"
+        name = f"the SNDSIG{MARKS[signal.mark]} of step {sent}, which lets {self.teller.who(self.first + self.second - place)} go on,"
+        if signal.mark == "-":
+            return [f"{name} has no fence and no barrier: commands go in any order, those of one tag too, {when}"]
+        return [f"{name} has a {signal.mark} that waits for commands of its own tag, {signal.tag}: the {which}'s has tag {command.tag}, {when}"]
+
     def of_words(self):
-        """What the two sides did that could order them: steps that move lines whole, and values of mailboxes."""
+        """What the two sides did that could order them: steps that move lines whole, values of mailboxes, and signals."""
         words = [k for k in range(max(self.last, 0), self.second) if self.is_word(k)]
         taken = [k for k in range(self.anchor - 1, -1, -1) if self.is_word(k) and self.trace.steps[k].spe == self.two.spe][:1]
         words = sorted({*words, *taken})
         if not words:
-            return [f"neither {self.side()} nor {self.other()} does an atomic command or uses a mailbox in between"]
+            return [f"neither {self.side()} nor {self.other()} does an atomic command or uses a mailbox or a signal in between"]
         said = [f"(and {len(words) - 2 * MOST} before these)"] if len(words) > 2 * MOST else []
         said += [f"  step {k}, {self.teller.word(k)}{self.remark(k, taken)} {self.teller.aside(k)}" for k in words[-2 * MOST :]]
         return ["what the two did that could order them:", *said]
@@ -182,14 +216,15 @@ class Race:
         if place not in self.before:
             return f": too late, nothing that {self.other()} did before step {self.anchor} comes behind it"
         if self.trace.steps[place].spe == self.one.spe:
-            return ": before the first"
+            return ": before the first" if place < self.first else ": its command was issued before the first's"
         has_lost = place in taken and self.trace.steps[place].number("status") == 1
         return f": and {self.other()} went on" if has_lost else ""
 
     def is_word(self, place):
         """Whether a step of one of the two sides passes something on or takes it."""
         line = self.trace.lines[place]
-        passes = line.startswith("a ") or bool(self.trace.whole_lines(place)) or " | put " in line or " | take " in line or " | awaited " in line
+        passes = line.startswith("a ") or bool(self.trace.whole_lines(place)) or " | put " in line or " | take " in line
+        passes = passes or " | awaited " in line or " | signal " in line
         return passes and self.trace.steps[place].spe in (self.one.spe, self.two.spe)
 
     # ---- what would
@@ -202,16 +237,28 @@ class Race:
         if {self.one.kind, self.two.kind} == {"atomic", "piece"}:
             piece = self.first if self.one.kind == "piece" else self.second
             return [f"Line: an atomic command in place of {self.teller.command(piece)}; two atomic commands on one line are ordered"]
-        if self.begin <= self.last and self.one.kind in OF_COMMANDS:
+        if self.begin <= self.bound and self.one.kind in OF_COMMANDS:
+            said += self.mark_for_signal(self.first)
             said.append(f"TagSeen: a status of tag {self.command().tag}, asked for behind step {self.begin} and read (`rdch` of channel 24) before step {self.bound}, "
                         f"with which {self.side()} lets {self.other()} go on")
             return said + self.barrier_for_last()
-        return [f"Line or Passed: {self.word_between(self.first, self.anchor)}", f"Line or Passed, the other way round: {self.word_between(self.second, self.begin)}"]
+        said += self.mark_for_signal(self.second)
+        return said + [self.word_between(self.first, self.anchor), self.word_between(self.second, self.begin, ", the other way round")]
+
+    def mark_for_signal(self, place):
+        """A mark on the SNDSIG with which the side of one of the two steps, of a queued command, let the other go on."""
+        sent = self.signal_behind(place)
+        if sent is None:
+            return []
+        command, signal = (self.trace.commands[self.trace.steps[k].command_key()] for k in (place, sent))
+        tag = "" if signal.tag == command.tag else f", with tag {command.tag}"
+        way = "" if place == self.first else ", the other way round"
+        return [f"Queue{way}: a fence or a barrier on the SNDSIG of step {sent} (SNDSIGF or SNDSIGB{tag}): it waits for the earlier commands of its tag"]
 
     def barrier_for_last(self):
         """A barrier on the first's command, where the last step that is ordered before the second is one of a later command of its tag."""
         one, last = self.command(), self.trace.commands.get(self.trace.steps[self.last].command_key())
-        if last is None or last.number <= one.number or last.tag != one.tag or last.spe != one.spe:
+        if last is None or last.number <= one.number or last.tag != one.tag or last.spe != one.spe or one.kind in UNMARKED:
             return []
         base = name_of(one._replace(mark="-"))
         return [f"Queue: a barrier on the first's command ({base}B): the command of step {self.last} is a later one of its tag, and comes behind it then"]
@@ -233,14 +280,17 @@ class Race:
         one, two = self.command(), self.trace.commands[self.two.command_key()]
         if two.number < one.number:
             return []
-        base, tag = name_of(two._replace(mark="-")), "" if two.tag == one.tag else f", with tag {one.tag}"
+        tag = "" if two.tag == one.tag else f", with tag {one.tag}"
+        if two.kind in UNMARKED:
+            return [f"Queue: a barrier on the first's command ({name_of(one._replace(mark='-'))}B): the second's{tag} comes behind it then"]
+        base = name_of(two._replace(mark="-"))
         return [f"Queue: a fence or a barrier on the second's command ({base}F or {base}B{tag}): it waits for the earlier commands of its tag"]
 
-    def word_between(self, place, until):
-        """A word of one side to the other, behind the step at a place."""
+    def word_between(self, place, until, round_which=""):
+        """A word of one side to the other, behind the step at a place, with the rules by which it orders."""
         here, there = (self.side(), self.other()) if place == self.first else (self.other(), self.side())
-        return (f"{self.seen(place)}, then a word from {here} that {there} takes before step {until}, "
-                "by an atomic command of each on one line, or by the mailboxes")
+        rules, ways = FROM_HOST if self.trace.steps[place].spe is None else TO_HOST if there == "the host" else BETWEEN
+        return f"{rules}{round_which}: {self.seen(place)}, then a word from {here} that {there} takes before step {until}, {ways}"
 
     def seen(self, place):
         """That a step is known to be done by its own side."""

@@ -83,27 +83,44 @@ def code_sites(name, number, address, digits):
 
 
 class Sites:
-    """The sites and the labels of each processor of a machine file, and the lines of the host's script."""
+    """The sites and the labels of each processor of a machine file, the modes of its signal registers, and the lines of the host's script."""
 
     def __init__(self, machine):
         self.machine, self.of_processor, self.labels, self.script = machine, [], [], []
-        sources = {}
-        for number, line in enumerate(pathlib.Path(machine).read_text(errors="backslashreplace").splitlines(), 1):
-            words = line.split("#")[0].split()
-            if words[:1] == ["spe"]:
-                self.of_processor.append({})
-                self.labels.append({})
-            elif words[:1] == ["source"]:
-                if words[1] not in sources:
-                    lines = source_lines(words[1])
-                    sources[words[1]] = source_sites(words[1], lines), source_labels(lines)
-                sites, labels = sources[words[1]]
-                self.of_processor[-1].update(sites)
-                self.labels[-1].update(labels)
-            elif words[:1] in (["code"], ["bytes"]):
-                self.of_processor[-1].update(code_sites(machine, number, int(words[1], 0), words[2]))
-            elif words[:1] == ["host"]:
-                self.script.append((number, " ".join(words)))
+        self.or_modes = set()  # the processors and numbers of the signal registers in OR mode
+        self.sources = {}  # by their names the sites and the labels of each
+        try:
+            text = pathlib.Path(machine).read_text(errors="backslashreplace")
+        except OSError as why:
+            raise Refused(f"{machine}: {why.strerror}") from None
+        for number, line in enumerate(text.splitlines(), 1):
+            try:
+                self.read(number, line.split("#")[0].split())
+            except (IndexError, ValueError):
+                raise Refused(f"{machine}:{number}: no line of a machine file\n    tools/explain {machine} says it in words") from None
+
+    def read(self, number, words):
+        """Takes in a line of the machine file."""
+        if words[:1] == ["spe"]:
+            self.of_processor.append({})
+            self.labels.append({})
+        elif words[:1] == ["source"]:
+            sites, labels = self.of_source(words[1])
+            self.of_processor[-1].update(sites)
+            self.labels[-1].update(labels)
+        elif words[:1] in (["code"], ["bytes"]):
+            self.of_processor[-1].update(code_sites(self.machine, number, int(words[1], 0), words[2]))
+        elif words[:1] == ["host"]:
+            self.script.append((number, " ".join(words)))
+        elif words[:1] == ["ormode"]:
+            self.or_modes.add((int(words[1], 0), int(words[2], 0)))
+
+    def of_source(self, name):
+        """The sites and the labels of a source, which is read once."""
+        if name not in self.sources:
+            lines = source_lines(name)
+            self.sources[name] = source_sites(name, lines), source_labels(lines)
+        return self.sources[name]
 
     def at(self, spe, address):
         """The site of an instruction."""

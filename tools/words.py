@@ -2,15 +2,19 @@
 import functools
 import re
 
+from channels import EVENT_ACK, EVENT_MASK_READ, EVENT_MASK_WRITE, EVENT_STATUS, events_in
 from effects import has_group
 from sites import callers
 
-COMMANDS = {"put": "PUT", "get": "GET", "putl": "PUTL", "getl": "GETL", "barrier": "BARRIER", "putqlluc": "PUTQLLUC"}
+COMMANDS = {"put": "PUT", "get": "GET", "putl": "PUTL", "getl": "GETL", "barrier": "BARRIER", "putqlluc": "PUTQLLUC",
+            "sndsig": "SNDSIG"}
 MARKS = {"-": "", "fence": "F", "barrier": "B"}
 ATOMIC = {"getllar": "GETLLAR", "putllc": "PUTLLC", "putlluc": "PUTLLUC"}
 OUTCOMES = {("putllc", 0): "stored", ("putllc", 1): "lost its line and didn't store"}
 BOXES = {"in": "the inbound mailbox", "out": "the outbound mailbox", "intr": "the outbound interrupt mailbox"}
 ATOMIC_LINE = 128
+OF_EVENTS = {("rdch", EVENT_STATUS): "the reading of the event status", ("rdch", EVENT_MASK_READ): "the reading of the event mask",
+             ("wrch", EVENT_MASK_WRITE): "the setting of the event mask", ("wrch", EVENT_ACK): "the acknowledgement of events"}
 
 
 def place_of(span):
@@ -36,6 +40,11 @@ def tags(groups):
 
 def name_of(command):
     return COMMANDS[command.kind] + MARKS[command.mark]
+
+
+def signal_register(number):
+    """The signal register that a SNDSIG names by its effective address."""
+    return f"signal register {number % 2 + 1} of processor {number // 2}"
 
 
 def with_article(name):
@@ -139,8 +148,15 @@ class Teller:
             number = self.trace.element_of(place)[2]
             return f"the reading of element {number} of {self.command(place)}"
         element = f" of element {step.element}" if self.trace.element_of(place) else ""
-        way = f"{step.reads.size} bytes from {start_of(step.reads)} to {start_of(step.writes)}"
+        way = f"{step.reads.size} bytes from {start_of(step.reads)} to {self.target(step)}"
         return f"piece {step.part}{element} of {self.command(place)}: {way}"
+
+    def target(self, step):
+        """Where a piece brings its bytes."""
+        command = self.trace.commands[step.command_key()]
+        if command.kind != "sndsig":
+            return start_of(step.writes)
+        return signal_register(command.ea) + ("" if "signal" in step.told else ", which isn't there")
 
     def instruction(self, place):
         """What an instruction is, apart from its processor."""
@@ -151,6 +167,11 @@ class Teller:
             return f"the issue of {with_article(name_of(step.issued()))} of tag {step.issued().tag}"
         if "atomic" in step.told:
             return f"the issue of {with_article(ATOMIC[step.told['atomic'][0]])}"
+        if "signal" in step.told:
+            return f"an instruction that takes 0x{step.number('rdch', 1):x} out of signal register {step.number('signal', 1)}"
+        events = next((words for (way, channel), words in OF_EVENTS.items() if step.number(way) == channel), None)
+        if events:
+            return f"{events}, {events_in(step.number('rdch' if 'rdch' in step.told else 'wrch', 1))}"
         names = {"tags": "the reading of a tag status", "stalls": "the reading of the stall status", "atomicread": "the reading of an atomic status",
                  "put": "an instruction that puts", "take": "an instruction that takes", "ended": "the last instruction"}
         found = next((name for name in names if name in step.told), None)
@@ -159,12 +180,23 @@ class Teller:
         return names.get(found, "an instruction")
 
     def word(self, place):
-        """What passes something on, or takes it: a step that moves a line whole, or a value of a mailbox."""
+        """What passes something on, or takes it: a step that moves a line whole, a value of a mailbox, or a signal."""
         step = self.trace.steps[place]
         if step.kind in ("atomic", "piece"):
             return self.what(place)
+        if "signal" in step.told:
+            return self.signal(place)
         if "awaited" in step.told:
             return f"the host finds that processor {step.number('awaited')} doesn't run"
         spe, box, value = step.told.get("put") or step.told["take"]
         way = "puts" if "put" in step.told else "takes"
         return f"{self.who(place)} {way} 0x{int(value):x}, {BOXES[box]} of processor {spe}"
+
+    def signal(self, place):
+        """What delivers to a signal register, or reads it."""
+        step = self.trace.steps[place]
+        spe, register = map(int, step.told["signal"])
+        what = f"signal register {register} of processor {spe}"
+        if step.kind == "host":
+            return f"the host delivers 0x{step.number('deliver'):x} to {what}"
+        return f"{self.who(place)} takes 0x{step.number('rdch', 1):x} out of {what}"

@@ -97,7 +97,7 @@ async function go(place) {
 function centre(row) {
   const scroll = byId('scroll');
   byId('body').style.height = `${rows.length * ROW + 8}px`;
-  scroll.scrollTop = Math.max(0, row * ROW - scroll.clientHeight / 2 + HEAD);
+  scroll.scrollTop = Math.max(0, Math.round((row * ROW - scroll.clientHeight / 2 + HEAD) / ROW) * ROW);
 }
 const raceTop = () => Math.min(story.first, ...story.pairs.filter(([, to]) => to === story.first).map(([from]) => from));
 const raceFits = () => (rowOf(story.second) - rowOf(raceTop())) * ROW < byId('scroll').clientHeight - 120;

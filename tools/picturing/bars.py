@@ -1,11 +1,13 @@
 """The bars of a picture, a command each, and its arrows, a pair of steps of a rule each."""
-KINDS = ("put", "get", "putl", "getl", "barrier", "putqlluc")
+from order import NO_CHAIN
+
+KINDS = ("put", "get", "putl", "getl", "barrier", "putqlluc", "sndsig")
 MARKS = ("-", "fence", "barrier")
 MOST = 16     # commands that one arrow's end is drawn from: as many as a queue has places
 NEVER = -1    # the end of a command that isn't done
 
 # The rules that are drawn, each with how its pairs are chosen. What follows from others isn't drawn.
-SINGLE = ("Passed", "Finished", "AtomicIssued", "AtomicSeen")
+SINGLE = ("Passed", "Signalled", "Finished", "AtomicIssued", "AtomicSeen")
 
 
 def bars(run):
@@ -52,7 +54,7 @@ class Arrows:
 
     def look_at(self, place, node, rule):
         if rule in SINGLE:
-            self.found.append((self.order.latest(node), place, rule))
+            self.single(place, self.order.latest(node), rule)
         elif rule == "Line":
             self.line(place, self.order.latest(node))
         elif rule in ("Issued", "Queue") and place in self.firsts:
@@ -63,6 +65,12 @@ class Arrows:
             self.found.append((self.order.latest(node), place, rule))
         elif rule == "Resumed":
             self.resumed(place, self.order.latest(node))
+
+    def single(self, place, before, rule):
+        """A rule with one pair, but not between two steps of one program."""
+        chain = self.order.chains[place]
+        if chain == NO_CHAIN or self.order.chains[before] != chain:
+            self.found.append((before, place, rule))
 
     def line(self, place, before):
         """Line, between two processors."""

@@ -60,8 +60,8 @@ function stepAt(place) {
 }
 
 // ---- commands and sources
-const KINDS = ['PUT', 'GET', 'PUTL', 'GETL', 'BARRIER', 'PUTQLLUC'], MARKS = ['', 'F', 'B'];
-const COLORS = ['put', 'get', 'put', 'get', 'barrier', 'put'];
+const KINDS = ['PUT', 'GET', 'PUTL', 'GETL', 'BARRIER', 'PUTQLLUC', 'SNDSIG'], MARKS = ['', 'F', 'B'];
+const COLORS = ['put', 'get', 'put', 'get', 'barrier', 'put', 'mail'], HOLLOW = ['GET', 'GETL'];
 
 function barOfRow([spe, number, kind, mark, tag, ls, ea, size, issue, first, last, end, stalls, slot]) {
   return { spe, number, name: KINDS[kind] + MARKS[mark], kind: KINDS[kind], color: COLORS[kind], tag, ls, ea, size, issue, first, last, end, stalls, slot };
@@ -73,9 +73,14 @@ function commandText(bar) {
   if (bar.number === null) return bar.name;
   const head = `#${bar.number} ${bar.name}, tag ${bar.tag}`;
   if (bar.kind === 'BARRIER') return head;
+  if (bar.kind === 'SNDSIG') return `${head}, 4 bytes at ${hex(bar.ls)} of the store to ${signalName(...registerOf(bar))}`;
   if (bar.kind.endsWith('L')) return `${head}, list of ${bar.size / 8} at ${hex(bar.ea)}, data at ${hex(bar.ls)} of the store`;
   return `${head}, ${bar.size} bytes, store ${hex(bar.ls)} ${bar.kind === 'GET' ? '←' : '→'} memory ${hex(bar.ea)}`;
 }
+
+// A signal register has its processor and its number, 1 or 2; a command names both by its address.
+const registerOf = bar => [bar.ea >> 1, (bar.ea & 1) + 1];
+const signalName = (spe, register) => `signal register ${register} of processor ${spe}`;
 
 const bars = [], barOf = new Map();
 function readTables(text) {

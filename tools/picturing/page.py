@@ -13,7 +13,7 @@ from picturing.rows import own_rows
 from picturing.story import BEHIND, other_words, race_pairs, race_steps, race_words, waits
 
 HERE = pathlib.Path(__file__).resolve().parent
-SCRIPTS = ("data", "order", "layout", "rows", "drawing", "memory", "labels", "side", "actions")
+SCRIPTS = ("data", "order", "layout", "rows", "lines", "labels", "arrows", "drawing", "memory", "side", "actions")
 BLOCK = 2048            # steps in a block
 MOST_ROWS = 100000      # steps that have a row of their own at the beginning
 ALL_ARROWS = 20000      # steps up to which all arrows are kept; of more, those between rows

@@ -2,9 +2,21 @@
 const tagsOf = groups => '{' + [...Array(32).keys()].filter(tag => groups >>> tag & 1).join(', ') + '}';
 const BOXES = { in: 'inbox', out: 'outbox', intr: 'intr. box' };
 const ATOMICS = { getllar: 'GETLLAR', putllc: 'PUTLLC', putlluc: 'PUTLLUC' };
-const COUNTED = { 21: 'the queue', 22: 'the mask', 23: 'the request', 24: 'the tag status', 25: 'the stall status', 27: 'the atomic status', 28: 'the outbox', 29: 'the inbox', 30: 'the interrupt box' };
+const COUNTED = {
+  0: 'the events', 3: 'signal register 1', 4: 'signal register 2', 21: 'the queue', 22: 'the mask', 23: 'the request', 24: 'the tag status', 25: 'the stall status',
+  27: 'the atomic status', 28: 'the outbox', 29: 'the inbox', 30: 'the interrupt box',
+};
+const EVENTS = [
+  [0x400, 'lost line'], [0x200, 'signal 1'], [0x100, 'signal 2'], [0x80, 'outbox'], [0x40, 'intr. box'], [0x10, 'inbox'], [8, 'queue'], [2, 'stall'], [1, 'tag status'],
+];
+// A set of events by their names; in the short form, more than one of them as a number.
+function eventsOf(bits, is_long) {
+  const names = EVENTS.filter(([bit]) => bits & bit).map(([, name]) => name);
+  return names.length > 1 && !is_long ? hex(+bits) : `{${names.join(', ')}}`;
+}
+const EVENT_WORDS = { 1: 'mask', 2: 'clears' };
 
-// What an instruction does beside computing, by its fields: the words of a chip and its colour.
+// What an instruction does beside computing, by its fields: the colour of a chip and its words, in a short and a long form.
 const TOLD = [
   ['issue', 'issue', ([number]) => `issues #${number}`],
   ['tags', 'tag', ([groups]) => `tags ${tagsOf(+groups)}`],
@@ -16,11 +28,14 @@ const TOLD = [
   ['put', 'mail', ([, box]) => `puts ${BOXES[box]}`],
   ['take', 'mail', ([, box]) => `takes ${BOXES[box]}`],
   ['ended', 'end', () => 'ends'],
+  ['signal', 'mail', ([, register]) => `takes signal ${register}`],
   ['rchcnt', 'plain', ([channel]) => `counts ${COUNTED[channel] || `channel ${channel}`}`],
+  ['rdch', 'plain', ([channel, bits], is_long) => channel === '0' ? `events ${eventsOf(bits, is_long)}` : ''],
+  ['wrch', 'plain', ([channel, bits], is_long) => channel in EVENT_WORDS ? `${EVENT_WORDS[channel]} ${eventsOf(bits, is_long)}` : ''],
 ];
-function toldOf(step) {
-  const found = TOLD.find(([name]) => name in step.fields);
-  return found ? { color: found[1], text: found[2](step.fields[found[0]]) } : null;
+function toldOf(step, is_long) {
+  const found = TOLD.find(([name]) => name in step.fields), text = found ? found[2](step.fields[found[0]], is_long) : '';
+  return text ? { color: found[1], text } : null;
 }
 
 // What a step of a flow controller is.
@@ -29,6 +44,7 @@ function flowText(step) {
   const bar = barOfStep(step), name = `#${step.command}`;
   if (step.letter === 'r') return `${name} retires`;
   if (step.letter === 'e') return `${name} element${step.fields.element ? ` ${step.fields.element[0]}${step.fields.element[2] === '1' ? ', flag' : ''}` : ': a fault'}`;
+  if (bar.kind === 'SNDSIG') return step.fields.signal ? `${name} delivers` : `${name} reaches no one`;
   return bar.kind.endsWith('L') ? `${name} el. ${step.element} piece ${step.part}` : `${name} piece ${step.part}`;
 }
 function atomicText(step) {
@@ -45,7 +61,7 @@ function actionOf(place) {
 function stepText(step) {
   if (step.lane === HOST) return `host: ${actionOf(step.place)}`;
   if (step.lane % 2) return `MFC ${step.spe}: ${flowText(step)}`;
-  const [file, line, text] = sourceOf(step), told = toldOf(step);
+  const [file, line, text] = sourceOf(step), told = toldOf(step, true);
   return `SPE ${step.spe}: ${text}${told ? `, ${told.text}` : ''}${line ? ` (${file}:${line})` : ''}`;
 }
 

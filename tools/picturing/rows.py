@@ -5,7 +5,7 @@ import re
 from effects import MEMORY_LINE, shared_bytes
 
 # The fields of an instruction that make it a row; the channels whose count is one.
-TOLD = re.compile(r" \| (?:issue|tags|stalls|ack|atomic|atomicread|put|take|ended|request|rchcnt (?:24|25|27|29)) ?")
+TOLD = re.compile(r" \| (?:issue|tags|stalls|ack|atomic|atomicread|put|take|signal|ended|request|rdch 0|wrch [12]|rchcnt (?:0|3|4|24|25|27|29))(?: |$)", re.M)
 COUNTED = re.compile(r"x (\d+) \| fetch \d+ (\d+) .* \| rchcnt ")
 ATOMIC = re.compile(r"a (\d+) .*\| atomic (\w+) \d+ (\d+)")
 STORED = re.compile(r" \| write mem (\d+) (\d+)")

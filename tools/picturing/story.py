@@ -7,6 +7,7 @@ READ, WRITE, COUNT = 0x00D, 0x10D, 0x00F  # the opcodes of rdch, wrch and rchcnt
 WAITS = {
     (WRITE, 21): "room in its queue, or in the slot of its atomic commands", (READ, 24): "a tag status", (READ, 25): "a stall status",
     (WRITE, 23): "the tag status before to be read", (READ, 27): "the status of an atomic command", (WRITE, 28): "its outbound mailbox to be emptied",
+    (READ, 0): "an event of its mask", (READ, 3): "a signal in its register 1", (READ, 4): "a signal in its register 2",
     (READ, 29): "a value in its inbound mailbox", (WRITE, 30): "its outbound interrupt mailbox to be emptied",
 }
 BEHIND = "`check` names the race whose later step comes first. Others may follow from it: mend this one, run it again, and look at the new record."

@@ -1,11 +1,12 @@
 // The state behind the channels, but for the queue, the tags and the mailboxes.
-ghost use Rattle.std.specs.Prelude.{◌≡◌, ◌≤◌, ◌<◌, ◌^◌, Some, None, IfOk, OnErr, OnOk, is_ok, is_some, is_none, not, ◌==◌, bit_or};
+ghost use Rattle.std.specs.Prelude.{◌≡◌, ◌≤◌, ◌<◌, ◌^◌, Some, None, if◌then◌else◌, IfOk, OnErr, OnOk, is_ok, is_some, is_none, not, ◌==◌, bit_or};
 ghost use Rattle.cell_channels.specs.Table.{way_of};
 ghost use Rattle.cell_channels.specs.State.{opening_channels, with_param, count_of};
 
 use crate::numbers::{
     MFC_CMD, MFC_EAH, MFC_EAL, MFC_LSA, MFC_RD_ATOMIC_STAT, MFC_RD_LIST_STALL_STAT,
-    MFC_RD_TAG_STAT, MFC_SIZE, SPU_RD_IN_MBOX, SPU_WR_OUT_INTR_MBOX, SPU_WR_OUT_MBOX, way,
+    MFC_RD_TAG_STAT, MFC_SIZE, SPU_RD_EVENT_STAT, SPU_RD_IN_MBOX, SPU_RD_SIG_NOTIFY_1,
+    SPU_RD_SIG_NOTIFY_2, SPU_WR_OUT_INTR_MBOX, SPU_WR_OUT_MBOX, way,
 };
 use mfc_command::{AtomicOp, Params};
 
@@ -34,6 +35,12 @@ pub struct Counts {
     pub outbound: u32,
     /// How many places of the outbound interrupt mailbox are free.
     pub intr: u32,
+    /// Whether signal register 1 is ready.
+    pub sig1: bool,
+    /// Whether signal register 2 is ready.
+    pub sig2: bool,
+    /// Whether the event status isn't 0.
+    pub event: bool,
 }
 
 /// The parameters of the next command, the atomic slot, and the statuses of atomic commands and of stalled lists.
@@ -96,10 +103,13 @@ impl Channels {
         ensures count { IfOk result (λ n. count_of self.now c ch ≡ Some n) }
     {
         match ch {
+            SPU_RD_EVENT_STAT => Ok(one_if(c.event)),
+            SPU_RD_SIG_NOTIFY_1 => Ok(one_if(c.sig1)),
+            SPU_RD_SIG_NOTIFY_2 => Ok(one_if(c.sig2)),
             MFC_CMD => Ok(c.free),
-            MFC_RD_TAG_STAT => Ok(u32::from(c.tags)),
-            MFC_RD_LIST_STALL_STAT => Ok(u32::from(self.stalls != 0)),
-            MFC_RD_ATOMIC_STAT => Ok(u32::from(self.atomic.is_some())),
+            MFC_RD_TAG_STAT => Ok(one_if(c.tags)),
+            MFC_RD_LIST_STALL_STAT => Ok(one_if(self.stalls != 0)),
+            MFC_RD_ATOMIC_STAT => Ok(one_if(self.atomic.is_some())),
             SPU_WR_OUT_MBOX => Ok(c.outbound),
             SPU_RD_IN_MBOX => Ok(c.inbound),
             SPU_WR_OUT_INTR_MBOX => Ok(c.intr),
@@ -187,6 +197,13 @@ impl Channels {
         }
         Ok(bits)
     }
+}
+
+/// The count of a channel behind which there is one thing or none.
+fn one_if(there: bool) -> u32
+    ensures { result ≡ (if there then 1 else 0) }
+{
+    u32::from(there)
 }
 
 /// The count 1, where there is such a channel.

@@ -4,6 +4,18 @@ ghost use Rattle.cell_channels.specs.Table.{way_of};
 
 use crate::ways::Way;
 
+pub const SPU_RD_EVENT_STAT: u8 = 0;
+
+pub const SPU_WR_EVENT_MASK: u8 = 1;
+
+pub const SPU_WR_EVENT_ACK: u8 = 2;
+
+pub const SPU_RD_SIG_NOTIFY_1: u8 = 3;
+
+pub const SPU_RD_SIG_NOTIFY_2: u8 = 4;
+
+pub const SPU_RD_EVENT_MASK: u8 = 11;
+
 pub const MFC_RD_TAG_MASK: u8 = 12;
 
 pub const MFC_LSA: u8 = 16;
@@ -42,6 +54,12 @@ pub fn way(ch: u8) -> Option<Way>
     ensures { result ≡ way_of ch }
 {
     match ch {
+        SPU_RD_EVENT_STAT => Some(Way::Read),
+        SPU_WR_EVENT_MASK => Some(Way::Write),
+        SPU_WR_EVENT_ACK => Some(Way::Write),
+        SPU_RD_SIG_NOTIFY_1 => Some(Way::Read),
+        SPU_RD_SIG_NOTIFY_2 => Some(Way::Read),
+        SPU_RD_EVENT_MASK => Some(Way::Read),
         MFC_RD_TAG_MASK => Some(Way::Read),
         MFC_LSA => Some(Way::Write),
         MFC_EAH => Some(Way::Write),

@@ -7,7 +7,7 @@ use Rattle.cell_machine.specs.Opening.{Opening, Placed}
 use Rattle.cell_gen.specs.Generated.{placed_for}
 
 abbrev pub made : List ℕ → List Placed → Opening
-made entries placed = record { lines = 128; budget = 1000000; entries = entries; placed = placed; memory = []; actions = []; shows = [] }
+made entries placed = record { lines = 128; budget = 1000000; entries = entries; or_modes = 0; placed = placed; memory = []; actions = []; shows = [] }
 
 -- with its first p processors
 abbrev pub made_with : ℕ → ℕ → Opening

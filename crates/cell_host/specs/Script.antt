@@ -3,7 +3,7 @@ use Rattle.std.specs.Prelude.{◌≡◌, ℕ, ◌+◌, ◌<◌, ◌≤◌, Bool,
 use Rattle.std.specs.Option.{option_map_or}
 use Rattle.cell_host.specs.declared.Took.{Took}
 use Rattle.cell_host.specs.declared.HostAction.{HostAction}
-use Rattle.cell_host.specs.declared.HostAction.TheVariants.{Send, Take, TakeIntr, Store, Await}
+use Rattle.cell_host.specs.declared.HostAction.TheVariants.{Send, Take, TakeIntr, Store, Await, Signal}
 
 -- a script, how many of its actions were done, and the values that these took, the earliest first
 pub record Progress : Type 0 where
@@ -18,6 +18,7 @@ takes (Take spe) = true
 takes (TakeIntr spe) = true
 takes (Store ea len bytes) = false
 takes (Await spe) = false
+takes (Signal spe register value) = false
 
 -- whether the next action takes a value
 abbrev pub next_takes : Progress → Bool

@@ -35,6 +35,8 @@ pub enum HostAction {
     Store { ea: u32, len: u8, bytes: [u8; 16] },
     /// Waits until the processor has ceased to run.
     Await { spe: u8 },
+    /// Delivers a value to signal register 1 or 2.
+    Signal { spe: u8, register: u8, value: u32 },
 }
 
 /// A value that the action of this number took, counted from 0.

@@ -7,7 +7,7 @@ use Rattle.cell_load.specs.declared.line.Refusal.{Refusal}
 use Rattle.cell_load.specs.declared.line.Counts.{Counts}
 use Rattle.cell_load.specs.declared.line.Stage.{Stage}
 use Rattle.cell_load.specs.declared.line.Stage.TheVariants.{Start, Headed, Sized, Body}
-use Rattle.cell_load.specs.Entries.{Entry, Head, Lines, Budget, Spe, Entrance, Code, Bytes, Source, MemoryBytes, Host, ShowLocal, ShowMemory}
+use Rattle.cell_load.specs.Entries.{Entry, Head, Lines, Budget, Spe, Entrance, Code, Bytes, Source, MemoryBytes, Host, OrMode, ShowLocal, ShowMemory}
 use Rattle.cell_load.specs.Form.{◌>>=◌, line_says}
 use Rattle.cell_load.specs.Order.{nothing, admit, admit_all, counted, in_body, ends_well, lacks, limited, line_step, only_if, words_step, machine_at, IsMachine}
 use Rattle.cell_load.specs.Sources.{source_of, sources_from, sources_of, spes_after, spes_in}
@@ -94,6 +94,7 @@ counted-spes c (Bytes at bytes) d is = same_spes c d (Bytes at bytes) (ap (λ (x
 counted-spes c (Source name) d is = same_spes c d (Source name) (ap (λ (x : Counts). x.spes) (limited-ok _ _ d (only_if-ok _ _ d is).1).1) refl
 counted-spes c (MemoryBytes at bytes) d is = same_spes c d (MemoryBytes at bytes) (ap (λ (x : Counts). x.spes) (ok_same _ d (only_if-ok _ _ d is).1)) refl
 counted-spes c (Host action) d is = same_spes c d (Host action) (ap (λ (x : Counts). x.spes) (limited-ok _ _ d (only_if-ok _ _ d is).1).1) refl
+counted-spes c (OrMode spe register) d is = same_spes c d (OrMode spe register) (ap (λ (x : Counts). x.spes) (ok_same _ d (only_if-ok _ _ d is).1)) refl
 counted-spes c (ShowLocal spe at len) d is = same_spes c d (ShowLocal spe at len) (ap (λ (x : Counts). x.spes) (limited-ok _ _ d (only_if-ok _ _ d is).1).1) refl
 counted-spes c (ShowMemory at len) d is = same_spes c d (ShowMemory at len) (ap (λ (x : Counts). x.spes) (limited-ok _ _ d (only_if-ok _ _ d is).1).1) refl
 counted-spes c Head d is = absurd cc
@@ -164,6 +165,7 @@ counted-sources spes c (Source name) d is =
     record { counts = sym more; few = λ few. omega (arith, more, less) }
 counted-sources spes c (MemoryBytes at bytes) d is = same_sources spes c d (MemoryBytes at bytes) (ap (λ (x : Counts). x.sources) (ok_same _ d (only_if-ok _ _ d is).1)) refl
 counted-sources spes c (Host action) d is = same_sources spes c d (Host action) (ap (λ (x : Counts). x.sources) (limited-ok _ _ d (only_if-ok _ _ d is).1).1) refl
+counted-sources spes c (OrMode q register) d is = same_sources spes c d (OrMode q register) (ap (λ (x : Counts). x.sources) (ok_same _ d (only_if-ok _ _ d is).1)) refl
 counted-sources spes c (ShowLocal spe at len) d is = same_sources spes c d (ShowLocal spe at len) (ap (λ (x : Counts). x.sources) (limited-ok _ _ d (only_if-ok _ _ d is).1).1) refl
 counted-sources spes c (ShowMemory at len) d is = same_sources spes c d (ShowMemory at len) (ap (λ (x : Counts). x.sources) (limited-ok _ _ d (only_if-ok _ _ d is).1).1) refl
 counted-sources spes c Head d is = absurd cc

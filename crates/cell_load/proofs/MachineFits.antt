@@ -1,5 +1,5 @@
 -- What lines that all have their place stand for is within the limits of a setup.
-use Rattle.std.proofs.Common.{◌≡◌, ◌≤◌, ◌<◌, ◌+◌, ◌-◌, ◌*◌, ◌%◌, ◌==◌, ◌&&◌, not, nat_le, nat_lt, ℕ, zero, suc, Bool, true, false, List, [], ◌∷◌, ◌++◌, length, slice_get, Option, Some, None, is_none, unwrap_or, cond, Result, Ok, Err, refl, sym, ap, subst, ◌∙◌, arith, lit≤}
+use Rattle.std.proofs.Common.{◌≡◌, ◌≤◌, ◌<◌, ◌+◌, ◌-◌, ◌*◌, ◌%◌, ◌==◌, ◌&&◌, ◌||◌, not, fold, nat_le, nat_lt, ℕ, zero, suc, Bool, true, false, List, [], ◌∷◌, ◌++◌, length, slice_get, Option, Some, None, is_none, unwrap_or, cond, Result, Ok, Err, refl, sym, ap, subst, ◌∙◌, arith, lit≤}
 use Rattle.std.specs.Prelude.{All, IfSome}
 use Rattle.std.specs.List.{cons_option, filter_map}
 use Rattle.std.specs.Option.{option_or, option_to_list}
@@ -7,21 +7,21 @@ use Rattle.std.proofs.lemmas.Bool.Decides.{nat_tests}
 use Rattle.std.proofs.lemmas.List.FromFn.{get_or-map-range_with_len, length-map-range_with_len}
 use Rattle.spu_asm.specs.Images.{Image}
 use Rattle.cell_host.specs.declared.HostAction.{HostAction}
-use Rattle.cell_host.specs.declared.HostAction.TheVariants.{Send, Take, TakeIntr, Store, Await}
+use Rattle.cell_host.specs.declared.HostAction.TheVariants.{Send, Take, TakeIntr, Store, Await, Signal}
 use Rattle.cell_machine.specs.Opening.{InMemory}
 use Rattle.cell_machine.specs.declared.setup.Show.{Show}
-use Rattle.cell_machine.specs.Limits.{AreMachineLimits, FitsAction, FitsMemory, FitsShow, FitsStore, IsOpening}
+use Rattle.cell_machine.specs.Limits.{AreMachineLimits, FitsAction, FitsMemory, FitsShow, FitsStore, IsOpening, IsRegister}
 use Rattle.cell_load.specs.declared.line.Refusal.{Refusal}
 use Rattle.cell_load.specs.declared.line.Refusal.TheVariants.{Form}
 use Rattle.cell_load.specs.declared.line.Counts.{Counts}
 use Rattle.cell_load.specs.declared.line.Stage.TheVariants.{Start, Headed, Sized, Body}
-use Rattle.cell_load.specs.Entries.{Entry, Head, Lines, Budget, Spe, Entrance, Code, Bytes, Source, MemoryBytes, Host, ShowLocal, ShowMemory}
+use Rattle.cell_load.specs.Entries.{Entry, Head, Lines, Budget, Spe, Entrance, Code, Bytes, Source, MemoryBytes, Host, OrMode, ShowLocal, ShowMemory}
 use Rattle.cell_load.specs.Form.{◌>>=◌}
-use Rattle.cell_load.specs.Order.{nothing, admit, admit_all, counted, fits_action, in_body, in_memory, ends_well, in_local, has_spe, is_shown, limited, IsMachine}
+use Rattle.cell_load.specs.Order.{nothing, admit, admit_all, counted, fits_action, in_body, in_memory, ends_well, in_local, has_spe, is_register, is_shown, limited, IsMachine}
 use Rattle.cell_load.specs.Sources.{spes_after, spes_in}
 use Rattle.cell_load.specs.Loaded as loaded
-use Rattle.cell_load.specs.Loaded.{Load, Part, first_of, for_spe, given_to, image_start, images_after, line_start, loads_from, loads_of, machine_of, lines_number, budget_number, host_action, memory_piece, parts_of, parts_of_image, placed_of, placed_part, shown_range, start_of, starts_of}
-use Rattle.cell_load.specs.LoadViews.{AllTakeFit, TakesFit}
+use Rattle.cell_load.specs.Loaded.{Load, Part, first_of, for_spe, given_to, image_start, images_after, line_start, loads_from, loads_of, machine_of, host_action, memory_piece, or_register, parts_of, placed_of, placed_part, shown_range, start_of, starts_of, with_register}
+use Rattle.cell_load.specs.LoadViews.{AllTakeFit, FitsRegister, TakesFit}
 use Rattle.cell_load.proofs.SetupLemmas.{starts-length}
 use Rattle.cell_load.proofs.SourceLemmas.{spes_after-add}
 use Rattle.cell_load.proofs.Admitted.{counted-spes, few_spes, limited-ok, only_if-ok, ok_same}
@@ -61,14 +61,32 @@ Within c (Source name) = 0 < c.spes
 Within c (ShowLocal spe at len) = (spe < c.spes) × (0 < len) × (len ≤ 4096) × (at + len ≤ 262144) × (c.shows < 64)
 Within c (MemoryBytes at bytes) = at + length bytes ≤ 128 * c.lines
 Within c (Host action) = FitsAction c.lines c.spes action × (c.actions < 4096)
+Within c (OrMode spe register) = (spe < c.spes) × IsRegister register
 Within c (ShowMemory at len) = (0 < len) × (len ≤ 4096) × (at + len ≤ 128 * c.lines) × (c.shows < 64)
 Within c other = Unit {0}
+
+-- a number that is tested to be that of a register is one
+register_within : (register : ℕ) → is_register register ≡ true → IsRegister register
+register_within register is = by_first (register == 1) refl is
+  where
+    by_first : (b : Bool) → (register == 1) ≡ b → (b || register == 2) ≡ true → IsRegister register
+    by_first true e is =
+        let one : register ≡ 1 = grind (arith, nat_tests) in
+        (omega (arith, one), omega (arith, one))
+    by_first false e is =
+        let test : (register == 2) ≡ true = is in
+        let two : register ≡ 2 = grind (arith, nat_tests) in
+        (omega (arith, two), omega (arith, two))
 
 action_within : (c : Counts) (a : HostAction) → fits_action c a ≡ true → FitsAction c.lines c.spes a
 action_within c (Send spe value) is = let there : nat_lt spe c.spes ≡ true = is in grind (arith, nat_tests)
 action_within c (Take spe) is = let there : nat_lt spe c.spes ≡ true = is in grind (arith, nat_tests)
 action_within c (TakeIntr spe) is = let there : nat_lt spe c.spes ≡ true = is in grind (arith, nat_tests)
 action_within c (Await spe) is = let there : nat_lt spe c.spes ≡ true = is in grind (arith, nat_tests)
+action_within c (Signal spe register value) is =
+    let b = both (nat_lt spe c.spes) (is_register register) is in
+    let there : nat_lt spe c.spes ≡ true = b.0 in
+    (grind (arith, nat_tests), register_within register b.1)
 action_within c (Store ea len bytes) is =
     let b = both (nat_le 1 len && nat_le len 16 && nat_le (ea % 128 + len) 128 && in_memory c.lines ea len) (length bytes == 16) is in
     let m = both (nat_le 1 len && nat_le len 16 && nat_le (ea % 128 + len) 128) (in_memory c.lines ea len) b.0 in
@@ -117,6 +135,10 @@ counted-within c (Host action) d is =
     let o = only_if-ok _ _ d is in
     let room : nat_lt c.actions 4096 ≡ true = (limited-ok _ _ d o.1).0 in
     (action_within c action o.0, grind (arith, nat_tests))
+counted-within c (OrMode spe register) d is =
+    let b = both (nat_lt spe c.spes) (is_register register) (only_if-ok _ _ d is).0 in
+    let there : nat_lt spe c.spes ≡ true = b.0 in
+    (grind (arith, nat_tests), register_within register b.1)
 counted-within c (ShowMemory at len) d is =
     let o = only_if-ok _ _ d is in
     let l = both (is_shown len) (nat_lt c.shows 64) (limited-ok _ _ d o.1).0 in
@@ -160,6 +182,7 @@ counted-after c (Bytes at bytes) d is = ok_same _ d (only_if-ok _ _ d is).1
 counted-after c (Source name) d is = (limited-ok _ _ d (only_if-ok _ _ d is).1).1
 counted-after c (MemoryBytes at bytes) d is = ok_same _ d (only_if-ok _ _ d is).1
 counted-after c (Host action) d is = (limited-ok _ _ d (only_if-ok _ _ d is).1).1
+counted-after c (OrMode spe register) d is = ok_same _ d (only_if-ok _ _ d is).1
 counted-after c (ShowLocal spe at len) d is = (limited-ok _ _ d (only_if-ok _ _ d is).1).1
 counted-after c (ShowMemory at len) d is = (limited-ok _ _ d (only_if-ok _ _ d is).1).1
 
@@ -191,6 +214,7 @@ moves c (Bytes at bytes) within = still c (after c (Bytes at bytes)) (Bytes at b
 moves c (Source name) within = still c (after c (Source name)) (Source name) refl refl refl refl refl
 moves c (MemoryBytes at bytes) within = still c (after c (MemoryBytes at bytes)) (MemoryBytes at bytes) refl refl refl refl refl
 moves c (Host action) within = record { lines = refl; actions = omega arith; few_actions = λ few. let room = within.1 in omega (arith, room); shows = omega arith; few_shows = λ few. few }
+moves c (OrMode spe register) within = still c (after c (OrMode spe register)) (OrMode spe register) refl refl refl refl refl
 moves c (ShowLocal spe at len) within = record { lines = refl; actions = omega arith; few_actions = λ few. few; shows = omega arith; few_shows = λ few. let room = within.4 in omega (arith, room) }
 moves c (ShowMemory at len) within = record { lines = refl; actions = omega arith; few_actions = λ few. few; shows = omega arith; few_shows = λ few. let room = within.3 in omega (arith, room) }
 
@@ -258,6 +282,11 @@ parts_fit c (Host action) images within takes = none (slice_get images 0)
     none : (o : Option Image) → Each FitsPart (parts_of o (Host action))
     none None = tt
     none (Some i) = tt
+parts_fit c (OrMode spe register) images within takes = none (slice_get images 0)
+  where
+    none : (o : Option Image) → Each FitsPart (parts_of o (OrMode spe register))
+    none None = tt
+    none (Some i) = tt
 parts_fit c (ShowMemory at len) images within takes = none (slice_get images 0)
   where
     none : (o : Option Image) → Each FitsPart (parts_of o (ShowMemory at len))
@@ -306,6 +335,7 @@ has_processor c (Host action) images within some = absurd (none (slice_get image
     none : (o : Option Image) → 0 < length (parts_of o (Host action)) → ⊥
     none None h = omega arith
     none (Some i) h = omega arith
+has_processor c (OrMode spe register) images within some = omega (arith, within.0)
 has_processor c (ShowMemory at len) images within some = absurd (none (slice_get images 0) some)
   where
     none : (o : Option Image) → 0 < length (parts_of o (ShowMemory at len)) → ⊥
@@ -410,6 +440,7 @@ memory_fits lines n c (Code at bytes) same few within = tt
 memory_fits lines n c (Bytes at bytes) same few within = tt
 memory_fits lines n c (Source name) same few within = tt
 memory_fits lines n c (Host action) same few within = tt
+memory_fits lines n c (OrMode spe register) same few within = tt
 memory_fits lines n c (ShowLocal spe at len) same few within = tt
 memory_fits lines n c (ShowMemory at len) same few within = tt
 
@@ -418,6 +449,7 @@ later_action lines few many (Send spe value) more fits = omega (arith, more, fit
 later_action lines few many (Take spe) more fits = omega (arith, more, fits)
 later_action lines few many (TakeIntr spe) more fits = omega (arith, more, fits)
 later_action lines few many (Await spe) more fits = omega (arith, more, fits)
+later_action lines few many (Signal spe register value) more fits = (omega (arith, more, fits.0), fits.1)
 later_action lines few many (Store ea len bytes) more fits = fits
 
 action_fits : (lines n : ℕ) (c : Counts) (e : Entry) → c.lines ≡ lines → c.spes ≤ n → Within c e → IfSome (host_action e) (FitsAction lines n)
@@ -431,6 +463,7 @@ action_fits lines n c (Code at bytes) same few within = tt
 action_fits lines n c (Bytes at bytes) same few within = tt
 action_fits lines n c (Source name) same few within = tt
 action_fits lines n c (MemoryBytes at bytes) same few within = tt
+action_fits lines n c (OrMode spe register) same few within = tt
 action_fits lines n c (ShowLocal spe at len) same few within = tt
 action_fits lines n c (ShowMemory at len) same few within = tt
 
@@ -447,6 +480,22 @@ show_fits lines n c (Bytes at bytes) same few within = tt
 show_fits lines n c (Source name) same few within = tt
 show_fits lines n c (MemoryBytes at bytes) same few within = tt
 show_fits lines n c (Host action) same few within = tt
+show_fits lines n c (OrMode spe register) same few within = tt
+
+register_fits : (lines n : ℕ) (c : Counts) (e : Entry) → c.lines ≡ lines → c.spes ≤ n → Within c e → IfSome (or_register e) (FitsRegister n)
+register_fits lines n c (OrMode spe register) same few within = (omega (arith, within.0, few), within.1)
+register_fits lines n c Head same few within = tt
+register_fits lines n c (Lines k) same few within = tt
+register_fits lines n c (Budget k) same few within = tt
+register_fits lines n c Spe same few within = tt
+register_fits lines n c (Entrance at) same few within = tt
+register_fits lines n c (Code at bytes) same few within = tt
+register_fits lines n c (Bytes at bytes) same few within = tt
+register_fits lines n c (Source name) same few within = tt
+register_fits lines n c (MemoryBytes at bytes) same few within = tt
+register_fits lines n c (Host action) same few within = tt
+register_fits lines n c (ShowLocal spe at len) same few within = tt
+register_fits lines n c (ShowMemory at len) same few within = tt
 
 cons-long : {X : Type 0} (o : Option X) (xs : List X) → length (cons_option o xs) ≡ length (option_to_list o) + length xs
 cons-long None xs = omega arith
@@ -553,10 +602,10 @@ whole_file (other ∷ es) ends = absurd cc
 
 -- ---- the whole
 
-opening_of : (lines budget n : ℕ) (loads : List Load) (memory : List InMemory) (actions : List HostAction) (shows : List Show) → AreMachineLimits lines budget → n ≤ 16 → Each (FitsLoad n) loads
+opening_of : (lines budget n modes : ℕ) (loads : List Load) (memory : List InMemory) (actions : List HostAction) (shows : List Show) → AreMachineLimits lines budget → n ≤ 16 → Each (FitsLoad n) loads
     → Each (FitsMemory lines) memory → Each (FitsAction lines n) actions → length actions ≤ 4096 → Each (FitsShow lines n) shows → length shows ≤ 64
-    → IsOpening (record { lines = lines; budget = budget; entries = starts_of loads n; placed = placed_of loads; memory = memory; actions = actions; shows = shows })
-opening_of lines budget n loads memory actions shows limits few placed filled acts acted ranges shown =
+    → IsOpening (record { lines = lines; budget = budget; entries = starts_of loads n; or_modes = modes; placed = placed_of loads; memory = memory; actions = actions; shows = shows })
+opening_of lines budget n modes loads memory actions shows limits few placed filled acts acted ranges shown =
     let long : length (starts_of loads n) ≡ n = starts-length loads n in
     record {
       limits = limits;
@@ -627,7 +676,7 @@ body_opening lines budget body images limits ends few takes =
     let n : 0 + spes_in body ≡ spes_in body = omega arith in
     let acted : length (filter_map host_action body) ≤ 4096 = omega (arith, actions_few (nothing lines) body ends (lit≤ tt)) in
     let shown : length (filter_map shown_range body) ≤ 64 = omega (arith, shows_few (nothing lines) body ends (lit≤ tt)) in
-    opening_of lines budget (spes_in body) (loads_from 0 body images) (filter_map memory_piece body) (filter_map host_action body) (filter_map shown_range body) limits few
+    opening_of lines budget (spes_in body) (fold with_register 0 (filter_map or_register body)) (loads_from 0 body images) (filter_map memory_piece body) (filter_map host_action body) (filter_map shown_range body) limits few
     (loads_fit (spes_in body) (nothing lines) body images ends takes (omega (arith, n)))
     (each_fits memory_piece (FitsMemory lines) lines (spes_in body) (memory_fits lines (spes_in body)) (nothing lines) body refl ends (omega (arith, n)))
     (each_fits host_action (FitsAction lines (spes_in body)) lines (spes_in body) (action_fits lines (spes_in body)) (nothing lines) body refl ends (omega (arith, n)))
@@ -655,6 +704,15 @@ is_opening entries images whole takes =
     let few : spes_in w.body ≤ 16 = omega (arith, few_spes entries whole, ap spes_in w.is, body_spes w.lines w.budget w.body) in
     subst (λ es. IsOpening (machine_of es (loads_of es images))) (sym w.is)
     (file_opening w.lines w.budget w.body images w.limits w.ends few (subst (λ es. AllTakeFit es images) w.is takes))
+
+-- the registers that are put into OR mode are those of processors that are there
+pub registers_fit : (entries : List Entry) → IsMachine entries → All (FitsRegister (spes_in entries)) (filter_map or_register entries)
+registers_fit entries whole =
+    let w = whole_file entries whole in
+    let same : spes_in entries ≡ spes_in w.body = ap spes_in w.is ∙ body_spes w.lines w.budget w.body in
+    let n : 0 + spes_in w.body ≡ spes_in w.body = omega arith in
+    let fit = all_each (FitsRegister (spes_in w.body)) (filter_map or_register w.body) (each_fits or_register (FitsRegister (spes_in w.body)) w.lines (spes_in w.body) (register_fits w.lines (spes_in w.body)) (nothing w.lines) w.body refl w.ends (omega (arith, n))) in
+    subst (λ k. All (FitsRegister k) (filter_map or_register entries)) (sym same) (subst (λ es. All (FitsRegister (spes_in w.body)) (filter_map or_register es)) (sym w.is) fit)
 
 pub some_spes : (entries : List Entry) → IsMachine entries → 0 < spes_in entries
 some_spes entries whole =

@@ -1,15 +1,16 @@
 -- A setup as it is made.
-use Rattle.std.proofs.Common.{◌≡◌, ◌≤◌, ◌<◌, ◌+◌, ℕ, length, List, [], ◌∷◌, ◌++◌, slice_set, Option, Some, None, sym, ap, subst, ◌∙◌, arith}
+use Rattle.std.proofs.Common.{◌≡◌, ◌≤◌, ◌<◌, ◌+◌, ℕ, length, List, [], ◌∷◌, ◌++◌, fold, slice_set, Option, Some, None, sym, ap, subst, ◌∙◌, arith}
 use Rattle.std.specs.Prelude.{All, IfSome}
 use Rattle.std.specs.Option.{option_to_list}
 use Rattle.std.proofs.lemmas.List.{append_assoc, length-append}
 use Rattle.std.proofs.lemmas.List.FromFn.{get_or-map-range_with_len, length-map-range_with_len, map-range_with_len_more}
+use Rattle.std.proofs.lemmas.List.Sums.{fold-append}
 use Rattle.std.proofs.Math.Seq.{set-append_seam}
 use Rattle.cell_host.specs.declared.HostAction.{HostAction}
 use Rattle.cell_machine.specs.Opening.{InMemory, Opening, Placed}
 use Rattle.cell_machine.specs.declared.setup.Show.{Show}
 use Rattle.cell_machine.specs.Limits.{FitsAction, FitsShow, MayAct, MayShow}
-use Rattle.cell_load.specs.Loaded.{Load, start_of, starts_of}
+use Rattle.cell_load.specs.Loaded.{Load, start_of, starts_of, with_register}
 
 pub added_spe : (S T U : Opening) (n at : ℕ) → n ≡ length S.entries → T ≡ record S { entries = S.entries ++ 0 ∷ [] } → U ≡ record T { entries = slice_set T.entries n at } → U ≡ record S { entries = S.entries ++ at ∷ [] }
 added_spe S T U n at here first next =
@@ -48,6 +49,12 @@ pub next_shown : (S T U : Opening) (front more all : List Show) → T ≡ record
 next_shown S T U front more all so_far next is =
     next ∙ ap (λ (V : Opening). record V { shows = V.shows ++ more }) so_far
     ∙ ap (λ ps. record S { shows = ps }) (append_assoc S.shows front more ∙ ap (λ ps. S.shows ++ ps) (sym is))
+
+-- one more register is in OR mode
+pub next_moded : (S T U : Opening) (front more all : List (ℕ × ℕ)) → T ≡ record S { or_modes = fold with_register S.or_modes front } → U ≡ record T { or_modes = fold with_register T.or_modes more } → all ≡ front ++ more → U ≡ record S { or_modes = fold with_register S.or_modes all }
+next_moded S T U front more all so_far next is =
+    next ∙ ap (λ (V : Opening). record V { or_modes = fold with_register V.or_modes more }) so_far
+    ∙ ap (λ bits. record S { or_modes = bits }) (sym (fold-append with_register S.or_modes front more) ∙ ap (fold with_register S.or_modes) (sym is))
 
 -- one more range may be shown
 pub may_show : (S T : Opening) (front : List Show) (o : Option Show) (most : ℕ) → T ≡ record S { shows = S.shows ++ front } → length (front ++ option_to_list o) ≤ most → length S.shows + most ≤ 64 → IfSome o (FitsShow S.lines (length S.entries)) → IfSome o (MayShow T)

@@ -3,7 +3,7 @@ use Rattle.std.proofs.Common.{◌≡◌, ◌≤◌, ◌<◌, ◌+◌, ℕ, suc, 
 use Rattle.std.proofs.lemmas.List.{append_assoc}
 use Rattle.std.proofs.Math.Seq.{drop-cons}
 use Rattle.cell_load.specs.declared.line.Line.{Line}
-use Rattle.cell_load.specs.Entries.{Entry, entry_of, Head, Lines, Budget, Spe, Entrance, Code, Bytes, Source, MemoryBytes, Host, ShowLocal, ShowMemory}
+use Rattle.cell_load.specs.Entries.{Entry, entry_of, Head, Lines, Budget, Spe, Entrance, Code, Bytes, Source, MemoryBytes, Host, OrMode, ShowLocal, ShowMemory}
 use Rattle.cell_load.specs.Sources.{Named, source_of, sources_from, spes_after, spes_in}
 
 pub spes_after-add : (n m : ℕ) (e : Entry) → spes_after n e + m ≡ n + spes_after m e
@@ -17,6 +17,7 @@ spes_after-add n m (Bytes at bytes) = refl
 spes_after-add n m (Source name) = refl
 spes_after-add n m (MemoryBytes at bytes) = refl
 spes_after-add n m (Host action) = refl
+spes_after-add n m (OrMode spe register) = refl
 spes_after-add n m (ShowLocal spe at len) = refl
 spes_after-add n m (ShowMemory at len) = refl
 

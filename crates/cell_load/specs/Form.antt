@@ -6,10 +6,10 @@ use Rattle.hex.specs.Hex.{decode_of}
 use Rattle.cell_base.specs.Bytes.{put, zeros}
 use Rattle.cell_base.specs.Numbers.{word_number}
 use Rattle.cell_host.specs.declared.HostAction.{HostAction}
-use Rattle.cell_host.specs.declared.HostAction.TheVariants.{Send, Take, TakeIntr, Store, Await}
+use Rattle.cell_host.specs.declared.HostAction.TheVariants.{Send, Take, TakeIntr, Store, Await, Signal}
 use Rattle.cell_load.specs.declared.line.Refusal.{Refusal}
 use Rattle.cell_load.specs.declared.line.Refusal.TheVariants.{Form, Limit, Memory}
-use Rattle.cell_load.specs.Entries.{Entry, Head, Lines, Budget, Spe, Entrance, Code, Bytes, Source, MemoryBytes, Host, ShowLocal, ShowMemory}
+use Rattle.cell_load.specs.Entries.{Entry, Head, Lines, Budget, Spe, Entrance, Code, Bytes, Source, MemoryBytes, Host, OrMode, ShowLocal, ShowMemory}
 
 infixl 10 ◌>>=◌
 abbrev pub ◌>>=◌ : {A B : Type 0} → Result A Refusal → (A → Result B Refusal) → Result B Refusal
@@ -34,11 +34,11 @@ unfoldable pub number_in : List (List ℕ) → Result (ℕ × List (List ℕ)) R
 number_in [] = Err Form
 number_in (w ∷ ws) = in_form (word_number w) ws
 
--- the number of a processor, which has one byte, and the words after it
-unfoldable pub processor_in : List (List ℕ) → Result (ℕ × List (List ℕ)) Refusal
-processor_in ws = do
-  spe ← number_in ws
-  if nat_lt spe.0 256 then Ok spe else Err Form
+-- a number of one byte, as that of a processor, and the words after it
+unfoldable pub byte_in : List (List ℕ) → Result (ℕ × List (List ℕ)) Refusal
+byte_in ws = do
+  n ← number_in ws
+  if nat_lt n.0 256 then Ok n else Err Form
 
 abbrev pub decoded : {E : Type 0} → Result (List ℕ) E → Result (List ℕ) Refusal
 decoded (Ok bytes) = Ok bytes
@@ -160,13 +160,13 @@ show_line (w ∷ ws) =
 -- the number of a processor, and nothing more
 unfoldable pub only_processor : List (List ℕ) → Result ℕ Refusal
 only_processor ws = do
-  spe ← processor_in ws
+  spe ← byte_in ws
   end ← ended spe.1
   Ok spe.0
 
 unfoldable pub send_says : List (List ℕ) → Result HostAction Refusal
 send_says ws = do
-  spe ← processor_in ws
+  spe ← byte_in ws
   value ← number_in spe.1
   end ← ended value.1
   Ok (Send spe.0 value.0)
@@ -185,6 +185,14 @@ unfoldable pub await_says : List (List ℕ) → Result HostAction Refusal
 await_says ws = do
   spe ← only_processor ws
   Ok (Await spe)
+
+unfoldable pub signal_says : List (List ℕ) → Result HostAction Refusal
+signal_says ws = do
+  spe ← byte_in ws
+  register ← byte_in spe.1
+  value ← number_in register.1
+  end ← ended value.1
+  Ok (Signal spe.0 register.0 value.0)
 
 -- an action holds 16 bytes: those that it stores, and zeros
 abbrev pub store_of : ℕ → List ℕ → Result HostAction Refusal
@@ -205,12 +213,22 @@ action_says (w ∷ ws) =
     else if bytes_eq w (codes "takeintr") then take_intr_says ws
     else if bytes_eq w (codes "await") then await_says ws
     else if bytes_eq w (codes "store") then store_says ws
+    else if bytes_eq w (codes "signal") then signal_says ws
     else Err Form
 
 unfoldable pub host_line : List (List ℕ) → Result Entry Refusal
 host_line ws = do
   action ← action_says ws
   Ok (Host action)
+
+-- ---- modes
+
+unfoldable pub mode_line : List (List ℕ) → Result Entry Refusal
+mode_line ws = do
+  spe ← byte_in ws
+  register ← byte_in spe.1
+  end ← ended register.1
+  Ok (OrMode spe.0 register.0)
 
 -- ---- all lines
 
@@ -219,6 +237,7 @@ unfoldable pub shared_line : List ℕ → List (List ℕ) → Result Entry Refus
 shared_line word ws =
     if bytes_eq word (codes "mem") then memory_line ws
     else if bytes_eq word (codes "host") then host_line ws
+    else if bytes_eq word (codes "ormode") then mode_line ws
     else if bytes_eq word (codes "show") then show_line ws
     else Err Form
 

@@ -1,6 +1,7 @@
 -- What is given to a processor, without where its bytes lie in memory.
-use Rattle.std.specs.Prelude.{ℕ, Bool, false, List, [], ◌∷◌, replicate}
+use Rattle.std.specs.Prelude.{ℕ, ◌<◌, Bool, false, List, [], ◌∷◌, replicate}
 use Rattle.spu_asm.specs.Images.{Image, IsImage}
+use Rattle.cell_machine.specs.Limits.{IsRegister}
 use Rattle.cell_load.specs.Entries.{Entry, Source}
 use Rattle.cell_load.specs.declared.loads.Load.{Load as Given}
 use Rattle.cell_load.specs.declared.loads.Part.{Part as GivenPart}
@@ -15,6 +16,10 @@ part_of (given.ImageEntry at) = ImageEntry at
 
 abbrev pub load_of : Given → Load
 load_of load = record { spe = load.spe; part = part_of load.part }
+
+-- a signal register of one of so many processors
+abbrev pub FitsRegister : ℕ → ℕ × ℕ → Type 0
+FitsRegister spes x = (x.0 < spes) × IsRegister x.1
 
 -- n marks, none of them set
 unfoldable pub unmarked : ℕ → List Bool

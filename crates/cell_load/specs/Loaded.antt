@@ -1,5 +1,5 @@
 -- What the lines of a machine file and the images of its sources put into a machine.
-use Rattle.std.specs.Prelude.{◌≡◌, ℕ, ◌+◌, ◌-◌, ◌*◌, ◌==◌, ◌&&◌, nat_lt, nat_le, Bool, false, List, [], ◌∷◌, ◌++◌, length, map, Option, Some, None, is_none, unwrap_or, slice_get, Result, Ok, Err, if◌then◌else◌}
+use Rattle.std.specs.Prelude.{◌≡◌, ℕ, ◌+◌, ◌-◌, ◌*◌, ◌^◌, ◌==◌, ◌&&◌, bit_or, fold, nat_lt, nat_le, Bool, false, List, [], ◌∷◌, ◌++◌, length, map, Option, Some, None, is_none, unwrap_or, slice_get, Result, Ok, Err, if◌then◌else◌}
 use Rattle.std.specs.List.{filter_map, find, list_any, range_with_len}
 use Rattle.std.specs.Option.{option_map, option_or}
 use Rattle.local_store.specs.Store.{word_at}
@@ -7,12 +7,13 @@ use Rattle.spu_decode.specs.Spelling.{instr_of}
 use Rattle.spu_asm.specs.Images.{Image}
 use Rattle.cell_base.specs.Bytes.{zeros}
 use Rattle.cell_host.specs.declared.HostAction.{HostAction}
+use Rattle.cell_signals.specs.Registers.{number_of}
 use Rattle.cell_machine.specs.Opening.{Opening, Placed, InMemory, placed_in}
 use Rattle.cell_machine.specs.declared.setup.Show.{Show}
 use Rattle.cell_machine.specs.declared.setup.Show.TheVariants as show
 use Rattle.cell_load.specs.declared.loading.LoadError.{LoadError}
 use Rattle.cell_load.specs.declared.loading.LoadError.TheVariants.{NotInTable, Memory}
-use Rattle.cell_load.specs.Entries.{Entry, Lines, Budget, Entrance, Code, Bytes, Source, MemoryBytes, Host, ShowLocal, ShowMemory}
+use Rattle.cell_load.specs.Entries.{Entry, Lines, Budget, Entrance, Code, Bytes, Source, MemoryBytes, Host, OrMode, ShowLocal, ShowMemory}
 use Rattle.cell_load.specs.Sources.{spes_after, spes_in}
 
 -- what is given to a processor: bytes whose words are instructions, other bytes,
@@ -118,11 +119,21 @@ shown_range (ShowLocal spe at len) = Some (show.Local spe at len)
 shown_range (ShowMemory at len) = Some (show.Memory at len)
 shown_range other = None
 
+-- the processor and the signal register of its that a line puts into OR mode
+abbrev pub or_register : Entry → Option (ℕ × ℕ)
+or_register (OrMode spe register) = Some (spe, register)
+or_register other = None
+
+-- one more register in OR mode
+abbrev pub with_register : ℕ → ℕ × ℕ → ℕ
+with_register bits x = bit_or bits (2 ^ number_of x.0 x.1)
+
 abbrev pub machine_of : List Entry → List Load → Opening
 machine_of entries loads = record {
   lines = unwrap_or (first_of lines_number entries) 0;
   budget = unwrap_or (first_of budget_number entries) 0;
   entries = starts_of loads (spes_in entries);
+  or_modes = fold with_register 0 (filter_map or_register entries);
   placed = placed_of loads;
   memory = filter_map memory_piece entries;
   actions = filter_map host_action entries;

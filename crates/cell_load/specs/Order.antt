@@ -1,15 +1,15 @@
 -- Where the lines of a machine file may stand, and the limits of their numbers and counts.
-use Rattle.std.specs.Prelude.{ℕ, ◌+◌, ◌*◌, ◌%◌, ◌==◌, ◌&&◌, not, nat_lt, nat_le, Bool, true, false, List, [], ◌∷◌, length, Option, Some, None, is_none, Result, Ok, Err, if◌then◌else◌, IsTrue}
+use Rattle.std.specs.Prelude.{ℕ, ◌+◌, ◌*◌, ◌%◌, ◌==◌, ◌&&◌, ◌||◌, not, nat_lt, nat_le, Bool, true, false, List, [], ◌∷◌, length, Option, Some, None, is_none, Result, Ok, Err, if◌then◌else◌, IsTrue}
 use Rattle.cell_base.specs.Words.{lines_of, words_of}
 use Rattle.cell_base.specs.Walk.{walk}
 use Rattle.cell_host.specs.declared.HostAction.{HostAction}
-use Rattle.cell_host.specs.declared.HostAction.TheVariants.{Send, Take, TakeIntr, Store, Await}
+use Rattle.cell_host.specs.declared.HostAction.TheVariants.{Send, Take, TakeIntr, Store, Await, Signal}
 use Rattle.cell_load.specs.declared.line.Refusal.{Refusal}
 use Rattle.cell_load.specs.declared.line.Refusal.TheVariants.{Form, Limit}
 use Rattle.cell_load.specs.declared.line.Counts.{Counts}
 use Rattle.cell_load.specs.declared.line.Stage.{Stage}
 use Rattle.cell_load.specs.declared.line.Stage.TheVariants.{Start, Headed, Sized, Body}
-use Rattle.cell_load.specs.Entries.{Entry, Head, Lines, Budget, Spe, Entrance, Code, Bytes, Source, MemoryBytes, Host, ShowLocal, ShowMemory}
+use Rattle.cell_load.specs.Entries.{Entry, Head, Lines, Budget, Spe, Entrance, Code, Bytes, Source, MemoryBytes, Host, OrMode, ShowLocal, ShowMemory}
 use Rattle.cell_load.specs.Form.{◌>>=◌, line_says}
 
 abbrev pub only_if : {A : Type 0} → Bool → Result A Refusal → Result A Refusal
@@ -38,12 +38,17 @@ is_shown len = nat_le 1 len && nat_le len 4096
 abbrev pub has_spe : Counts → Bool
 has_spe c = nat_lt 0 c.spes
 
+-- a signal register has the number 1 or 2
+abbrev pub is_register : ℕ → Bool
+is_register register = register == 1 || register == 2
+
 -- the processor of a host action came before, or the bytes that it stores, of the 16 that it holds, lie within one line
 abbrev pub fits_action : Counts → HostAction → Bool
 fits_action c (Send spe value) = nat_lt spe c.spes
 fits_action c (Take spe) = nat_lt spe c.spes
 fits_action c (TakeIntr spe) = nat_lt spe c.spes
 fits_action c (Await spe) = nat_lt spe c.spes
+fits_action c (Signal spe register value) = nat_lt spe c.spes && is_register register
 fits_action c (Store ea len bytes) = in_line c.lines ea len && length bytes == 16
 
 -- no line behind the first three, of which the second gave so many lines of memory
@@ -59,6 +64,7 @@ counted c (Bytes at bytes) = only_if (has_spe c && in_local at (length bytes)) (
 counted c (Source name) = only_if (has_spe c) (limited (nat_lt c.sources 32) (record c { sources = c.sources + 1 }))
 counted c (MemoryBytes at bytes) = only_if (in_memory c.lines at (length bytes)) (Ok c)
 counted c (Host action) = only_if (fits_action c action) (limited (nat_lt c.actions 4096) (record c { actions = c.actions + 1 }))
+counted c (OrMode spe register) = only_if (nat_lt spe c.spes && is_register register) (Ok c)
 counted c (ShowLocal spe at len) = only_if (nat_lt spe c.spes && in_local at len) (limited (is_shown len && nat_lt c.shows 64) (record c { shows = c.shows + 1 }))
 counted c (ShowMemory at len) = only_if (in_memory c.lines at len) (limited (is_shown len && nat_lt c.shows 64) (record c { shows = c.shows + 1 }))
 counted c first_three = Err Form

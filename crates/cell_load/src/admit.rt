@@ -1,7 +1,7 @@
 // Where a line may stand, and the limits of its numbers and counts.
 ghost use Rattle.std.specs.Prelude.{◌≡◌, ◌<◌, ◌+◌, ◌&&◌, ◌^◌, List, ℕ, length, nat_lt};
 ghost use Rattle.cell_load.specs.Entries.{entry_of, Spe, Entrance, Code, Bytes, Source, MemoryBytes, Host, ShowLocal, ShowMemory};
-ghost use Rattle.cell_load.specs.Order.{admit, counted, fits_action, in_line, in_local, in_memory, is_shown, limited, nothing, only_if};
+ghost use Rattle.cell_load.specs.Order.{admit, counted, fits_action, in_line, in_local, in_memory, is_register, is_shown, limited, nothing, only_if};
 ghost use Rattle.cell_load.specs.declared.line.Stage.TheVariants.{Start, Headed, Sized, Body};
 
 use crate::line::{Counts, Line, Refusal, Stage};
@@ -43,6 +43,12 @@ fn is_shown(len: u32) -> bool
     1 <= len && len <= 4096
 }
 
+fn is_register(register: u8) -> bool
+    ensures { result ≡ is_register register }
+{
+    register == 1 || register == 2
+}
+
 /// Whether an action's processor came before, or its bytes lie within one line of main memory.
 fn fits_action(counts: Counts, action: HostAction) -> bool
     ensures { result ≡ fits_action counts action }
@@ -52,6 +58,9 @@ fn fits_action(counts: Counts, action: HostAction) -> bool
         HostAction::Take { spe } => u32::from(spe) < counts.spes,
         HostAction::TakeIntr { spe } => u32::from(spe) < counts.spes,
         HostAction::Await { spe } => u32::from(spe) < counts.spes,
+        HostAction::Signal { spe, register, .. } => {
+            u32::from(spe) < counts.spes && is_register(register)
+        }
         HostAction::Store { ea, len, .. } => in_line(counts.lines, ea, len),
     }
 }
@@ -193,6 +202,10 @@ fn counted(counts: Counts, line: &Line) -> Result<Counts, Refusal>
         Line::Source { name: _ } => count_source(counts),
         Line::MemoryBytes { at, bytes } => count_memory_bytes(counts, *at, bytes.len()),
         Line::Host { action } => count_action(counts, *action),
+        Line::OrMode { spe, register } => only_if(
+            u32::from(*spe) < counts.spes && is_register(*register),
+            counts,
+        ),
         Line::ShowLocal { spe, at, len } => count_show_local(counts, *spe, *at, *len),
         Line::ShowMemory { at, len } => count_show_memory(counts, *at, *len),
         Line::Head => Err(Refusal::Form),

@@ -7,7 +7,7 @@ ghost use Rattle.cell_load.specs.Entries.{entry_of};
 ghost use Rattle.cell_load.specs.Form.{Gives, is_visible, number_in, hex_of, hex_in, ended, is_name, name_of, name_in, head_line, lines_line, budget_line, spe_line, entry_line, code_line, bytes_line, source_line, memory_line, show_local_line, show_memory_line, show_line, shared_line, body_line, line_says};
 ghost use Rattle.std.specs.Prelude.{string_bytes};
 
-use crate::host_form::host_line;
+use crate::host_form::{host_line, mode_line};
 use crate::line::{Line, Refusal};
 use cell_base::line_text::{next_word, word_number};
 use hex::FromHexError;
@@ -238,6 +238,8 @@ fn shared_line(alloc: Global, word: &[u8], words: &[u8]) -> Result<Line, Refusal
         memory_line(alloc, words)
     } else if word == b"host".as_slice() {
         host_line(alloc, words)
+    } else if word == b"ormode".as_slice() {
+        mode_line(words)
     } else if word == b"show".as_slice() {
         show_line(words)
     } else {

@@ -1,9 +1,9 @@
-// What the words of a host line say.
+// What the words of a line of the host or of a signal register's mode say.
 ghost use Rattle.std.specs.Prelude.{◌≡◌, ◌≤◌, length};
 ghost use Rattle.cell_base.specs.Bytes.{put, zeros};
 ghost use Rattle.cell_base.specs.Words.{words_in};
 ghost use Rattle.cell_load.specs.Entries.{entry_of};
-ghost use Rattle.cell_load.specs.Form.{Gives, processor_in, only_processor, send_says, take_says, take_intr_says, await_says, store_of, store_says, action_says, host_line};
+ghost use Rattle.cell_load.specs.Form.{Gives, byte_in, only_processor, send_says, take_says, take_intr_says, await_says, signal_says, store_of, store_says, action_says, host_line, mode_line};
 
 use crate::form::{ended, hex_in, number_in};
 use crate::line::{Line, Refusal};
@@ -11,14 +11,14 @@ use cell_base::line_text::next_word;
 use cell_host::HostAction;
 use std::alloc::Global;
 
-/// The number of a processor, and what stands behind it.
-#[tactic(auto, unfolding(crate::specs::Form::processor_in))]
-fn processor_in(words: &[u8]) -> Result<(u8, &[u8]), Refusal>
-    ensures { Gives (λ x. (x.0, words_in x.1.now)) result (processor_in (words_in words.now)) }
+/// A number of one byte, as that of a processor, and what stands behind it.
+#[tactic(auto, unfolding(crate::specs::Form::byte_in))]
+fn byte_in(words: &[u8]) -> Result<(u8, &[u8]), Refusal>
+    ensures { Gives (λ x. (x.0, words_in x.1.now)) result (byte_in (words_in words.now)) }
 {
-    let (spe, rest) = number_in(words)?;
-    if spe < 256 {
-        Ok((spe as u8, rest))
+    let (n, rest) = number_in(words)?;
+    if n < 256 {
+        Ok((n as u8, rest))
     } else {
         Err(Refusal::Form)
     }
@@ -29,7 +29,7 @@ fn processor_in(words: &[u8]) -> Result<(u8, &[u8]), Refusal>
 fn only_processor(words: &[u8]) -> Result<u8, Refusal>
     ensures { Gives (λ x. x) result (only_processor (words_in words.now)) }
 {
-    let (spe, rest) = processor_in(words)?;
+    let (spe, rest) = byte_in(words)?;
     ended(rest)?;
     Ok(spe)
 }
@@ -38,7 +38,7 @@ fn only_processor(words: &[u8]) -> Result<u8, Refusal>
 fn send_says(words: &[u8]) -> Result<HostAction, Refusal>
     ensures { Gives (λ x. x) result (send_says (words_in words.now)) }
 {
-    let (spe, rest) = processor_in(words)?;
+    let (spe, rest) = byte_in(words)?;
     let (value, rest) = number_in(rest)?;
     ended(rest)?;
     Ok(HostAction::Send { spe, value })
@@ -66,6 +66,21 @@ fn await_says(words: &[u8]) -> Result<HostAction, Refusal>
 {
     let spe = only_processor(words)?;
     Ok(HostAction::Await { spe })
+}
+
+#[tactic(auto, unfolding(crate::specs::Form::signal_says))]
+fn signal_says(words: &[u8]) -> Result<HostAction, Refusal>
+    ensures { Gives (λ x. x) result (signal_says (words_in words.now)) }
+{
+    let (spe, rest) = byte_in(words)?;
+    let (register, rest) = byte_in(rest)?;
+    let (value, rest) = number_in(rest)?;
+    ended(rest)?;
+    Ok(HostAction::Signal {
+        spe,
+        register,
+        value,
+    })
 }
 
 /// These bytes, and zeros behind them.
@@ -120,6 +135,8 @@ fn action_says(alloc: Global, words: &[u8]) -> Result<HostAction, Refusal>
         await_says(rest)
     } else if word == b"store".as_slice() {
         store_says(alloc, rest)
+    } else if word == b"signal".as_slice() {
+        signal_says(rest)
     } else {
         Err(Refusal::Form)
     }
@@ -131,4 +148,14 @@ pub(crate) fn host_line(alloc: Global, words: &[u8]) -> Result<Line, Refusal>
 {
     let action = action_says(alloc, words)?;
     Ok(Line::Host { action })
+}
+
+#[tactic(auto, unfolding(crate::specs::Form::mode_line))]
+pub(crate) fn mode_line(words: &[u8]) -> Result<Line, Refusal>
+    ensures { Gives entry_of result (mode_line (words_in words.now)) }
+{
+    let (spe, rest) = byte_in(words)?;
+    let (register, rest) = byte_in(rest)?;
+    ended(rest)?;
+    Ok(Line::OrMode { spe, register })
 }

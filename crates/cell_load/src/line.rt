@@ -15,6 +15,7 @@ pub(crate) enum Line {
     Source { name: String },
     MemoryBytes { at: u32, bytes: Vec<u8> },
     Host { action: HostAction },
+    OrMode { spe: u8, register: u8 },
     ShowLocal { spe: u32, at: u32, len: u32 },
     ShowMemory { at: u32, len: u32 },
 }

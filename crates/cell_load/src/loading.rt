@@ -1,12 +1,11 @@
 // The setup of a machine file.
-ghost use Rattle.std.specs.Prelude.{◌≡◌, ◌≢◌, ◌≤◌, ◌<◌, ◌+◌, ◌*◌, ◌%◌, ◌++◌, ◌∷◌, [], length, map, unwrap_or, All, IfOk, IfSome, OnOk};
+ghost use Rattle.std.specs.Prelude.{◌≡◌, ◌≢◌, ◌≤◌, ◌<◌, ◌+◌, ◌*◌, ◌%◌, ◌++◌, ◌∷◌, [], length, map, unwrap_or, All, IfOk, IfSome, OnOk, fold};
 ghost use Rattle.std.specs.List.{filter_map};
 ghost use Rattle.std.specs.Option.{option_to_list};
-ghost use Rattle.cell_machine.specs.Opening.{Placed};
 ghost use Rattle.cell_machine.specs.Limits.{IsOpening, FitsAction, FitsMemory, FitsShow, FitsStore, MayAct, MayShow};
 ghost use Rattle.cell_load.specs.Entries.{entry_of};
-ghost use Rattle.cell_load.specs.Loaded.{LoadGives, budget_number, first_of, host_action, lines_number, loaded, machine_of, memory_piece, placed_of, placed_part, shown_range, starts_of};
-ghost use Rattle.cell_load.specs.LoadViews.{load_of, part_of};
+ghost use Rattle.cell_load.specs.Loaded.{LoadGives, budget_number, first_of, host_action, lines_number, loaded, machine_of, memory_piece, or_register, placed_of, placed_part, shown_range, starts_of, with_register};
+ghost use Rattle.cell_load.specs.LoadViews.{FitsRegister, load_of, part_of};
 ghost use Rattle.cell_load.specs.Sources.{sources_of, spes_in};
 ghost use Rattle.cell_load.specs.declared.loading.LoadError.TheVariants.{Memory};
 
@@ -210,6 +209,31 @@ fn add_actions(setup: &mut Setup, lines: &[Line]) -> Result<(), AllocError>
     Ok(())
 }
 
+/// Puts the signal register of a line into OR mode.
+fn set_mode(setup: &mut Setup, line: &Line) -> Result<(), AllocError>
+    requires { IfSome (or_register (entry_of line.now)) (FitsRegister (length setup.old.entries)) }
+    ensures { OnOk result (setup.new ≡ record setup.old { or_modes = fold with_register setup.old.or_modes (option_to_list (or_register (entry_of line.now))) }) }
+{
+    let Line::OrMode { spe, register } = line else {
+        return Ok(());
+    };
+    match setup.set_or_mode(*spe, *register) {
+        Ok(()) => Ok(()),
+        Err(error) => Err(within_limits(error)),
+    }
+}
+
+/// Puts the signal registers of the lines into OR mode.
+fn set_modes(setup: &mut Setup, lines: &[Line]) -> Result<(), AllocError>
+    requires { All (FitsRegister (length setup.old.entries)) (filter_map or_register (map entry_of lines.now)) }
+    ensures { OnOk result (setup.new ≡ record setup.old { or_modes = fold with_register setup.old.or_modes (filter_map or_register (map entry_of lines.now)) }) }
+{
+    for line in lines {
+        set_mode(setup, line)?;
+    }
+    Ok(())
+}
+
 /// Adds the range that a line shows.
 fn add_show(setup: &mut Setup, line: &Line) -> Result<(), AllocError>
     requires few { length setup.old.entries ≤ 16 }
@@ -248,6 +272,7 @@ fn add_shows(setup: &mut Setup, lines: &[Line]) -> Result<(), AllocError>
 fn setup_in(alloc: Global, lines: &[Line], loads: &[Load], spes: u8) -> Result<Setup, AllocError>
     requires limits { IsOpening (machine_of (map entry_of lines.now) (map load_of loads.now)) }
     requires count { spes ≡ spes_in (map entry_of lines.now) }
+    requires modes { All (FitsRegister spes) (filter_map or_register (map entry_of lines.now)) }
     ensures { IfOk result (λ s. s ≡ machine_of (map entry_of lines.now) (map load_of loads.now)) }
 {
     let mut setup = match Setup::new(alloc, lines_number(lines), budget_number(lines)) {
@@ -258,6 +283,7 @@ fn setup_in(alloc: Global, lines: &[Line], loads: &[Load], spes: u8) -> Result<S
     place_loads(&mut setup, loads)?;
     fill_memory(&mut setup, lines)?;
     add_actions(&mut setup, lines)?;
+    set_modes(&mut setup, lines)?;
     add_shows(&mut setup, lines)?;
     Ok(setup)
 }

@@ -1,6 +1,6 @@
 -- An atomic command of a processor, as the code does it.
 use Rattle.std.proofs.Common.{◌≡◌, ℕ, ◌+◌, ◌*◌, ◌&&◌, not, Bool, true, false, List, refl, sym, ap, subst, slice_set}
-use Rattle.std.specs.Prelude.{Option, Some, None, IsSomeAnd, is_some, option_map, slice_get, slice_range, if◌then◌else◌, cond}
+use Rattle.std.specs.Prelude.{Option, Some, None, is_some, option_map, slice_get, slice_range, if◌then◌else◌, cond}
 use Rattle.cell_base.specs.Bytes.{put}
 use Rattle.lock_lines.specs.Versions.{Reserved, version_of}
 use Rattle.mfc_command.specs.declared.command.AtomicOp.{AtomicOp}
@@ -10,7 +10,7 @@ use Rattle.cell_machine.specs.Spe.{Spe, is_faulted}
 use Rattle.cell_machine.specs.Memory.{MainMemory, stored}
 use Rattle.cell_machine.specs.Transfers.{copied}
 use Rattle.cell_machine.specs.Atomic.{holds, fate, fate_of, status_of, reserved_after, moved, answered, after_atomic, may_atomic, atomic}
-use Rattle.cell_machine.specs.Shows.{ShowsMemory}
+use Rattle.cell_machine.specs.Shows.{ShowsMemory, LosesOthers, Makes}
 use Rattle.cell_machine.proofs.MemoryShown.{set-same}
 
 -- what the line was reserved at
@@ -95,10 +95,11 @@ unfolding may_atomic
 may-atomic_sound P sound = rw sound refl
 
 -- what is left is shown
-pub atomic-made : (memory : SharedMemory) (m : MainMemory) (P : Spe) (a : AtomicOp) (reserved : List (Option Reserved)) (spe : ℕ) (store : List ℕ) (R : Spe → Type 0)
+pub atomic-made : (memory : SharedMemory) (m : MainMemory) (P : Spe) (a : AtomicOp) (reserved : List (Option Reserved)) (spe losers : ℕ) (store : List ℕ) (R : Spe → Type 0)
     → is_faulted P.status ≡ false → P.channels.slot ≡ Some a → (moved m (answered m P a) a (fate m P a)).spe ≡ record (answered m P a) { store = store }
     → R (record (answered m P a) { store = store })
     → ShowsMemory memory (moved m (answered m P a) a (fate m P a)).memory (slice_set reserved spe (reserved_after a.kind (now_of m a) P.reserved))
-    → IsSomeAnd (atomic m P) (λ x. R x.spe × ShowsMemory memory x.memory (slice_set reserved spe x.spe.reserved))
-atomic-made memory m P a reserved spe store R sound at is shown shows =
-    rw (atomic-is m P a sound at) (subst R (sym is) shown, subst (λ o. ShowsMemory memory (moved m (answered m P a) a (fate m P a)).memory (slice_set reserved spe o)) (ap (λ (Q : Spe). Q.reserved) (sym is)) shows)
+    → LosesOthers spe losers m reserved (moved m (answered m P a) a (fate m P a)).memory
+    → Makes (Some losers) (atomic m P) (λ w x. R x.spe × ShowsMemory memory x.memory (slice_set reserved spe x.spe.reserved) × LosesOthers spe w m reserved x.memory)
+atomic-made memory m P a reserved spe losers store R sound at is shown shows loses =
+    rw (atomic-is m P a sound at) (subst R (sym is) shown, subst (λ o. ShowsMemory memory (moved m (answered m P a) a (fate m P a)).memory (slice_set reserved spe o)) (ap (λ (Q : Spe). Q.reserved) (sym is)) shows, loses)

@@ -1,14 +1,14 @@
 -- What a step does to the commands and the tags of the processors.
-use Rattle.std.proofs.Common.{◌≡◌, ℕ, zero, suc, ◌+◌, ◌<◌, ◌≤◌, ◌==◌, not, List, [], ◌∷◌, ◌++◌, map, length, arith, refl, sym, ◌∙◌, ap, subst, slice_set, true, false, Bool, ◌⊎◌, inl, inr, length-append, true≢false}
-use Rattle.std.specs.Prelude.{Option, Some, None, IsSomeAnd, IfSome, MatchBool, All, ⊤, slice_get, option_map, option_and_then, nat_lt, is_some, cond, Result, Ok, Err}
+use Rattle.std.proofs.Common.{◌≡◌, ℕ, zero, suc, ◌+◌, ◌<◌, ◌≤◌, ◌==◌, not, List, [], ◌∷◌, ◌++◌, map, length, arith, refl, sym, ◌∙◌, ap, ap₂, subst, slice_set, true, false, Bool, ◌⊎◌, inl, inr, length-append, true≢false}
+use Rattle.std.specs.Prelude.{Option, Some, None, IfSome, All, ⊤, slice_get, option_map, option_and_then, nat_lt, is_some, cond, Result, Ok, Err}
 use Rattle.std.specs.Option.{option_map_or}
 use Rattle.std.proofs.lemmas.Bool.Decides.{nat_tests}
-use Rattle.std.proofs.lemmas.List.{map-set, length-set, length-map}
+use Rattle.std.proofs.lemmas.List.{length-set, length-map}
 use Rattle.std.proofs.lemmas.List.Elements.{All-append}
 use Rattle.mfc_command.specs.declared.command.AtomicOp.{AtomicOp}
 use Rattle.mfc_command.specs.declared.command.Command.{Command}
 use Rattle.mfc_command.specs.declared.command.Kind.{Kind}
-use Rattle.mfc_command.specs.declared.command.Kind.TheVariants.{Put, Get, PutList, GetList, Barrier, PutQueued}
+use Rattle.mfc_command.specs.declared.command.Kind.TheVariants.{Put, Get, PutList, GetList, Barrier, PutQueued, Signal}
 use Rattle.mfc_command.specs.declared.command.Order.{Order}
 use Rattle.mfc_command.specs.declared.command.Order.TheVariants.{Queued, Atomic as AtomicOrder}
 use Rattle.mfc_command.specs.declared.command.DmaFault.{DmaFault as Fault}
@@ -32,10 +32,7 @@ use Rattle.cell_base.specs.declared.steps.ChannelOp.TheVariants.{Read, Count, Wr
 use Rattle.cell_base.specs.declared.steps.Step.{Step}
 use Rattle.cell_base.specs.declared.steps.Step.TheVariants.{Exec, Piece, Elem, Retire, Atomic, Host}
 use Rattle.cell_host.specs.declared.HostAction.{HostAction}
-use Rattle.cell_host.specs.declared.HostAction.TheVariants.{Send, Take, TakeIntr, Store, Await}
-use Rattle.cell_host.specs.Script.{Progress}
-use Rattle.cell_machine.specs.declared.processor.Processor.{Processor}
-use Rattle.cell_machine.specs.declared.memory.SharedMemory.{SharedMemory}
+use Rattle.cell_host.specs.declared.HostAction.TheVariants.{Send, Take, TakeIntr, Store, Await, Signal as SignalTo}
 use Rattle.cell_machine.specs.declared.status.Status.{Status}
 use Rattle.cell_machine.specs.declared.status.Status.TheVariants.{Running, Stopped, Halted, BadWord, BadChannel, DmaFault}
 use Rattle.cell_machine.specs.Spe.{Spe, Moves, ElementRead, is_running, is_faulted}
@@ -44,17 +41,18 @@ use Rattle.cell_machine.specs.Moves.{busy, read_of, present, is_stalled, are_all
 use Rattle.cell_machine.specs.Tags.{settled}
 use Rattle.cell_machine.specs.Channels.{given as with_value, went_on, bad_channel, is_read, is_write, count, may_read, may_write, channel, read_by, read_inbound, read_status, read_atomic, issued_by, commanded, acknowledged, written, with_issued, with_resumed}
 use Rattle.cell_machine.specs.Exec.{exec, exec_instr, followed, asks, asked_by, op_of}
-use Rattle.cell_machine.specs.Transfers.{piece, piece_of, after_part, part_in, elem, after_element, next_element, retire, copied, told, is_put, may_of, begins, may_piece, may_elem, may_retire, has_part, has_element, is_left, next_at, with_done, with_read, with_retired}
+use Rattle.cell_machine.specs.Transfers.{Left, piece, piece_of, after_part, part_in, elem, after_element, next_element, retire, copied, sent, moved as moved_part, told, is_put, is_signal, may_of, begins, may_piece, may_elem, may_retire, has_part, has_element, is_left, next_at, with_done, with_read, with_retired}
 use Rattle.cell_machine.specs.Atomic.{Fate, fate, answered, moved, line_part, after_atomic, may_atomic, atomic}
 use Rattle.cell_machine.specs.Hosts.{Given, Acted, taken_of, taken_interrupt_of, given, at_spe, acted, after_action, host as host_step}
 use Rattle.cell_machine.specs.Memory.{MainMemory, lines_of}
-use Rattle.cell_machine.specs.Next.{act, act_in, own, left, with_left, settled_in}
+use Rattle.cell_machine.specs.Next.{act, act_in, own, left, with_left, with_events, closed_in}
 use Rattle.cell_machine.specs.Kept.{MovesFit}
-use Rattle.cell_machine.specs.Shows.{Shows, ShowsSpe, AllTwo, AreSettled, IsBounded, AreBounded, ShowsMemory, reservations}
+use Rattle.cell_machine.specs.Shows.{AreSettled, IsBounded, AreBounded}
 use Rattle.cell_machine.proofs.MovesShown.{get-cases}
 use Rattle.cell_machine.proofs.Staying.{Keeps, both, keeps-same, issued-keeps, done-keeps, read-keeps, resumed-keeps, retired-keeps}
 use Rattle.cell_machine.proofs.Elements.{part-is, element-is}
-use Rattle.cell_machine.proofs.Steps.{settled-set}
+use Rattle.cell_machine.proofs.Steps.{settled-twice}
+use Rattle.cell_machine.proofs.Alike.{plain, AreAlike, left-alike, closed-alike, alike-at, alike-length}
 
 -- what holds of each outcome holds of the one that comes
 pub if_cond : {X : Type 0} (b : Bool) (x y : Option X) (R : X → Type 0) → IfSome x R → IfSome y R → IfSome (cond b x y) R
@@ -119,6 +117,7 @@ kind-small lines d PutList fits = let s = fits.size in let m = fits.store in (s,
 kind-small lines d GetList fits = let s = fits.size in let m = fits.store in (s, λ u l. omega arith)
 kind-small lines d Barrier fits = let z : d.size ≡ 0 = fits in (omega arith, λ u l. omega arith)
 kind-small lines d PutQueued fits = let s = fits.fits.size in let m = fits.fits.memory in (s, λ u l. omega arith)
+kind-small lines d Signal fits = let s = fits.size in let m = fits.register in (omega arith, λ u l. omega arith)
 
 -- ---- instructions
 
@@ -164,10 +163,11 @@ unfolding written
 written_does lines P ch value =
     let a : Option ChannelOp = Some (Write ch value) in
     let R : Spe → Type 0 = Does_to lines a P in
-    on_cond (ch == 21) _ _ R (commanded_does lines a P value)
+    on_cond (ch == 1) _ _ R (alone lines a P _ refl refl refl) (on_cond (ch == 2) _ _ R (alone lines a P _ refl refl refl)
+    (on_cond (ch == 21) _ _ R (commanded_does lines a P value)
     (on_cond (ch == 22) _ _ R (alone lines a P _ refl refl refl) (on_cond (ch == 23) _ _ R (alone lines a P _ refl refl refl)
     (on_eq ch 26 _ _ R (λ e. went lines a P (acknowledged P value) (acknowledged_does lines ch value P e))
-    (on_cond (ch == 28) _ _ R (alone lines a P _ refl refl refl) (on_cond (ch == 30) _ _ R (alone lines a P _ refl refl refl) (alone lines a P _ refl refl refl))))))
+    (on_cond (ch == 28) _ _ R (alone lines a P _ refl refl refl) (on_cond (ch == 30) _ _ R (alone lines a P _ refl refl refl) (alone lines a P _ refl refl refl))))))))
 
 status_does : (lines : ℕ) (a : Option ChannelOp) (P : Spe) (rt : ℕ) (o : Option TagStatus) → IfSome (read_status P rt o) (Does_to lines a P)
 status_does lines a P rt None = tt
@@ -185,9 +185,11 @@ read_does : (lines : ℕ) (a : Option ChannelOp) (P : Spe) (rt ch : ℕ) → IfS
 unfolding read_by
 read_does lines a P rt ch =
     let R : Spe → Type 0 = Does_to lines a P in
-    if_cond (ch == 12) _ _ R (alone lines a P _ refl refl refl) (if_cond (ch == 24) _ _ R (status_does lines a P rt P.tags.status)
+    if_cond (ch == 0) _ _ R (alone lines a P _ refl refl refl) (if_cond (ch == 3) _ _ R (alone lines a P _ refl refl refl)
+    (if_cond (ch == 4) _ _ R (alone lines a P _ refl refl refl) (if_cond (ch == 11) _ _ R (alone lines a P _ refl refl refl)
+    (if_cond (ch == 12) _ _ R (alone lines a P _ refl refl refl) (if_cond (ch == 24) _ _ R (status_does lines a P rt P.tags.status)
     (if_cond (ch == 25) _ _ R (alone lines a P _ refl refl refl) (if_cond (ch == 27) _ _ R (atomic_does lines a P rt P.channels.atomic)
-    (if_cond (ch == 29) _ _ R (inbound_does lines a P rt P.inbound) tt))))
+    (if_cond (ch == 29) _ _ R (inbound_does lines a P rt P.inbound) tt))))))))
 
 channel_does : (lines : ℕ) (P : Spe) (op : ChannelOp) → IfSome (channel lines P op) (Does_to lines (Some op) P)
 unfolding channel
@@ -269,6 +271,14 @@ unfolding copied
 copied_like memory P true x = record { moves = refl; status = refl; slot = refl; reserved = refl }
 copied_like memory P false x = record { moves = refl; status = refl; slot = refl; reserved = refl }
 
+-- nor what is sent
+sent_like : (memory : MainMemory) (P : Spe) (x : Part) → Like P (sent memory P x).spe
+unfolding sent
+sent_like memory P x = record { moves = refl; status = refl; slot = refl; reserved = refl }
+
+part_like : (memory : MainMemory) (P : Spe) (kind : Kind) (x : Part) → Like P (moved_part memory P kind x).spe
+part_like memory P kind x = on_cond (is_signal kind) _ _ (λ (y : Left). Like P y.spe) (sent_like memory P x) (copied_like memory P (is_put kind) x)
+
 -- of each command and of each element there is
 pub each_of : {X Y : Type 0} (o : Option X) (f : X → Option Y) (R : Y → Type 0) → ((x : X) → o ≡ Some x → IfSome (f x) R) → IfSome (option_and_then f o) R
 each_of None f R h = tt
@@ -287,7 +297,7 @@ piece_goes lines p memory P c e k = if_so (may_of P c (has_part P.moves c e k)) 
     let of = part-is P.moves c e k d has in
     let same : of.element ≡ x = some_same of.element x (sym of.there ∙ there) in
     let number : x.number ≡ e = sym (ap (λ (y : Element). y.number) same) ∙ of.number in
-    let copy = copied_like memory (after_part P c x.number k d) (is_put d.kind) (part_in x k) in
+    let copy = part_like memory (after_part P c x.number k d) d.kind (part_in x k) in
     let tell = told_like (is_stalled (with_done P.moves c x.number k) c d) (record P { moves = with_done P.moves c x.number k }) d.tag in
     record {
       moved = copies c e k d refl at has (copy.moves ∙ tell.moves ∙ ap (λ n. with_done P.moves c n k) number);
@@ -371,15 +381,16 @@ interrupt_like : (p : ℕ) (P : Spe) (xs : List ℕ) → IfSome (taken_interrupt
 interrupt_like p P [] = tt
 interrupt_like p P (x ∷ xs) = (refl, refl, refl, refl, refl)
 
-given_like : (q : ℕ) (a : HostAction) (P : Spe) → IfSome (given a P) (λ g. IsLike q P g.spe)
-given_like q (Send p value) P = if_cond (nat_lt (length P.inbound) 4) _ _ (λ g. IsLike q P g.spe) (refl, refl, refl, refl, refl) tt
-given_like q (Take p) P = taken_like q P P.outbound
-given_like q (TakeIntr p) P = interrupt_like q P P.interrupt
-given_like q (Store ea len bytes) P = (refl, refl, refl, refl, refl)
-given_like q (Await p) P = if_cond (is_running P.status) _ _ (λ g. IsLike q P g.spe) tt (refl, refl, refl, refl, refl)
+pub given-like : (q : ℕ) (a : HostAction) (P : Spe) → IfSome (given a P) (λ g. IsLike q P g.spe)
+given-like q (Send p value) P = if_cond (nat_lt (length P.inbound) 4) _ _ (λ g. IsLike q P g.spe) (refl, refl, refl, refl, refl) tt
+given-like q (Take p) P = taken_like q P P.outbound
+given-like q (TakeIntr p) P = interrupt_like q P P.interrupt
+given-like q (Store ea len bytes) P = (refl, refl, refl, refl, refl)
+given-like q (Await p) P = if_cond (is_running P.status) _ _ (λ g. IsLike q P g.spe) tt (refl, refl, refl, refl, refl)
+given-like q (SignalTo p r value) P = (refl, refl, refl, refl, refl)
 
 pub given-reserved : (a : HostAction) (P : Spe) → IfSome (given a P) (λ g. g.spe.reserved ≡ P.reserved)
-given-reserved a P = if_on (given a P) (λ g. IsLike 0 P g.spe) (λ g. g.spe.reserved ≡ P.reserved) (λ g like. like.4) (given_like 0 a P)
+given-reserved a P = if_on (given a P) (λ g. IsLike 0 P g.spe) (λ g. g.spe.reserved ≡ P.reserved) (λ g like. like.4) (given-like 0 a P)
 
 -- one processor at most is another, in this relation to what it was
 pub record Changed (R : ℕ → Spe → Spe → Type 0) (old new : List Spe) : Type 0 where
@@ -394,17 +405,21 @@ pub record Changed (R : ℕ → Spe → Spe → Type 0) (old new : List Spe) : T
 abbrev pub Changes : Type 0 → (ℕ → Spe → Spe → Type 0) → List Spe → List Spe → Type 0
 Changes A R old new = (A × (new ≡ old)) ⊎ Changed R old new
 
+-- and besides it delivers and raises
+abbrev pub After : (List Spe → List Spe → Type 0) → List Spe → List Spe → Type 0
+After C old new = (mid : List Spe) × C old mid × AreAlike mid new
+
 -- a step of one processor
 in_changes : {X : Type 0} (R : ℕ → Spe → Spe → Type 0) (f : Spe → Option X) (spe_of : X → Spe) (spes : List Spe) (p : ℕ) (make : X → State)
-    → ((P : Spe) → IfSome (f P) (λ x. R p P (spe_of x))) → ((x : X) → (make x).spes ≡ slice_set spes p (spe_of x))
-    → IfSome (option_and_then (λ P. option_map make (f P)) (slice_get spes p)) (λ N. Changed R spes N.spes)
+    → ((P : Spe) → IfSome (f P) (λ x. R p P (spe_of x))) → ((x : X) → AreAlike (slice_set spes p (spe_of x)) (make x).spes)
+    → IfSome (option_and_then (λ P. option_map make (f P)) (slice_get spes p)) (λ N. After (Changed R) spes N.spes)
 in_changes R f spe_of spes p make each sets = on (slice_get spes p) refl
   where
-    made : (P : Spe) → slice_get spes p ≡ Some P → (o : Option _) → IfSome o (λ x. R p P (spe_of x)) → IfSome (option_map make o) (λ N. Changed R spes N.spes)
+    made : (P : Spe) → slice_get spes p ≡ Some P → (o : Option _) → IfSome o (λ x. R p P (spe_of x)) → IfSome (option_map make o) (λ N. After (Changed R) spes N.spes)
     made P at None h = tt
-    made P at (Some x) h = record { p = p; was = P; is = spe_of x; at = at; set = sets x; how = h }
+    made P at (Some x) h = (slice_set spes p (spe_of x), record { p = p; was = P; is = spe_of x; at = at; set = refl; how = h }, sets x)
 
-    on : (o : Option Spe) → slice_get spes p ≡ o → IfSome (option_and_then (λ P. option_map make (f P)) o) (λ N. Changed R spes N.spes)
+    on : (o : Option Spe) → slice_get spes p ≡ o → IfSome (option_and_then (λ P. option_map make (f P)) o) (λ N. After (Changed R) spes N.spes)
     on None at = tt
     on (Some P) at = made P at (f P) (each P)
 
@@ -417,7 +432,7 @@ at_changes M p a = on (slice_get M.spes p) refl
 
     on : (o : Option Spe) → slice_get M.spes p ≡ o → IfSome (option_and_then (λ P. option_map (λ g. record { state = with_spe M p g.spe; took = g.took }) (given a P)) o) (λ (d : Acted). Changes ⊤ IsLike M.spes d.state.spes)
     on None at = tt
-    on (Some P) at = made P at (given a P) (given_like p a P)
+    on (Some P) at = made P at (given a P) (given-like p a P)
 
 acted_changes : (M : State) (a : HostAction) → IfSome (acted M a) (λ d. Changes ⊤ IsLike M.spes d.state.spes)
 unfolding acted
@@ -426,6 +441,7 @@ acted_changes M (Take p) = at_changes M p (Take p)
 acted_changes M (TakeIntr p) = at_changes M p (TakeIntr p)
 acted_changes M (Store ea len bytes) = inl (tt, refl)
 acted_changes M (Await p) = at_changes M p (Await p)
+acted_changes M (SignalTo p r value) = at_changes M p (SignalTo p r value)
 
 host_changes : (M : State) → IfSome (host_step M) (λ N. Changes ⊤ IsLike M.spes N.spes)
 unfolding host_step
@@ -438,8 +454,8 @@ host_changes M = on (slice_get M.host.script M.host.done)
 -- ---- the whole machine
 
 -- a step of one processor changes that one
-in_goes : (M : State) (p : ℕ) (s : Step) → ((P : Spe) → IfSome (own M.memory s P) (λ x. Goes (lines_of M.memory) s p P x.spe)) → IfSome (act_in M p s) (λ N. Changed (Goes (lines_of M.memory) s) M.spes N.spes)
-in_goes M p s each = in_changes (Goes (lines_of M.memory) s) (own M.memory s) (λ x. x.spe) M.spes p (with_left M p) each (λ x. refl)
+in_goes : (M : State) (p : ℕ) (s : Step) → ((P : Spe) → IfSome (own M.memory s P) (λ x. Goes (lines_of M.memory) s p P x.spe)) → IfSome (act_in M p s) (λ N. After (Changed (Goes (lines_of M.memory) s)) M.spes N.spes)
+in_goes M p s each = in_changes (Goes (lines_of M.memory) s) (own M.memory s) (λ x. x.spe) M.spes p (with_left M p) each (left-alike M p)
 
 like_goes : (lines p : ℕ) (P Q : Spe) → IsLike p P Q → Goes lines Host p P Q
 like_goes lines p P Q like = record { moved = acts refl like.1; faulted = λ f. ap is_faulted like.2 ∙ f; slot = slot_same lines P Q like.3; reserved = λ n. like.4 }
@@ -453,57 +469,46 @@ is_at p (Retire q c) = q == p
 is_at p (Atomic q) = q == p
 is_at p Host = false
 
-act_changes : (M : State) (s : Step) → IfSome (act M s) (λ N. Changes (s ≡ Host) (Goes (lines_of M.memory) s) M.spes N.spes)
-act_changes M (Exec p) = if_on (act_in M p (Exec p)) _ _ (λ N. inr) (in_goes M p (Exec p) (λ P. left_goes M.memory (Exec p) p P _ (exec_goes (lines_of M.memory) p P)))
-act_changes M (Piece p c e k) = if_on (act_in M p (Piece p c e k)) _ _ (λ N. inr) (in_goes M p (Piece p c e k) (λ P. piece_goes (lines_of M.memory) p M.memory P c e k))
-act_changes M (Elem p c) = if_on (act_in M p (Elem p c)) _ _ (λ N. inr) (in_goes M p (Elem p c) (λ P. left_goes M.memory (Elem p c) p P _ (elem_goes (lines_of M.memory) p P c)))
-act_changes M (Retire p c) = if_on (act_in M p (Retire p c)) _ _ (λ N. inr) (in_goes M p (Retire p c) (λ P. left_goes M.memory (Retire p c) p P _ (retire_goes (lines_of M.memory) p P c)))
-act_changes M (Atomic p) = if_on (act_in M p (Atomic p)) _ _ (λ N. inr) (in_goes M p (Atomic p) (λ P. atomic_goes (lines_of M.memory) p M.memory P))
-act_changes M Host = if_on (host_step M) _ _ (λ N. weaken M.spes N.spes) (host_changes M)
+abbrev ActChanges : State → Step → State → Type 0
+ActChanges M s N = After (Changes (s ≡ Host) (Goes (lines_of M.memory) s)) M.spes N.spes
+
+one_changed : {A : Type 0} {R : ℕ → Spe → Spe → Type 0} (old new : List Spe) → After (Changed R) old new → After (Changes A R) old new
+one_changed old new (mid, changed, alike) = (mid, inr changed, alike)
+
+act_changes : (M : State) (s : Step) → IfSome (act M s) (ActChanges M s)
+act_changes M (Exec p) = if_on (act_in M p (Exec p)) _ _ (λ N. one_changed M.spes N.spes) (in_goes M p (Exec p) (λ P. left_goes M.memory (Exec p) p P _ (exec_goes (lines_of M.memory) p P)))
+act_changes M (Piece p c e k) = if_on (act_in M p (Piece p c e k)) _ _ (λ N. one_changed M.spes N.spes) (in_goes M p (Piece p c e k) (λ P. piece_goes (lines_of M.memory) p M.memory P c e k))
+act_changes M (Elem p c) = if_on (act_in M p (Elem p c)) _ _ (λ N. one_changed M.spes N.spes) (in_goes M p (Elem p c) (λ P. left_goes M.memory (Elem p c) p P _ (elem_goes (lines_of M.memory) p P c)))
+act_changes M (Retire p c) = if_on (act_in M p (Retire p c)) _ _ (λ N. one_changed M.spes N.spes) (in_goes M p (Retire p c) (λ P. left_goes M.memory (Retire p c) p P _ (retire_goes (lines_of M.memory) p P c)))
+act_changes M (Atomic p) = if_on (act_in M p (Atomic p)) _ _ (λ N. one_changed M.spes N.spes) (in_goes M p (Atomic p) (λ P. atomic_goes (lines_of M.memory) p M.memory P))
+act_changes M Host = if_on (host_step M) _ _ (λ N k. (N.spes, weaken M.spes N.spes k, refl)) (host_changes M)
   where
     weaken : (old new : List Spe) → Changes ⊤ IsLike old new → Changes (Host ≡ Host) (Goes (lines_of M.memory) Host) old new
     weaken old new (inl same) = inl (refl, same.1)
     weaken old new (inr x) = inr (record { p = x.p; was = x.was; is = x.is; at = x.at; set = x.set; how = like_goes (lines_of M.memory) x.p x.was x.is x.how })
 
--- the processors stay settled
-pub settled-after : {A : Type 0} {R : ℕ → Spe → Spe → Type 0} (old new : List Spe) → AreSettled old → Changes A R old new → AreSettled (map settled new)
-settled-after old new all (inl same) = rw same.1 (ap (map settled) all)
-settled-after old new all (inr x) = rw x.set (settled-set old x.p x.is all)
+-- what the step changes of a state that it leads to
+act_after : (M : State) (s : Step) (N : State) → act M s ≡ Some N → ActChanges M s N
+act_after M s N e = if_is (act M s) N (ActChanges M s) e (act_changes M s)
 
-pub act-settled : (M : State) (s : Step) (N : State) → act M s ≡ Some N → AreSettled M.spes → AreSettled (map settled N.spes)
-act-settled M s N e all = settled-after M.spes N.spes all (if_is (act M s) N (λ K. Changes (s ≡ Host) (Goes (lines_of M.memory) s) M.spes K.spes) e (act_changes M s))
+-- the processors are settled
+settled_all : (spes : List Spe) → AreSettled (map settled spes)
+settled_all [] = refl
+settled_all (P ∷ spes) = ap₂ (λ Q xs. Q ∷ xs) (settled-twice P) (settled_all spes)
 
-settled_at : (spes : List Spe) (p : ℕ) (P : Spe) → AreSettled spes → slice_get spes p ≡ Some P → settled P ≡ P
-settled_at [] p P all at = absurd (cc)
-settled_at (x ∷ spes) zero P all at = let same : x ≡ P = cc in subst (λ y. settled y ≡ y) same (let h : settled x ∷ map settled spes ≡ x ∷ spes = all in cc)
-settled_at (x ∷ spes) (suc p) P all at = settled_at spes p P (let h : settled x ∷ map settled spes ≡ x ∷ spes = all in cc) at
+pub act-settled : (M : State) (s : Step) (N : State) → AreSettled (closed_in M s N).spes
+act-settled M s N = settled_all (with_events M s N).spes
 
-like_settled : (p : ℕ) (P Q : Spe) → IsLike p P Q → settled P ≡ P → settled Q ≡ Q
-like_settled p P Q like h =
+pub settled-at : (spes : List Spe) (p : ℕ) (P : Spe) → AreSettled spes → slice_get spes p ≡ Some P → settled P ≡ P
+settled-at [] p P all at = absurd (cc)
+settled-at (x ∷ spes) zero P all at = let same : x ≡ P = cc in subst (λ y. settled y ≡ y) same (let h : settled x ∷ map settled spes ≡ x ∷ spes = all in cc)
+settled-at (x ∷ spes) (suc p) P all at = settled-at spes p P (let h : settled x ∷ map settled spes ≡ x ∷ spes = all in cc) at
+
+pub like-settled : (p : ℕ) (P Q : Spe) → IsLike p P Q → settled P ≡ P → settled Q ≡ Q
+like-settled p P Q like h =
     let tags : (settled P).tags ≡ P.tags = ap (λ (x : Spe). x.tags) h in
     ap (λ t. record Q { tags = t }) (ap (λ t. settled_tags (busy Q.moves) (length Q.moves.issued) t) like.0
     ∙ ap (λ m. settled_tags (busy m) (length m.issued) P.tags) like.1 ∙ tags ∙ sym like.0)
-
-set_settled : (spes : List Spe) (p : ℕ) (Q : Spe) → AreSettled spes → settled Q ≡ Q → AreSettled (slice_set spes p Q)
-set_settled spes p Q all h = map-set settled spes p Q ∙ ap (λ xs. slice_set xs p (settled Q)) all ∙ ap (slice_set spes p) h
-
-like_after : (old new : List Spe) → AreSettled old → Changes ⊤ IsLike old new → AreSettled new
-like_after old new all (inl same) = rw same.1 all
-like_after old new all (inr x) = rw x.set (set_settled old x.p x.is all (like_settled x.p x.was x.is x.how (settled_at old x.p x.was all x.at)))
-
--- after the host's step the processors are settled already
-pub host-settled : (M N : State) → host_step M ≡ Some N → AreSettled M.spes → map settled N.spes ≡ N.spes
-host-settled M N e all = like_after M.spes N.spes all (if_is (host_step M) N (λ K. Changes ⊤ IsLike M.spes K.spes) e (host_changes M))
-
-pub host-made : (processors : List Processor) (memory : SharedMemory) (host : Progress) (M : State) (made : Bool) → AreSettled M.spes
-    → MatchBool made (IsSomeAnd (host_step M) (Shows processors memory host)) (host_step M ≡ None)
-    → MatchBool made (IsSomeAnd (host_step M) (λ N. Shows processors memory host (settled_in N))) (host_step M ≡ None)
-host-made processors memory host M false all h = h
-host-made processors memory host M true all h = on (host_step M) refl h
-  where
-    on : (o : Option State) → host_step M ≡ o → IsSomeAnd o (Shows processors memory host) → IsSomeAnd o (λ N. Shows processors memory host (settled_in N))
-    on None e shows = absurd shows
-    on (Some N) e shows = record { spes = subst (AllTwo ShowsSpe processors) (sym (host-settled M N e all)) shows.spes; memory_is = subst (λ spes. ShowsMemory memory N.memory (reservations spes)) (sym (host-settled M N e all)) shows.memory_is; host_is = shows.host_is }
 
 -- and the commands stay bounded
 pub set_cases : {X : Type 0} (xs : List X) (p q : ℕ) (y x : X) (G : Type 0) → slice_get (slice_set xs p y) q ≡ Some x → (x ≡ y → G) → (slice_get xs q ≡ Some x → G) → G
@@ -540,12 +545,14 @@ read-is lines P c d x is =
 
 -- what IsBounded says, of moves alone
 record MovesBounded (lines n : ℕ) (m : Moves) : Type 0 where
+  some : 0 < lines
   few : length m.issued ≤ n
   fits : MovesFit lines m.issued
   elements : All (λ r. ElementFits lines r.element) m.read
 
 bounded_moves : (lines n : ℕ) (Q : Spe) (m : Moves) → Q.moves ≡ m → SlotFits lines Q → MovesBounded lines n m → IsBounded lines n Q
 bounded_moves lines n Q m same fit is = record {
+  some = is.some;
   slot = fit;
   few = subst (λ (k : Moves). length k.issued ≤ n) (sym same) is.few;
   fits = subst (λ (k : Moves). MovesFit lines k.issued) (sym same) is.fits;
@@ -553,18 +560,20 @@ bounded_moves lines n Q m same fit is = record {
 }
 
 bounded_same : (lines n : ℕ) (P Q : Spe) → Q.moves ≡ P.moves → SlotFits lines Q → IsBounded lines n P → IsBounded lines (n + 1) Q
-bounded_same lines n P Q same fit is = bounded_moves lines (n + 1) Q P.moves same fit (record { few = let l = is.few in omega arith; fits = is.fits; elements = is.elements })
+bounded_same lines n P Q same fit is = bounded_moves lines (n + 1) Q P.moves same fit (record { some = is.some; few = let l = is.few in omega arith; fits = is.fits; elements = is.elements })
 
 one_more : (lines n : ℕ) (s : Step) (p : ℕ) (P Q : Spe) → IsBounded lines n P → SlotFits lines Q → Moved lines s p P Q → IsBounded lines (n + 1) Q
 one_more lines n s p P Q is fit (executes e (stays same)) = bounded_same lines n P Q same fit is
 one_more lines n s p P Q is fit (executes e (issues d kind same)) = bounded_moves lines (n + 1) Q (with_issued P.moves d) same fit (record {
+  some = is.some;
   few = let l = is.few in let a = length-append P.moves.issued (d ∷ []) in omega arith;
   fits = fits_more lines P.moves.issued d kind is.fits;
   elements = is.elements;
 })
-one_more lines n s p P Q is fit (executes e (resumes tag asked same)) = bounded_moves lines (n + 1) Q (with_resumed P.moves (stalls_of_tag P.moves tag)) same fit (record { few = let l = is.few in omega arith; fits = is.fits; elements = is.elements })
-one_more lines n s p P Q is fit (copies c e k d of at has same) = bounded_moves lines (n + 1) Q (with_done P.moves c e k) same fit (record { few = let l = is.few in omega arith; fits = is.fits; elements = is.elements })
+one_more lines n s p P Q is fit (executes e (resumes tag asked same)) = bounded_moves lines (n + 1) Q (with_resumed P.moves (stalls_of_tag P.moves tag)) same fit (record { some = is.some; few = let l = is.few in omega arith; fits = is.fits; elements = is.elements })
+one_more lines n s p P Q is fit (copies c e k d of at has same) = bounded_moves lines (n + 1) Q (with_done P.moves c e k) same fit (record { some = is.some; few = let l = is.few in omega arith; fits = is.fits; elements = is.elements })
 one_more lines n s p P Q is fit (reads c d x of at has got same) = bounded_moves lines (n + 1) Q (with_read P.moves c x) same fit (record {
+  some = is.some;
   few = let l = is.few in omega arith;
   fits = is.fits;
   elements = All-append (λ r. ElementFits lines r.element) P.moves.read (record { cmd = c; element = x } ∷ []) is.elements (one (record { cmd = c; element = x }) (read-is lines P c d x got).0);
@@ -574,12 +583,12 @@ one_more lines n s p P Q is fit (reads c d x of at has got same) = bounded_moves
     one r fit zero y h = fit
     one r fit (suc k) y h = absurd (omega arith)
 one_more lines n s p P Q is fit (refuses c of fault same) = bounded_same lines n P Q same fit is
-one_more lines n s p P Q is fit (retires c d of at left same) = bounded_moves lines (n + 1) Q (with_retired P.moves c) same fit (record { few = let l = is.few in omega arith; fits = is.fits; elements = is.elements })
+one_more lines n s p P Q is fit (retires c d of at left same) = bounded_moves lines (n + 1) Q (with_retired P.moves c) same fit (record { some = is.some; few = let l = is.few in omega arith; fits = is.fits; elements = is.elements })
 one_more lines n s p P Q is fit (locks of same) = bounded_same lines n P Q same fit is
 one_more lines n s p P Q is fit (acts of same) = bounded_same lines n P Q same fit is
 
 weaker : (lines n : ℕ) (P : Spe) → IsBounded lines n P → IsBounded lines (n + 1) P
-weaker lines n P is = record { few = let l = is.few in omega arith; fits = is.fits; elements = is.elements; slot = is.slot }
+weaker lines n P is = record { some = is.some; few = let l = is.few in omega arith; fits = is.fits; elements = is.elements; slot = is.slot }
 
 bounded_after : (lines n : ℕ) (s : Step) (old new : List Spe) → AreBounded lines n old → Changes (s ≡ Host) (Goes lines s) old new → AreBounded lines (n + 1) new
 bounded_after lines n s old new all (inl same) p P at = weaker lines n P (all p P (subst (λ xs. slice_get xs p ≡ Some P) same.1 at))
@@ -592,12 +601,23 @@ settled_bounded : (lines n : ℕ) (spes : List Spe) → AreBounded lines n spes 
 settled_bounded lines n spes all p P at =
     let g = map-got settled spes p P at in
     let is = all p g.0 g.1 in
-    subst (IsBounded lines n) g.2 (record { few = is.few; fits = is.fits; elements = is.elements; slot = is.slot })
+    subst (IsBounded lines n) g.2 (record { some = is.some; few = is.few; fits = is.fits; elements = is.elements; slot = is.slot })
 
-pub act-bounded : (M : State) (s : Step) (N : State) (lines n : ℕ) → lines_of M.memory ≡ lines → act M s ≡ Some N → AreBounded lines n M.spes → AreBounded lines (n + 1) (map settled N.spes)
+bounded_plain : (lines n : ℕ) (P Q : Spe) → plain P ≡ plain Q → IsBounded lines n P → IsBounded lines n Q
+bounded_plain lines n P Q same is =
+    let K : IsBounded lines n (plain P) = record { some = is.some; few = is.few; fits = is.fits; elements = is.elements; slot = is.slot } in
+    let L = subst (IsBounded lines n) same K in
+    record { some = L.some; few = L.few; fits = L.fits; elements = L.elements; slot = L.slot }
+
+bounded_alike : (lines n : ℕ) (xs ys : List Spe) → AreAlike xs ys → AreBounded lines n xs → AreBounded lines n ys
+bounded_alike lines n xs ys alike all p P at = let g = alike-at ys xs p P (sym alike) at in bounded_plain lines n g.0 P (sym g.2) (all p g.0 g.1)
+
+pub act-bounded : (M : State) (s : Step) (N : State) (lines n : ℕ) → lines_of M.memory ≡ lines → act M s ≡ Some N → AreBounded lines n M.spes → AreBounded lines (n + 1) (closed_in M s N).spes
 act-bounded M s N lines n same e all =
-    settled_bounded lines (n + 1) N.spes (bounded_after lines n s M.spes N.spes all
-    (subst (λ k. Changes (s ≡ Host) (Goes k s) M.spes N.spes) same (if_is (act M s) N (λ K. Changes (s ≡ Host) (Goes (lines_of M.memory) s) M.spes K.spes) e (act_changes M s))))
+    let after = act_after M s N e in
+    bounded_alike lines (n + 1) (map settled after.0) (closed_in M s N).spes (closed-alike M s N after.0 after.2)
+    (settled_bounded lines (n + 1) after.0 (bounded_after lines n s M.spes after.0 all
+    (subst (λ k. Changes (s ≡ Host) (Goes k s) M.spes after.0) same after.1)))
 
 -- ---- one processor, at a step of the machine
 
@@ -640,25 +660,29 @@ got_map f [] q x h = absurd (cc)
 got_map f (y ∷ xs) zero x h = ap (option_map f) h
 got_map f (y ∷ xs) (suc q) x h = got_map f xs q x h
 
--- settling changes neither the status nor the commands
-seen_settled : (lines : ℕ) (s : Step) (p : ℕ) (P Q : Spe) → Seen lines s p P Q → Seen lines s p P (settled Q)
-seen_settled lines s p P Q (another other same status reserved) = another other same status reserved
-seen_settled lines s p P Q (goes g) = goes (record { moved = moved_settled lines s p P Q g.moved; faulted = g.faulted; slot = g.slot; reserved = g.reserved })
+-- what it does is the same of a processor that is the same in all of this
+seen_same : (lines : ℕ) (s : Step) (p : ℕ) (P Q R : Spe) → R.moves ≡ Q.moves → R.status ≡ Q.status → R.reserved ≡ Q.reserved → R.channels.slot ≡ Q.channels.slot → Seen lines s p P Q → Seen lines s p P R
+seen_same lines s p P Q R m st rv sl (another other same status reserved) = another other (m ∙ same) (st ∙ status) (rv ∙ reserved)
+seen_same lines s p P Q R m st rv sl (goes g) =
+    goes (record { moved = moved_same g.moved; faulted = λ f. ap is_faulted st ∙ g.faulted f; slot = λ h. slot_same lines Q R sl (g.slot h); reserved = λ n. rv ∙ g.reserved n })
   where
-    moved_settled : (lines : ℕ) (s : Step) (p : ℕ) (P Q : Spe) → Moved lines s p P Q → Moved lines s p P (settled Q)
-    moved_settled lines s p P Q (executes of d) = executes of d
-    moved_settled lines s p P Q (copies c e k d of at has same) = copies c e k d of at has same
-    moved_settled lines s p P Q (reads c d x of at has got same) = reads c d x of at has got same
-    moved_settled lines s p P Q (refuses c of fault same) = refuses c of fault same
-    moved_settled lines s p P Q (retires c d of at left same) = retires c d of at left same
-    moved_settled lines s p P Q (locks of same) = locks of same
-    moved_settled lines s p P Q (acts of same) = acts of same
+    moved_same : Moved lines s p P Q → Moved lines s p P R
+    moved_same (executes of d) = executes of (subst (Does lines (asks P) P.moves) (sym m) d)
+    moved_same (copies c e k d of at has same) = copies c e k d of at has (m ∙ same)
+    moved_same (reads c d x of at has got same) = reads c d x of at has got (m ∙ same)
+    moved_same (refuses c of fault same) = refuses c of (ap is_faulted st ∙ fault) (m ∙ same)
+    moved_same (retires c d of at left same) = retires c d of at left (m ∙ same)
+    moved_same (locks of same) = locks of (m ∙ same)
+    moved_same (acts of same) = acts of (m ∙ same)
 
 pub act-seen : (M : State) (s : Step) (N : State) (p : ℕ) (P : Spe) → act M s ≡ Some N → slice_get M.spes p ≡ Some P
-    → (Q : Spe) × (slice_get (map settled N.spes) p ≡ Some Q) × Seen (lines_of M.memory) s p P Q
+    → (Q : Spe) × (slice_get (closed_in M s N).spes p ≡ Some Q) × Seen (lines_of M.memory) s p P Q
 act-seen M s N p P e at =
-    let k = seen_after (lines_of M.memory) s M.spes N.spes p P at (if_is (act M s) N (λ K. Changes (s ≡ Host) (Goes (lines_of M.memory) s) M.spes K.spes) e (act_changes M s)) in
-    (settled k.0, got_map settled N.spes p k.0 k.1, seen_settled (lines_of M.memory) s p P k.0 k.2)
+    let after = act_after M s N e in
+    let k = seen_after (lines_of M.memory) s M.spes after.0 p P at after.1 in
+    let g = alike-at (map settled after.0) (closed_in M s N).spes p (settled k.0) (closed-alike M s N after.0 after.2) (got_map settled after.0 p k.0 k.1) in
+    let same = sym g.2 in
+    (g.0, g.1, seen_same (lines_of M.memory) s p P k.0 g.0 (ap (λ (X : Spe). X.moves) same) (ap (λ (X : Spe). X.status) same) (ap (λ (X : Spe). X.reserved) same) (ap (λ (X : Spe). X.channels.slot) same) k.2)
 
 -- a command keeps its number, and is complete still where it was
 same-keeps : (m n : Moves) → n ≡ m → Keeps m n
@@ -687,7 +711,7 @@ seen-keeps lines s p P Q (another other same status reserved) = same-keeps P.mov
 seen-keeps lines s p P Q (goes g) = moved-keeps lines s p P Q g.moved
 
 pub act-keeps : (M : State) (s : Step) (N : State) (p : ℕ) (P : Spe) → act M s ≡ Some N → slice_get M.spes p ≡ Some P
-    → (Q : Spe) × (slice_get (map settled N.spes) p ≡ Some Q) × Keeps P.moves Q.moves
+    → (Q : Spe) × (slice_get (closed_in M s N).spes p ≡ Some Q) × Keeps P.moves Q.moves
 act-keeps M s N p P e at = let k = act-seen M s N p P e at in (k.0, k.1, seen-keeps (lines_of M.memory) s p P k.0 k.2)
 
 -- no processor comes or goes
@@ -695,5 +719,7 @@ length_after : {A : Type 0} {R : ℕ → Spe → Spe → Type 0} (old new : List
 length_after old new (inl same) = ap length same.1
 length_after old new (inr x) = ap length x.set ∙ length-set old x.p x.is
 
-pub act-length : (M : State) (s : Step) (N : State) → act M s ≡ Some N → length (map settled N.spes) ≡ length M.spes
-act-length M s N e = length-map N.spes settled ∙ length_after M.spes N.spes (if_is (act M s) N (λ K. Changes (s ≡ Host) (Goes (lines_of M.memory) s) M.spes K.spes) e (act_changes M s))
+pub act-length : (M : State) (s : Step) (N : State) → act M s ≡ Some N → length (closed_in M s N).spes ≡ length M.spes
+act-length M s N e =
+    let after = act_after M s N e in
+    sym (alike-length (map settled after.0) (closed_in M s N).spes (closed-alike M s N after.0 after.2)) ∙ length-map after.0 settled ∙ length_after M.spes after.0 after.1

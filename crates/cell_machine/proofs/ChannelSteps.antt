@@ -14,6 +14,8 @@ use Rattle.mfc_command.specs.declared.command.DmaFault.{DmaFault as Fault}
 use Rattle.mfc_command.specs.Check.{checked}
 use Rattle.tag_groups.specs.declared.TagStatus.{TagStatus}
 use Rattle.tag_groups.specs.Settle.{requested}
+use Rattle.cell_signals.specs.Registers.{register_of}
+use Rattle.cell_signals.specs.Events.{status_of, cleared}
 use Rattle.cell_machine.specs.Spe.{Spe}
 use Rattle.cell_machine.specs.Moves.{outstanding}
 use Rattle.std.specs.Option.{option_map_or}
@@ -21,7 +23,7 @@ use Rattle.cell_channels.specs.declared.channels.Channels.{Channels}
 use Rattle.cell_channels.specs.declared.channels.Counts.{Counts}
 use Rattle.cell_machine.specs.declared.processor.Processor.{Processor}
 use Rattle.cell_machine.specs.Shows.{ShowsSpe}
-use Rattle.cell_machine.specs.Channels.{is_read, is_write, count, counts, may_write, channel, bad_channel, given, went_on, read_by, read_inbound, read_status, read_atomic, read_stalls, is_atomic, refused, with_issued, acknowledged, parameterized, commanded, written}
+use Rattle.cell_machine.specs.Channels.{is_read, is_write, count, counts, may_write, channel, bad_channel, given, went_on, read_by, read_inbound, read_status, read_atomic, read_stalls, read_signal, is_atomic, refused, with_issued, acknowledged, parameterized, commanded, written}
 
 off : (ch k : ℕ) → ch ≢ k → (ch == k) ≡ false
 off ch k h = grind (arith, nat_tests)
@@ -35,26 +37,100 @@ skip_read : (b : Bool) (o : Option Way) → is_write o ≡ false → is_write (c
 skip_read true o h = refl
 skip_read false o h = h
 
-pub read-other : (ch : ℕ) → ch ≢ 12 → ch ≢ 24 → ch ≢ 25 → ch ≢ 27 → ch ≢ 29 → is_read (way_of ch) ≡ false
+pub read-other : (ch : ℕ) → ch ≢ 0 → ch ≢ 3 → ch ≢ 4 → ch ≢ 11 → ch ≢ 12 → ch ≢ 24 → ch ≢ 25 → ch ≢ 27 → ch ≢ 29 → is_read (way_of ch) ≡ false
 unfolding way_of
-read-other ch a b c e d =
-    rw (off ch 12 a, off ch 24 b, off ch 25 c, off ch 27 e, off ch 29 d)
-    (skip_write (ch == 16) _ (skip_write (ch == 17) _ (skip_write (ch == 18) _ (skip_write (ch == 19) _ (skip_write (ch == 20) _ (skip_write (ch == 21) _
-    (skip_write (ch == 22) _ (skip_write (ch == 23) _ (skip_write (ch == 26) _ (skip_write (ch == 28) _ (skip_write (ch == 30) _ refl)))))))))))
+read-other ch s t u v a b c e d =
+    rw (off ch 0 s, off ch 3 t, off ch 4 u, off ch 11 v, off ch 12 a, off ch 24 b, off ch 25 c, off ch 27 e, off ch 29 d)
+    (skip_write (ch == 1) _ (skip_write (ch == 2) _ (skip_write (ch == 16) _ (skip_write (ch == 17) _ (skip_write (ch == 18) _ (skip_write (ch == 19) _ (skip_write (ch == 20) _ (skip_write (ch == 21) _
+    (skip_write (ch == 22) _ (skip_write (ch == 23) _ (skip_write (ch == 26) _ (skip_write (ch == 28) _ (skip_write (ch == 30) _ refl)))))))))))))
 
 param_off : (ch k : ℕ) → (nat_le 16 ch && nat_le ch 20) ≡ false → 16 ≤ k → k ≤ 20 → (ch == k) ≡ false
 param_off ch k h low high = grind (arith, nat_tests)
 
-pub write-other : (ch : ℕ) → (nat_le 16 ch && nat_le ch 20) ≡ false → ch ≢ 21 → ch ≢ 22 → ch ≢ 23 → ch ≢ 26 → ch ≢ 28 → ch ≢ 30 → is_write (way_of ch) ≡ false
+pub write-other : (ch : ℕ) → (nat_le 16 ch && nat_le ch 20) ≡ false → ch ≢ 1 → ch ≢ 2 → ch ≢ 21 → ch ≢ 22 → ch ≢ 23 → ch ≢ 26 → ch ≢ 28 → ch ≢ 30 → is_write (way_of ch) ≡ false
 unfolding way_of
-write-other ch p a b c f d e =
-    rw (param_off ch 16 p (omega arith) (omega arith), param_off ch 17 p (omega arith) (omega arith), param_off ch 18 p (omega arith) (omega arith), param_off ch 19 p (omega arith) (omega arith), param_off ch 20 p (omega arith) (omega arith), off ch 21 a, off ch 22 b, off ch 23 c, off ch 26 f, off ch 28 d, off ch 30 e)
-    (skip_read (ch == 12) _ (skip_read (ch == 24) _ (skip_read (ch == 25) _ (skip_read (ch == 27) _ (skip_read (ch == 29) _ refl)))))
+write-other ch p s t a b c f d e =
+    rw (off ch 1 s, off ch 2 t, param_off ch 16 p (omega arith) (omega arith), param_off ch 17 p (omega arith) (omega arith), param_off ch 18 p (omega arith) (omega arith), param_off ch 19 p (omega arith) (omega arith), param_off ch 20 p (omega arith) (omega arith), off ch 21 a, off ch 22 b, off ch 23 c, off ch 26 f, off ch 28 d, off ch 30 e)
+    (skip_read (ch == 0) _ (skip_read (ch == 3) _ (skip_read (ch == 4) _ (skip_read (ch == 11) _ (skip_read (ch == 12) _ (skip_read (ch == 24) _ (skip_read (ch == 25) _ (skip_read (ch == 27) _ (skip_read (ch == 29) _ refl)))))))))
 
 -- what the operations come to
-pub read-bad : (lines : ℕ) (P : Spe) (rt ch : ℕ) → ch ≢ 12 → ch ≢ 24 → ch ≢ 25 → ch ≢ 27 → ch ≢ 29 → channel lines P (Read rt ch) ≡ Some (bad_channel P)
+pub read-bad : (lines : ℕ) (P : Spe) (rt ch : ℕ) → ch ≢ 0 → ch ≢ 3 → ch ≢ 4 → ch ≢ 11 → ch ≢ 12 → ch ≢ 24 → ch ≢ 25 → ch ≢ 27 → ch ≢ 29 → channel lines P (Read rt ch) ≡ Some (bad_channel P)
 unfolding channel
-read-bad lines P rt ch a b c e d = rw (read-other ch a b c e d) refl
+read-bad lines P rt ch s t u v a b c e d = rw (read-other ch s t u v a b c e d) refl
+
+-- the event status, where it isn't 0
+pub read-events : (lines : ℕ) (P : Spe) (rt : ℕ) → (status_of P.events == 0) ≡ false → channel lines P (Read rt 0) ≡ Some (given P rt (status_of P.events))
+unfolding channel way_of count count_of read_by
+read-events lines P rt h = rw h refl
+
+pub events-none : (lines : ℕ) (P : Spe) (rt : ℕ) → (status_of P.events == 0) ≡ true → channel lines P (Read rt 0) ≡ None
+unfolding channel way_of count count_of
+events-none lines P rt h = rw h refl
+
+pub events-read : (lines : ℕ) (b : Bool) (P : Spe) (new : Processor) (rt : ℕ) → MatchBool b (((status_of P.events == 0) ≡ false) × ShowsSpe new (given P rt (status_of P.events))) ((status_of P.events == 0) ≡ true)
+    → MatchBool b (IsSomeAnd (channel lines P (Read rt 0)) (ShowsSpe new)) (channel lines P (Read rt 0) ≡ None)
+events-read lines true P new rt h = rw (read-events lines P rt h.0) h.1
+events-read lines false P new rt h = events-none lines P rt h
+
+pub events-ready : (lines : ℕ) (P : Spe) (rt : ℕ) → is_some (channel lines P (Read rt 0)) ≡ not (status_of P.events == 0)
+events-ready lines P rt = on (status_of P.events == 0) refl
+  where
+    on : (b : Bool) → (status_of P.events == 0) ≡ b → is_some (channel lines P (Read rt 0)) ≡ not b
+    on true e = ap is_some (events-none lines P rt e)
+    on false e = ap is_some (read-events lines P rt e)
+
+-- a signal register, where it is ready
+first-on : (lines : ℕ) (P : Spe) (rt : ℕ) → (register_of P.signals 1).ready ≡ true → channel lines P (Read rt 3) ≡ Some (read_signal P rt 1)
+unfolding channel way_of count count_of read_by
+first-on lines P rt h = rw h refl
+
+first-off : (lines : ℕ) (P : Spe) (rt : ℕ) → (register_of P.signals 1).ready ≡ false → channel lines P (Read rt 3) ≡ None
+unfolding channel way_of count count_of
+first-off lines P rt h = rw h refl
+
+second-on : (lines : ℕ) (P : Spe) (rt : ℕ) → (register_of P.signals 2).ready ≡ true → channel lines P (Read rt 4) ≡ Some (read_signal P rt 2)
+unfolding channel way_of count count_of read_by
+second-on lines P rt h = rw h refl
+
+second-off : (lines : ℕ) (P : Spe) (rt : ℕ) → (register_of P.signals 2).ready ≡ false → channel lines P (Read rt 4) ≡ None
+unfolding channel way_of count count_of
+second-off lines P rt h = rw h refl
+
+pub first-read : (lines : ℕ) (b : Bool) (P : Spe) (new : Processor) (rt : ℕ) → MatchBool b (((register_of P.signals 1).ready ≡ true) × ShowsSpe new (read_signal P rt 1)) ((register_of P.signals 1).ready ≡ false)
+    → MatchBool b (IsSomeAnd (channel lines P (Read rt 3)) (ShowsSpe new)) (channel lines P (Read rt 3) ≡ None)
+first-read lines true P new rt h = rw (first-on lines P rt h.0) h.1
+first-read lines false P new rt h = first-off lines P rt h
+
+pub second-read : (lines : ℕ) (b : Bool) (P : Spe) (new : Processor) (rt : ℕ) → MatchBool b (((register_of P.signals 2).ready ≡ true) × ShowsSpe new (read_signal P rt 2)) ((register_of P.signals 2).ready ≡ false)
+    → MatchBool b (IsSomeAnd (channel lines P (Read rt 4)) (ShowsSpe new)) (channel lines P (Read rt 4) ≡ None)
+second-read lines true P new rt h = rw (second-on lines P rt h.0) h.1
+second-read lines false P new rt h = second-off lines P rt h
+
+pub first-ready : (lines : ℕ) (P : Spe) (rt : ℕ) → is_some (channel lines P (Read rt 3)) ≡ (register_of P.signals 1).ready
+first-ready lines P rt = on (register_of P.signals 1).ready refl
+  where
+    on : (b : Bool) → (register_of P.signals 1).ready ≡ b → is_some (channel lines P (Read rt 3)) ≡ b
+    on true e = ap is_some (first-on lines P rt e)
+    on false e = ap is_some (first-off lines P rt e)
+
+pub second-ready : (lines : ℕ) (P : Spe) (rt : ℕ) → is_some (channel lines P (Read rt 4)) ≡ (register_of P.signals 2).ready
+second-ready lines P rt = on (register_of P.signals 2).ready refl
+  where
+    on : (b : Bool) → (register_of P.signals 2).ready ≡ b → is_some (channel lines P (Read rt 4)) ≡ b
+    on true e = ap is_some (second-on lines P rt e)
+    on false e = ap is_some (second-off lines P rt e)
+
+pub read-event_mask : (lines : ℕ) (P : Spe) (rt : ℕ) → channel lines P (Read rt 11) ≡ Some (given P rt P.events.mask)
+unfolding channel way_of count count_of read_by
+read-event_mask lines P rt = refl
+
+pub write-event_mask : (lines : ℕ) (P : Spe) (value : ℕ) → channel lines P (Write 1 value) ≡ Some (went_on (record P { events = record P.events { mask = value } }))
+unfolding channel way_of may_write count count_of written
+write-event_mask lines P value = refl
+
+pub write-event_ack : (lines : ℕ) (P : Spe) (value : ℕ) → channel lines P (Write 2 value) ≡ Some (went_on (record P { events = cleared P.events value }))
+unfolding channel way_of may_write count count_of written
+write-event_ack lines P value = refl
 
 pub read-mask : (lines : ℕ) (P : Spe) (rt : ℕ) → channel lines P (Read rt 12) ≡ Some (given P rt P.tags.mask)
 unfolding channel way_of count count_of read_by
@@ -110,9 +186,9 @@ pub write-ack : (lines : ℕ) (P : Spe) (tag : ℕ) → channel lines P (Write 2
 unfolding channel way_of may_write count count_of written
 write-ack lines P tag = refl
 
-pub write-bad : (lines : ℕ) (P : Spe) (ch value : ℕ) → (nat_le 16 ch && nat_le ch 20) ≡ false → ch ≢ 21 → ch ≢ 22 → ch ≢ 23 → ch ≢ 26 → ch ≢ 28 → ch ≢ 30 → channel lines P (Write ch value) ≡ Some (bad_channel P)
+pub write-bad : (lines : ℕ) (P : Spe) (ch value : ℕ) → (nat_le 16 ch && nat_le ch 20) ≡ false → ch ≢ 1 → ch ≢ 2 → ch ≢ 21 → ch ≢ 22 → ch ≢ 23 → ch ≢ 26 → ch ≢ 28 → ch ≢ 30 → channel lines P (Write ch value) ≡ Some (bad_channel P)
 unfolding channel
-write-bad lines P ch value p a b c f d e = rw (write-other ch p a b c f d e) refl
+write-bad lines P ch value p s t a b c f d e = rw (write-other ch p s t a b c f d e) refl
 
 pub write-mask : (lines : ℕ) (P : Spe) (value : ℕ) → channel lines P (Write 22 value) ≡ Some (went_on (record P { tags = record P.tags { mask = value } }))
 unfolding channel way_of may_write count count_of written
@@ -215,26 +291,32 @@ inbound_ready P rt (x ∷ xs) = let some : nat_lt 0 (length (x ∷ xs)) ≡ true
 pub read-ready : (lines : ℕ) (P : Spe) (rt : ℕ) → is_some (channel lines P (Read rt 29)) ≡ nat_lt 0 (length P.inbound)
 read-ready lines P rt = ap is_some (read-inbound lines P rt) ∙ inbound_ready P rt P.inbound
 
-read_on : (lines : ℕ) (P : Spe) (rt ch : ℕ) (b : Bool) → (ch == 12) ≡ b → ch ≢ 24 → ch ≢ 25 → ch ≢ 27 → ch ≢ 29 → is_some (channel lines P (Read rt ch)) ≡ true
-read_on lines P rt ch true e a d f c = let is : ch ≡ 12 = grind (arith, nat_tests) in rw is (ap is_some (read-mask lines P rt))
-read_on lines P rt ch false e a d f c = ap is_some (read-bad lines P rt ch (let differs : ch ≢ 12 = grind (arith, nat_tests) in differs) a d f c)
+read_on : (lines : ℕ) (P : Spe) (rt ch : ℕ) (b v : Bool) → (ch == 12) ≡ b → (ch == 11) ≡ v → ch ≢ 0 → ch ≢ 3 → ch ≢ 4 → ch ≢ 24 → ch ≢ 25 → ch ≢ 27 → ch ≢ 29 → is_some (channel lines P (Read rt ch)) ≡ true
+read_on lines P rt ch true v e g s t u a d f c = let is : ch ≡ 12 = grind (arith, nat_tests) in rw is (ap is_some (read-mask lines P rt))
+read_on lines P rt ch false true e g s t u a d f c = let is : ch ≡ 11 = grind (arith, nat_tests) in rw is (ap is_some (read-event_mask lines P rt))
+read_on lines P rt ch false false e g s t u a d f c =
+    ap is_some (read-bad lines P rt ch s t u (let differs : ch ≢ 11 = grind (arith, nat_tests) in differs) (let differs : ch ≢ 12 = grind (arith, nat_tests) in differs) a d f c)
 
-pub read-always : (lines : ℕ) (P : Spe) (rt ch : ℕ) → ch ≢ 24 → ch ≢ 25 → ch ≢ 27 → ch ≢ 29 → is_some (channel lines P (Read rt ch)) ≡ true
-read-always lines P rt ch a d f c = read_on lines P rt ch (ch == 12) refl a d f c
+pub read-always : (lines : ℕ) (P : Spe) (rt ch : ℕ) → ch ≢ 0 → ch ≢ 3 → ch ≢ 4 → ch ≢ 24 → ch ≢ 25 → ch ≢ 27 → ch ≢ 29 → is_some (channel lines P (Read rt ch)) ≡ true
+read-always lines P rt ch s t u a d f c = read_on lines P rt ch (ch == 12) (ch == 11) refl refl s t u a d f c
 
-write_on : (lines : ℕ) (P : Spe) (ch value : ℕ) (a b f p : Bool) → (ch == 22) ≡ a → (ch == 23) ≡ b → (ch == 26) ≡ f → (nat_le 16 ch && nat_le ch 20) ≡ p → ch ≢ 21 → ch ≢ 28 → ch ≢ 30 → is_some (channel lines P (Write ch value)) ≡ true
-write_on lines P ch value true b f p ea eb ef ep x y z = let is : ch ≡ 22 = grind (arith, nat_tests) in rw is (ap is_some (write-mask lines P value))
-write_on lines P ch value false true f p ea eb ef ep x y z = let is : ch ≡ 23 = grind (arith, nat_tests) in rw is (ap is_some (write-request lines P value))
-write_on lines P ch value false false true p ea eb ef ep x y z = let is : ch ≡ 26 = grind (arith, nat_tests) in rw is (ap is_some (write-ack lines P value))
-write_on lines P ch value false false false true ea eb ef ep x y z = ap is_some (write-param lines P ch value ep)
-write_on lines P ch value false false false false ea eb ef ep x y z =
+write_on : (lines : ℕ) (P : Spe) (ch value : ℕ) (s t a b f p : Bool) → (ch == 1) ≡ s → (ch == 2) ≡ t → (ch == 22) ≡ a → (ch == 23) ≡ b → (ch == 26) ≡ f → (nat_le 16 ch && nat_le ch 20) ≡ p → ch ≢ 21 → ch ≢ 28 → ch ≢ 30 → is_some (channel lines P (Write ch value)) ≡ true
+write_on lines P ch value true t a b f p es et ea eb ef ep x y z = let is : ch ≡ 1 = grind (arith, nat_tests) in rw is (ap is_some (write-event_mask lines P value))
+write_on lines P ch value false true a b f p es et ea eb ef ep x y z = let is : ch ≡ 2 = grind (arith, nat_tests) in rw is (ap is_some (write-event_ack lines P value))
+write_on lines P ch value false false true b f p es et ea eb ef ep x y z = let is : ch ≡ 22 = grind (arith, nat_tests) in rw is (ap is_some (write-mask lines P value))
+write_on lines P ch value false false false true f p es et ea eb ef ep x y z = let is : ch ≡ 23 = grind (arith, nat_tests) in rw is (ap is_some (write-request lines P value))
+write_on lines P ch value false false false false true p es et ea eb ef ep x y z = let is : ch ≡ 26 = grind (arith, nat_tests) in rw is (ap is_some (write-ack lines P value))
+write_on lines P ch value false false false false false true es et ea eb ef ep x y z = ap is_some (write-param lines P ch value ep)
+write_on lines P ch value false false false false false false es et ea eb ef ep x y z =
+    let s : ch ≢ 1 = grind (arith, nat_tests) in
+    let t : ch ≢ 2 = grind (arith, nat_tests) in
     let a : ch ≢ 22 = grind (arith, nat_tests) in
     let b : ch ≢ 23 = grind (arith, nat_tests) in
     let f : ch ≢ 26 = grind (arith, nat_tests) in
-    ap is_some (write-bad lines P ch value ep x a b f y z)
+    ap is_some (write-bad lines P ch value ep s t x a b f y z)
 
 pub write-always : (lines : ℕ) (P : Spe) (ch value : ℕ) → ch ≢ 21 → ch ≢ 28 → ch ≢ 30 → is_some (channel lines P (Write ch value)) ≡ true
-write-always lines P ch value x y z = write_on lines P ch value (ch == 22) (ch == 23) (ch == 26) _ refl refl refl refl x y z
+write-always lines P ch value x y z = write_on lines P ch value (ch == 1) (ch == 2) (ch == 22) (ch == 23) (ch == 26) _ refl refl refl refl refl refl x y z
 
 pub command-ready : (lines : ℕ) (P : Spe) (op : ℕ) → is_some (channel lines P (Write 21 op)) ≡ may_write P 21 op
 command-ready lines P op = on (may_write P 21 op) refl
@@ -273,9 +355,9 @@ write-interrupt lines true P new value h = rw (interrupt-put lines P value h.0) 
 write-interrupt lines false P new value h = interrupt-full lines P value h
 
 -- the count that the code comes to
-pub counts-are : (P : Spe) (f i o r : ℕ) (t : Bool) → f ≡ 16 - length (outstanding P) → t ≡ is_some P.tags.status → i ≡ length P.inbound → o ≡ length P.outbound → r ≡ length P.interrupt
-    → record { free = f; tags = t; inbound = i; outbound = 1 - o; intr = 1 - r } ≡ counts P
-counts-are P f i o r t d e a b c = rw (a, b, c, d, e) refl
+pub counts-are : (P : Spe) (f i o r : ℕ) (t a2 b2 c2 : Bool) → a2 ≡ (register_of P.signals 1).ready → b2 ≡ (register_of P.signals 2).ready → c2 ≡ not (status_of P.events == 0) → f ≡ 16 - length (outstanding P) → t ≡ is_some P.tags.status → i ≡ length P.inbound → o ≡ length P.outbound → r ≡ length P.interrupt
+    → record { free = f; tags = t; inbound = i; outbound = 1 - o; intr = 1 - r; sig1 = a2; sig2 = b2; event = c2 } ≡ counts P
+counts-are P f i o r t a2 b2 c2 x y z d e a b c = rw (x, y, z, a, b, c, d, e) refl
 
 pub count-ok : (P : Spe) (ch n : ℕ) (s : Channels) (k : Counts) → P.channels ≡ s → k ≡ counts P → count_of s k ch ≡ Some n → n ≡ count P ch
 unfolding count

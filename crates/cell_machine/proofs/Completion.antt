@@ -1,7 +1,7 @@
 -- On a run every step of a command stands after the place at which each command that goes before it became complete,
 -- and a command keeps its number, and stays complete where it is.
 use Rattle.std.proofs.Common.{◌≡◌, ◌≢◌, ℕ, zero, suc, ◌+◌, ◌<◌, ◌≤◌, ◌==◌, ◌&&◌, ◌||◌, not, Bool, true, false, List, [], ◌∷◌, ◌++◌, length, arith, refl, sym, ◌∙◌, ap, subst, true≢false}
-use Rattle.std.specs.Prelude.{Option, Some, None, slice_get, nat_lt, filter, map, cond, is_some, option_map, option_and_then}
+use Rattle.std.specs.Prelude.{Option, Some, None, slice_get, nat_lt, filter, cond, is_some, option_map, option_and_then}
 use Rattle.std.specs.List.{list_any, range_with_len}
 use Rattle.std.specs.Option.{option_map_or}
 use Rattle.mfc_command.specs.declared.command.Command.{Command}
@@ -13,8 +13,7 @@ use Rattle.cell_machine.specs.Spe.{Spe}
 use Rattle.cell_machine.specs.State.{State}
 use Rattle.cell_machine.specs.Moves.{is_complete, may_begin}
 use Rattle.cell_machine.specs.Transfers.{may_piece, may_elem, may_retire, has_part, has_element, is_left}
-use Rattle.cell_machine.specs.Tags.{settled}
-use Rattle.cell_machine.specs.Next.{act, next, ended_by}
+use Rattle.cell_machine.specs.Next.{act, next, ended_by, closed_in}
 use Rattle.cell_machine.specs.Opening.{Opening, opening}
 use Rattle.cell_machine.specs.Run.{Ran, IsRun, replay, spe_of}
 use Rattle.cell_host.specs.Script.{Progress}
@@ -129,10 +128,10 @@ run-waits S before after s p c d P run of at goes =
     let M = some-of (λ (N : State). slice_get N.spes p) (replay (opening S) before) P at in
     step-waits M.0 s p c d P (replay-part (opening S) before after s run.0 M.0 M.1) of M.2 goes
 
-pub next-act : (M : State) (s : Step) (N : State) → next M s ≡ Some N → (K : State) × (act M s ≡ Some K) × (map settled K.spes ≡ N.spes)
+pub next-act : (M : State) (s : Step) (N : State) → next M s ≡ Some N → (K : State) × (act M s ≡ Some K) × ((closed_in M s K).spes ≡ N.spes)
 next-act M s N e = on (act M s) refl e
   where
-    on : (o : Option State) → act M s ≡ o → option_map (ended_by M s) o ≡ Some N → (K : State) × (act M s ≡ Some K) × (map settled K.spes ≡ N.spes)
+    on : (o : Option State) → act M s ≡ o → option_map (ended_by M s) o ≡ Some N → (K : State) × (act M s ≡ Some K) × ((closed_in M s K).spes ≡ N.spes)
     on None a g = absurd (cc)
     on (Some K) a g = (K, a, (let same : ended_by M s K ≡ N = cc in ap (λ (x : State). x.spes) same))
 

@@ -1,12 +1,12 @@
 -- The steps of a flow controller, as the code makes them.
-use Rattle.std.proofs.Common.{◌≡◌, ℕ, suc, ◌+◌, ◌<◌, ◌==◌, ◌&&◌, not, Bool, true, false, List, [], ◌∷◌, length, arith, refl, sym, ◌∙◌, ap, subst, true≢false}
-use Rattle.std.specs.Prelude.{Option, Some, None, All, slice_get, cond, if◌then◌else◌, map, filter, Ok, IsSomeAnd}
+use Rattle.std.proofs.Common.{◌≡◌, ℕ, suc, ◌+◌, ◌*◌, ◌<◌, ◌≤◌, ◌==◌, ◌&&◌, not, Bool, true, false, List, [], ◌∷◌, length, arith, refl, sym, ◌∙◌, ap, subst, true≢false}
+use Rattle.std.specs.Prelude.{Option, Some, None, All, slice_get, cond, if◌then◌else◌, map, filter, Ok}
 use Rattle.std.specs.List.{last_or}
 use Rattle.mfc_command.specs.declared.command.Command.{Command}
 use Rattle.mfc_command.specs.declared.command.Kind.{Kind}
-use Rattle.mfc_command.specs.declared.command.Kind.TheVariants.{Put, Get, PutList, GetList, Barrier, PutQueued}
+use Rattle.mfc_command.specs.declared.command.Kind.TheVariants.{Put, Get, PutList, GetList, Barrier, PutQueued, Signal}
 use Rattle.mfc_command.specs.declared.command.DmaFault.{DmaFault as Fault}
-use Rattle.mfc_command.specs.Check.{KindFits, transfer_fault}
+use Rattle.mfc_command.specs.Check.{KindFits, SignalFits, transfer_fault}
 use Rattle.mfc_command.specs.Order.{is_list, is_barrier}
 use Rattle.mfc_lists.specs.declared.Element.{Element}
 use Rattle.mfc_lists.specs.Elements.{ElementFits, element_of, element_by, unless}
@@ -14,14 +14,15 @@ use Rattle.mfc_lists.specs.Readings.{next_at as next_of_reading, next_element as
 use Rattle.local_store.specs.Store.{word_at}
 use Rattle.cell_machine.specs.Spe.{Spe, Moves, ElementRead, is_faulted}
 use Rattle.cell_machine.specs.Moves.{read_of, present, whole, is_moved, is_stalled, parts_in, may_begin}
-use Rattle.cell_machine.specs.Transfers.{begins, told, notified, copied, has_part, may_piece, is_put, with_done, after_part, part_in, piece_of, piece, has_element, may_elem, next_at, next_element, after_element, elem, is_left, may_retire, with_retired, retire}
+use Rattle.cell_machine.specs.Transfers.{begins, told, notified, moved, has_part, may_piece, is_signal, with_done, after_part, part_in, piece_of, piece, has_element, may_elem, next_at, next_element, after_element, elem, is_left, may_retire, with_retired, retire}
 use Rattle.lock_lines.specs.Versions.{Reserved}
 use Rattle.cell_machine.specs.Memory.{MainMemory}
 use Rattle.cell_machine.specs.declared.memory.SharedMemory.{SharedMemory}
 use Rattle.cell_machine.specs.declared.processor.Processor.{Processor}
+use Rattle.cell_machine.specs.declared.signals.Reach.{Reach}
 use Rattle.cell_machine.specs.Kept.{IsKept}
 use Rattle.cell_machine.specs.MovesShown.{reading}
-use Rattle.cell_machine.specs.Shows.{IsBounded, CanStep, CanIssue, ShowsSpe, ShowsMemory}
+use Rattle.cell_machine.specs.Shows.{IsBounded, CanStep, CanIssue, ShowsSpe, ShowsMemory, IsSignal, Makes, Reaches}
 use Rattle.cell_machine.proofs.Same.{some_same}
 use Rattle.cell_machine.proofs.SpeShown.{first_of_both, second_of_both, not_of, get-either, begins-at, begins-none, part-facts, present-plain}
 use Rattle.cell_machine.proofs.MovesShown.{present-list}
@@ -104,6 +105,11 @@ element-fits lines n P c d x bounded at moved p = by (is_list d.kind) refl
     whole_fits GetList l b f = absurd (true≢false l)
     whole_fits Barrier l b f = absurd (true≢false b)
     whole_fits PutQueued l b f = let g = f.fits in record { size = g.size; store = g.store; memory = g.memory }
+    whole_fits Signal l b f =
+        let four = f.size in
+        let low = f.register in
+        let some = bounded.some in
+        record { size = (let e : d.size ≤ 16384 = omega arith in e); store = f.store; memory = (let e : d.ea + d.size ≤ 128 * lines = omega arith in e) }
 
     no_barrier : (b s : Bool) → (not b && s) ≡ true → b ≡ false
     no_barrier true s h = absurd (true≢false (sym h))
@@ -118,12 +124,32 @@ element-fits lines n P c d x bounded at moved p = by (is_list d.kind) refl
         some_is : (a b : Element) → Some a ≡ Some b → a ≡ b
         some_is a b h = cc
 
+-- and a signal is one
+pub element-signal : (lines n : ℕ) (P : Spe) (c : ℕ) (d : Command) (x : Element) → IsBounded lines n P → slice_get P.moves.issued c ≡ Some d → present P.moves.read c d ≡ Some x → is_signal d.kind ≡ true → IsSignal x
+element-signal lines n P c d x bounded at p = on d.kind refl (bounded.fits c d at)
+  where
+    some_is : (a b : Element) → Some a ≡ Some b → a ≡ b
+    some_is a b h = cc
+
+    of_whole : SignalFits d → IsSignal (whole d)
+    of_whole f = record { size = f.size; aligned = f.aligned; store = f.store; register = f.register }
+
+    on : (k : Kind) → d.kind ≡ k → KindFits lines d k → is_signal k ≡ true → IsSignal x
+    on Put e f h = absurd (true≢false (sym h))
+    on Get e f h = absurd (true≢false (sym h))
+    on PutList e f h = absurd (true≢false (sym h))
+    on GetList e f h = absurd (true≢false (sym h))
+    on Barrier e f h = absurd (true≢false (sym h))
+    on PutQueued e f h = absurd (true≢false (sym h))
+    on Signal e f h = subst IsSignal (some_is (whole d) x (sym (present-plain P.moves c d (ap is_list e)) ∙ p)) (of_whole f)
+
 -- what a part that may be copied says
 pub record CanCopy (lines : ℕ) (m : Moves) (c e k : ℕ) (d : Command) (x : Element) : Type 0 where
   pub has : has_part m c e k d ≡ true
   pub within : k < parts_in x
   pub number : x.number ≡ e
   pub fits : ElementFits lines x
+  pub signal : is_signal d.kind ≡ true → IsSignal x
 
 pub can-copy : (lines n : ℕ) (P : Spe) (c e k : ℕ) (d : Command) (x : Element) → IsBounded lines n P → slice_get P.moves.issued c ≡ Some d → begins P.moves c (has_part P.moves c e k) ≡ true
     → present P.moves.read c d ≡ Some x → CanCopy lines P.moves c e k d x
@@ -136,6 +162,7 @@ can-copy lines n P c e k d x bounded at begun p =
       within = subst (λ y. k < parts_in y) same f.within;
       number = subst (λ (y : Element). y.number ≡ e) same f.number;
       fits = element-fits lines n P c d x bounded at f.moved p;
+      signal = element-signal lines n P c d x bounded at p;
     }
 
 -- a processor that can make a step knows its queue
@@ -171,21 +198,21 @@ pub told-moves : (P : Spe) (m : Moves) (c : ℕ) (d : Command) (stalls : Bool) �
     → (if stalls then told (record P { moves = m }) d.tag else record P { moves = m }) ≡ notified (record P { moves = m }) c d
 told-moves P m c d stalls is = rw is refl
 
--- what a piece that is copied, marked and told leaves
-pub piece-made : (new : Processor) (P : Spe) (memory : SharedMemory) (m : MainMemory) (reserved : List (Option Reserved)) (store store2 : List ℕ) (c e k : ℕ) (stalls put_it : Bool) (d : Command) (x : Element) → may_piece P c e k ≡ true → slice_get P.moves.issued c ≡ Some d → present P.moves.read c d ≡ Some x
-    → x.number ≡ e → P.store ≡ store → stalls ≡ is_stalled (with_done P.moves c e k) c d → put_it ≡ is_put d.kind
-    → ((Q : Spe) → Q.store ≡ store → (copied m Q put_it (part_in x k)).spe ≡ record Q { store = store2 })
-    → ((Q : Spe) → Q.store ≡ store → ShowsMemory memory (copied m Q put_it (part_in x k)).memory reserved)
+-- what a piece that is moved, marked and told leaves
+pub piece-made : (new : Processor) (P : Spe) (memory : SharedMemory) (m : MainMemory) (reserved : List (Option Reserved)) (store store2 : List ℕ) (c e k : ℕ) (stalls : Bool) (d : Command) (x : Element) (r : Reach) → may_piece P c e k ≡ true → slice_get P.moves.issued c ≡ Some d → present P.moves.read c d ≡ Some x
+    → x.number ≡ e → P.store ≡ store → stalls ≡ is_stalled (with_done P.moves c e k) c d
+    → ((Q : Spe) → Q.store ≡ store → (moved m Q d.kind (part_in x k)).spe ≡ record Q { store = store2 })
+    → ((Q : Spe) → Q.store ≡ store → ShowsMemory memory (moved m Q d.kind (part_in x k)).memory reserved)
+    → ((Q : Spe) → Q.store ≡ store → Reaches r m reserved (moved m Q d.kind (part_in x k)))
     → ShowsSpe new (if stalls then told (record P { store = store2; moves = with_done P.moves c e k }) d.tag else record P { store = store2; moves = with_done P.moves c e k })
-    → IsSomeAnd (piece m P c e k) (λ y. ShowsSpe new y.spe × ShowsMemory memory y.memory reserved)
-piece-made new P memory m reserved store store2 c e k stalls put_it d x may at p number same stalled puts stores copies shows =
+    → Makes (Some r) (piece m P c e k) (λ z y. ShowsSpe new y.spe × ShowsMemory memory y.memory reserved × Reaches z m reserved y)
+piece-made new P memory m reserved store store2 c e k stalls d x r may at p number same stalled stores copies reaches shows =
     let Q : Spe = after_part P c e k d in
     let was : Q.store ≡ store = notified-store P (with_done P.moves c e k) c d ∙ same in
-    let left : piece_of m P c k d x ≡ copied m Q put_it (part_in x k) =
-    ap (λ n. copied m (after_part P c n k d) (is_put d.kind) (part_in x k)) number ∙ ap (λ b. copied m Q b (part_in x k)) (sym puts) in
-    let spe : ShowsSpe new (copied m Q put_it (part_in x k)).spe =
+    let left : piece_of m P c k d x ≡ moved m Q d.kind (part_in x k) = ap (λ n. moved m (after_part P c n k d) d.kind (part_in x k)) number in
+    let spe : ShowsSpe new (moved m Q d.kind (part_in x k)).spe =
     subst (ShowsSpe new) (told-as P store2 (with_done P.moves c e k) c d stalls stalled ∙ sym (stores Q was)) shows in
-    rw (piece-on m P c e k d x may at p ∙ ap (λ y. Some y) left) (spe, copies Q was)
+    rw (piece-on m P c e k d x may at p ∙ ap (λ y. Some y) left) (spe, copies Q was, reaches Q was)
 
 -- a command that may be retired isn't moved
 pub retire-facts : (P : Spe) (c : ℕ) → may_retire P c ≡ true → (d : Command) × (slice_get P.moves.issued c ≡ Some d) × (is_moved d ≡ false)
@@ -199,6 +226,11 @@ pub part-number : (m : Moves) (c e k : ℕ) (d : Command) (x : Element) → has_
 part-number m c e k d x has p =
     let f = part-facts m c e k d has in
     subst (λ (y : Element). y.number ≡ e) (some_same f.element x (sym f.present_is ∙ p)) f.number
+
+pub part-inside : (m : Moves) (c e k : ℕ) (d : Command) (x : Element) → has_part m c e k d ≡ true → present m.read c d ≡ Some x → k < parts_in x
+part-inside m c e k d x has p =
+    let f = part-facts m c e k d has in
+    subst (λ y. k < parts_in y) (some_same f.element x (sym f.present_is ∙ p)) f.within
 
 -- ---- an element is read
 

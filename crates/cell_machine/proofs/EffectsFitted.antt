@@ -9,7 +9,7 @@ use Rattle.cell_base.specs.Bytes.{put}
 use Rattle.cell_base.specs.declared.steps.Step.{Step}
 use Rattle.cell_base.specs.declared.steps.Step.TheVariants.{Exec, Piece, Elem, Retire, Atomic, Host}
 use Rattle.cell_host.specs.declared.HostAction.{HostAction}
-use Rattle.cell_host.specs.declared.HostAction.TheVariants.{Send, Take as TakeOut, TakeIntr, Store, Await}
+use Rattle.cell_host.specs.declared.HostAction.TheVariants.{Send, Take as TakeOut, TakeIntr, Store, Await, Signal as SignalTo}
 use Rattle.spu_decode.specs.declared.Instr.{Instr}
 use Rattle.spu_decode.proofs.DecodeLemmas.{instr_of-FieldsFit}
 use Rattle.spu_regs.specs.Registers.{register}
@@ -18,7 +18,7 @@ use Rattle.local_store.specs.Store.{word_at}
 use Rattle.mfc_command.specs.declared.command.Command.{Command}
 use Rattle.mfc_command.specs.declared.command.AtomicOp.{AtomicOp}
 use Rattle.mfc_command.specs.declared.command.Kind.{Kind}
-use Rattle.mfc_command.specs.declared.command.Kind.TheVariants.{Put, Get, PutList, GetList, Barrier, PutQueued}
+use Rattle.mfc_command.specs.declared.command.Kind.TheVariants.{Put, Get, PutList, GetList, Barrier, PutQueued, Signal}
 use Rattle.mfc_command.specs.declared.command.Order.TheVariants.{Atomic as AtomicOrder}
 use Rattle.mfc_command.specs.declared.range.Part.{Part}
 use Rattle.mfc_command.specs.Check.{KindFits, OrderFits}
@@ -32,22 +32,23 @@ use Rattle.cell_machine.specs.Spe.{Spe}
 use Rattle.cell_machine.specs.State.{State}
 use Rattle.cell_machine.specs.Memory.{MainMemory}
 use Rattle.cell_machine.specs.Moves.{read_of, elements_in, elements_of, parts_in}
-use Rattle.cell_machine.specs.Shows.{IsBounded}
+use Rattle.cell_machine.specs.Shows.{IsBounded, IsSignal}
 use Rattle.cell_machine.specs.Limits.{FitsAction}
-use Rattle.cell_machine.specs.Transfers.{may_piece, may_elem, has_part, has_element, is_put, part_in, piece_of, next_at, Left}
+use Rattle.cell_machine.specs.Transfers.{may_piece, may_elem, has_part, has_element, is_put, is_signal, part_in, piece_of, next_at, Left}
 use Rattle.cell_machine.specs.Atomic.{Fate, Got, Stored, Lost, after_atomic, fate, line_part}
 use Rattle.cell_machine.specs.Hosts.{acted}
 use Rattle.cell_machine.specs.Next.{own}
-use Rattle.cell_machine.specs.Effects.{effect_of, host_effect, instr, loads_at, stores_at, exec_effect, copy_effect, line_effect, quad_in, host_writes}
+use Rattle.cell_machine.specs.Effects.{effect_of, host_effect, instr, loads_at, stores_at, exec_effect, copy_effect, part_effect, signal_effect, line_effect, quad_in, host_writes}
 use Rattle.cell_machine.specs.EffectLaws.{bytes_of, new_bytes, new_of, same_place, maker}
-use Rattle.cell_machine.specs.Written.{stored_by, host_bytes, line_written, written_by}
+use Rattle.cell_machine.specs.Written.{Given, Copy, stored_by, host_bytes, line_written, piece_written, written_by}
 use Rattle.cell_machine.specs.Sound.{AreFew, IsWhole, IsSound, EachByte, EffectsFit}
 use Rattle.cell_machine.proofs.Same.{some_same}
 use Rattle.cell_machine.proofs.Elements.{part-is, element-is, list-elements}
-use Rattle.cell_machine.proofs.Controllers.{element-fits}
+use Rattle.cell_machine.proofs.Controllers.{element-fits, element-signal}
+use Rattle.cell_machine.proofs.Raising.{signal-part, signal-first}
 use Rattle.cell_machine.proofs.Bounds.{passes}
 use Rattle.cell_machine.proofs.BytesLaws.{length-range, get-put}
-use Rattle.cell_machine.proofs.StepBytes.{own_effect, own_bytes, own_range, own_new, none_is, of_map, of_then, exec-is, piece-is, elem-is, retire-is, atomic-is, has-left, written_at}
+use Rattle.cell_machine.proofs.StepBytes.{own_effect, own_bytes, own_range, own_new, none_is, of_map, of_then, exec-is, piece-is, elem-is, retire-is, atomic-is, has-left, written_at, written_piece}
 use Rattle.cell_machine.proofs.StepSame.{looks-own}
 use Rattle.cell_machine.proofs.StateBytes.{effect-own, new-own, bytes-own, there}
 use Rattle.cell_machine.proofs.EffectBytes.{writes-alone}
@@ -107,16 +108,36 @@ part_within lines x k fits h = on (x.size == 0) refl h
         let there = fits.memory in
         (omega arith, omega arith)
 
-piece_fits : (p q c e0 k lines n : ℕ) (P : Spe) (m : MainMemory) (x : Left) (e : Effect) → length m.bytes ≡ 128 * lines → length P.store ≡ 262144 → IsBounded lines n P
-    → own m (Piece q c e0 k) P ≡ Some x → own_effect p m (Piece q c e0 k) P ≡ Some e → OwnFits (own_range e.reads m.bytes P.store) P m e
+-- the four bytes of a signal lie in the store
+signal_within : (z : Element) (k : ℕ) → IsSignal z → k < parts_in z → (part_in z k).ls + 4 ≤ 262144
+signal_within z k is less =
+    let part : part_in z k ≡ record { ls = z.ls; ea = z.ea; len = 4 } = ap (part_in z) (signal-first z k is less) ∙ signal-part z is in
+    let low : z.ls + 4 ≤ 262144 = let a = is.store in let b = is.size in omega arith in
+    subst (λ (y : Part). y.ls + 4 ≤ 262144) (sym part) low
+
+part_fits : (spes p : ℕ) (P : Spe) (x : Left) (m : MainMemory) (lines : ℕ) (d : Command) (part : Part) → length m.bytes ≡ 128 * lines → length P.store ≡ 262144
+    → part.ls + part.len ≤ 262144 → part.ea + part.len ≤ 128 * lines → (is_signal d.kind ≡ true → part.ls + 4 ≤ 262144)
+    → OwnFits (new_of (piece_written d.kind) (own_range (part_effect spes p d part x).reads m.bytes P.store)) P m (part_effect spes p d part x)
+part_fits spes p P x m lines d part long store within there signal = on (is_signal d.kind) signal
+  where
+    effect_by : Bool → Effect
+    effect_by b = cond b (signal_effect spes p part x) (copy_effect p (is_put d.kind) part x.spe)
+
+    on : (b : Bool) → (b ≡ true → part.ls + 4 ≤ 262144) → OwnFits (new_of (cond b (Given []) Copy) (own_range (effect_by b).reads m.bytes P.store)) P m (effect_by b)
+    on true low = record { new_is = refl; writes = omega arith; reads = let l = low refl in omega arith }
+    on false low = copy_fits p P x.spe m lines part (is_put d.kind) long store within there
+
+piece_fits : (spes p q c e0 k lines n : ℕ) (P : Spe) (m : MainMemory) (x : Left) (e : Effect) → length m.bytes ≡ 128 * lines → length P.store ≡ 262144 → IsBounded lines n P
+    → own m (Piece q c e0 k) P ≡ Some x → own_effect spes p m (Piece q c e0 k) P ≡ Some e → OwnFits (own_new m (Piece q c e0 k) P e) P m e
 unfolding may_piece
-piece_fits p q c e0 k lines n P m x e long store bounded is effect =
-    piece-is p q c e0 k m P x e (λ y f. OwnFits (own_range f.reads m.bytes P.store) P m f) is effect (λ d z may at there.
+piece_fits spes p q c e0 k lines n P m x e long store bounded is effect =
+    piece-is spes p q c e0 k m P x e (λ y f. OwnFits (own_new m (Piece q c e0 k) P f) P m f) is effect (λ d z may at there.
     let of = part-is P.moves c e0 k d (passes P c (has_part P.moves c e0 k) d may at) in
     let same : of.element ≡ z = some_same of.element z (sym of.there ∙ there) in
     let fits = element-fits lines n P c d z bounded at of.moved there in
     let within = part_within lines z k fits (subst (λ y. k < parts_in y) same of.within) in
-    copy_fits p P (piece_of m P c k d z).spe m lines (part_in z k) (is_put d.kind) long store within.0 within.1)
+    let w = written_piece m q c e0 k P d at in
+    rw w (part_fits spes p P (piece_of m P c k d z) m lines d (part_in z k) long store within.0 within.1 (λ is. signal_within z k (element-signal lines n P c d z bounded at there is) (subst (λ y. k < parts_in y) same of.within))))
 
 -- ---- an element
 
@@ -131,6 +152,7 @@ list_fits lines d PutList l f = f.store
 list_fits lines d GetList l f = f.store
 list_fits lines d Barrier l f = absurd (true≢false (sym l))
 list_fits lines d PutQueued l f = absurd (true≢false (sym l))
+list_fits lines d Signal l f = absurd (true≢false (sym l))
 
 next_within : (lines n c : ℕ) (P : Spe) (d : Command) → IsBounded lines n P → AreFew P.moves → slice_get P.moves.issued c ≡ Some d → has_element P.moves c d ≡ true → next_at P.moves c d + 8 ≤ 262144
 next_within lines n c P d bounded few at has =
@@ -143,11 +165,11 @@ next_within lines n c P d bounded few at has =
     let differs : length (elements_of P.moves.read c d) ≢ elements_in d = grind (arith, nat_tests) in
     element_within d.ea d.size (length (read_of P.moves.read c)) (list_fits lines d d.kind list (bounded.fits c d at)) (omega arith) (λ h. differs (read ∙ h ∙ sym in_all))
 
-elem_fits : (p q c lines n : ℕ) (P : Spe) (m : MainMemory) (x : Left) (e : Effect) → length P.store ≡ 262144 → AreFew P.moves → IsBounded lines n P
-    → own m (Elem q c) P ≡ Some x → own_effect p m (Elem q c) P ≡ Some e → OwnFits [] P m e
+elem_fits : (spes p q c lines n : ℕ) (P : Spe) (m : MainMemory) (x : Left) (e : Effect) → length P.store ≡ 262144 → AreFew P.moves → IsBounded lines n P
+    → own m (Elem q c) P ≡ Some x → own_effect spes p m (Elem q c) P ≡ Some e → OwnFits [] P m e
 unfolding may_elem
-elem_fits p q c lines n P m x e store few bounded is effect =
-    elem-is p q c m P x e (λ y f. OwnFits [] P m f) is effect (λ d may at.
+elem_fits spes p q c lines n P m x e store few bounded is effect =
+    elem-is spes p q c m P x e (λ y f. OwnFits [] P m f) is effect (λ d may at.
     let within = next_within lines n c P d bounded few at (passes P c (has_element P.moves c) d may at) in
     record { new_is = refl; writes = omega arith; reads = omega arith })
 
@@ -159,24 +181,24 @@ line_fits p P Q m lines a Got long store fits = let l = fits.1 in copy_fits p P 
 line_fits p P Q m lines a Stored long store fits = let l = fits.1 in copy_fits p P Q m lines (line_part a) true long store fits.0 (omega arith)
 line_fits p P Q m lines a Lost long store fits = let l = fits.1 in record { new_is = refl; writes = omega arith; reads = omega arith }
 
-atomic_fits : (p q lines n : ℕ) (P : Spe) (m : MainMemory) (x : Left) (e : Effect) → length m.bytes ≡ 128 * lines → length P.store ≡ 262144 → IsBounded lines n P
-    → own m (Atomic q) P ≡ Some x → own_effect p m (Atomic q) P ≡ Some e → OwnFits (own_new m (Atomic q) P e) P m e
-atomic_fits p q lines n P m x e long store bounded is effect =
-    atomic-is p q m P x e (λ y f. OwnFits (own_new m (Atomic q) P f) P m f) is effect (λ a may at.
+atomic_fits : (spes p q lines n : ℕ) (P : Spe) (m : MainMemory) (x : Left) (e : Effect) → length m.bytes ≡ 128 * lines → length P.store ≡ 262144 → IsBounded lines n P
+    → own m (Atomic q) P ≡ Some x → own_effect spes p m (Atomic q) P ≡ Some e → OwnFits (own_new m (Atomic q) P e) P m e
+atomic_fits spes p q lines n P m x e long store bounded is effect =
+    atomic-is spes p q m P x e (λ y f. OwnFits (own_new m (Atomic q) P f) P m f) is effect (λ a may at.
     let w = written_at m q P a at in
     let fits = subst (λ o. IfSome o (λ a. OrderFits lines (AtomicOrder a))) at bounded.slot in
     rw w (line_fits p P (after_atomic m P a).spe m lines a (fate m P a) long store fits))
 
 -- ---- all of them
 
-own_fits : (p lines n : ℕ) (m : MainMemory) (s : Step) (P : Spe) (x : Left) (e : Effect) → length m.bytes ≡ 128 * lines → IsWhole P → IsBounded lines n P → own m s P ≡ Some x → own_effect p m s P ≡ Some e
+own_fits : (spes p lines n : ℕ) (m : MainMemory) (s : Step) (P : Spe) (x : Left) (e : Effect) → length m.bytes ≡ 128 * lines → IsWhole P → IsBounded lines n P → own m s P ≡ Some x → own_effect spes p m s P ≡ Some e
     → OwnFits (own_new m s P e) P m e
-own_fits p lines n m (Exec q) P x e long whole bounded is effect = exec-is p q m P x e (λ y f. OwnFits (stored_by P (instr P)) P m f) is effect (λ Q at. exec_fits p P Q m whole)
-own_fits p lines n m (Piece q c e0 k) P x e long whole bounded is effect = piece_fits p q c e0 k lines n P m x e long whole.store bounded is effect
-own_fits p lines n m (Elem q c) P x e long whole bounded is effect = elem_fits p q c lines n P m x e whole.store whole.few bounded is effect
-own_fits p lines n m (Retire q c) P x e long whole bounded is effect = retire-is p q c m P x e (λ y f. OwnFits [] P m f) is effect (λ may. record { new_is = refl; writes = omega arith; reads = omega arith })
-own_fits p lines n m (Atomic q) P x e long whole bounded is effect = atomic_fits p q lines n P m x e long whole.store bounded is effect
-own_fits p lines n m Host P x e long whole bounded is effect = none_is _ x is
+own_fits spes p lines n m (Exec q) P x e long whole bounded is effect = exec-is spes p q m P x e (λ y f. OwnFits (stored_by P (instr P)) P m f) is effect (λ Q at. exec_fits p P Q m whole)
+own_fits spes p lines n m (Piece q c e0 k) P x e long whole bounded is effect = piece_fits spes p q c e0 k lines n P m x e long whole.store bounded is effect
+own_fits spes p lines n m (Elem q c) P x e long whole bounded is effect = elem_fits spes p q c lines n P m x e whole.store whole.few bounded is effect
+own_fits spes p lines n m (Retire q c) P x e long whole bounded is effect = retire-is spes p q c m P x e (λ y f. OwnFits [] P m f) is effect (λ may. record { new_is = refl; writes = omega arith; reads = omega arith })
+own_fits spes p lines n m (Atomic q) P x e long whole bounded is effect = atomic_fits spes p q lines n P m x e long whole.store bounded is effect
+own_fits spes p lines n m Host P x e long whole bounded is effect = none_is _ x is
 
 -- ---- in the whole state
 
@@ -188,10 +210,10 @@ pub record FitsSpans (M : State) (s : Step) (e : Effect) : Type 0 where
 
 fits_own : (lines n : ℕ) (M : State) (s : Step) (p : ℕ) (P : Spe) (e : Effect) → maker s ≡ Some p → slice_get M.spes p ≡ Some P → IsSound lines n M → effect_of M s ≡ Some e → FitsSpans M s e
 fits_own lines n M s p P e by at sound effect =
-    let f : own_effect p M.memory s P ≡ Some e = sym (effect-own M s p P by at) ∙ effect in
-    let x = has-left p M.memory s P e f in
-    let looks = looks-own p M.memory s P x.0 e x.1 f in
-    let fits = own_fits p lines n M.memory s P x.0 e sound.long (sound.whole p P at) (sound.bounded p P at) x.1 f in
+    let f : own_effect (length M.spes) p M.memory s P ≡ Some e = sym (effect-own M s p P by at) ∙ effect in
+    let x = has-left (length M.spes) p M.memory s P e f in
+    let looks = looks-own (length M.spes) p M.memory s P x.0 e x.1 f in
+    let fits = own_fits (length M.spes) p lines n M.memory s P x.0 e sound.long (sound.whole p P at) (sound.bounded p P at) x.1 f in
     let new = new-own M s p P e by at looks.1 in
     let w = bytes-own M p P e.writes.place at looks.2 in
     let r = bytes-own M p P e.reads.place at looks.1 in
@@ -211,6 +233,7 @@ action_fits lines spes M (TakeOut p) long fits = (refl, omega arith)
 action_fits lines spes M (TakeIntr p) long fits = (refl, omega arith)
 action_fits lines spes M (Store ea len bytes) long fits = let a = fits.1 in let b = fits.3 in let full = fits.4 in let c = length-take len bytes in (omega arith, omega arith)
 action_fits lines spes M (Await p) long fits = (refl, omega arith)
+action_fits lines spes M (SignalTo p r value) long fits = (refl, omega arith)
 
 fits_host : (lines n : ℕ) (M : State) (e : Effect) → IsSound lines n M → effect_of M Host ≡ Some e → FitsSpans M Host e
 unfolding effect_of written_by
@@ -241,20 +264,31 @@ line_fetch p P Q m a Got = omega arith
 line_fetch p P Q m a Stored = omega arith
 line_fetch p P Q m a Lost = omega arith
 
-own_fetch : (p : ℕ) (m : MainMemory) (s : Step) (P : Spe) (x : Left) (e : Effect) → length P.store ≡ 262144 → IsPlace P.pc → own m s P ≡ Some x → own_effect p m s P ≡ Some e
+part_fetch : (spes p : ℕ) (P : Spe) (m : MainMemory) (d : Command) (part : Part) (x : Left)
+    → (part_effect spes p d part x).fetch.at + (part_effect spes p d part x).fetch.len ≤ length (own_bytes (part_effect spes p d part x).fetch.place m.bytes P.store)
+part_fetch spes p P m d part x = on (is_signal d.kind)
+  where
+    effect_by : Bool → Effect
+    effect_by b = cond b (signal_effect spes p part x) (copy_effect p (is_put d.kind) part x.spe)
+
+    on : (b : Bool) → (effect_by b).fetch.at + (effect_by b).fetch.len ≤ length (own_bytes (effect_by b).fetch.place m.bytes P.store)
+    on true = omega arith
+    on false = omega arith
+
+own_fetch : (spes p : ℕ) (m : MainMemory) (s : Step) (P : Spe) (x : Left) (e : Effect) → length P.store ≡ 262144 → IsPlace P.pc → own m s P ≡ Some x → own_effect spes p m s P ≡ Some e
     → e.fetch.at + e.fetch.len ≤ length (own_bytes e.fetch.place m.bytes P.store)
-own_fetch p m (Exec q) P x e long place is effect =
-    exec-is p q m P x e (λ y f. f.fetch.at + f.fetch.len ≤ length (own_bytes f.fetch.place m.bytes P.store)) is effect
+own_fetch spes p m (Exec q) P x e long place is effect =
+    exec-is spes p q m P x e (λ y f. f.fetch.at + f.fetch.len ≤ length (own_bytes f.fetch.place m.bytes P.store)) is effect
     (λ Q at. let low = place.0 in let aligned = place.1 in omega arith)
-own_fetch p m (Piece q c e0 k) P x e long place is effect =
-    piece-is p q c e0 k m P x e (λ y f. f.fetch.at + f.fetch.len ≤ length (own_bytes f.fetch.place m.bytes P.store)) is effect (λ d z may at there. omega arith)
-own_fetch p m (Elem q c) P x e long place is effect =
-    elem-is p q c m P x e (λ y f. f.fetch.at + f.fetch.len ≤ length (own_bytes f.fetch.place m.bytes P.store)) is effect (λ d may at. omega arith)
-own_fetch p m (Retire q c) P x e long place is effect =
-    retire-is p q c m P x e (λ y f. f.fetch.at + f.fetch.len ≤ length (own_bytes f.fetch.place m.bytes P.store)) is effect (λ may. omega arith)
-own_fetch p m (Atomic q) P x e long place is effect =
-    atomic-is p q m P x e (λ y f. f.fetch.at + f.fetch.len ≤ length (own_bytes f.fetch.place m.bytes P.store)) is effect (λ a may at. line_fetch p P (after_atomic m P a).spe m a (fate m P a))
-own_fetch p m Host P x e long place is effect = none_is _ x is
+own_fetch spes p m (Piece q c e0 k) P x e long place is effect =
+    piece-is spes p q c e0 k m P x e (λ y f. f.fetch.at + f.fetch.len ≤ length (own_bytes f.fetch.place m.bytes P.store)) is effect (λ d z may at there. part_fetch spes p P m d (part_in z k) (piece_of m P c k d z))
+own_fetch spes p m (Elem q c) P x e long place is effect =
+    elem-is spes p q c m P x e (λ y f. f.fetch.at + f.fetch.len ≤ length (own_bytes f.fetch.place m.bytes P.store)) is effect (λ d may at. omega arith)
+own_fetch spes p m (Retire q c) P x e long place is effect =
+    retire-is spes p q c m P x e (λ y f. f.fetch.at + f.fetch.len ≤ length (own_bytes f.fetch.place m.bytes P.store)) is effect (λ may. omega arith)
+own_fetch spes p m (Atomic q) P x e long place is effect =
+    atomic-is spes p q m P x e (λ y f. f.fetch.at + f.fetch.len ≤ length (own_bytes f.fetch.place m.bytes P.store)) is effect (λ a may at. line_fetch p P (after_atomic m P a).spe m a (fate m P a))
+own_fetch spes p m Host P x e long place is effect = none_is _ x is
 
 FetchFits : State → Effect → Type 0
 FetchFits M e = e.fetch.at + e.fetch.len ≤ length (bytes_of M e.fetch.place)
@@ -262,11 +296,11 @@ FetchFits M e = e.fetch.at + e.fetch.len ≤ length (bytes_of M e.fetch.place)
 fetch_own : (lines n : ℕ) (M : State) (s : Step) (p : ℕ) (P : Spe) (e : Effect) → maker s ≡ Some p → slice_get M.spes p ≡ Some P → IsSound lines n M → IsPlace P.pc → effect_of M s ≡ Some e → FetchFits M e
 unfolding FetchFits
 fetch_own lines n M s p P e by at sound place effect =
-    let f : own_effect p M.memory s P ≡ Some e = sym (effect-own M s p P by at) ∙ effect in
-    let x = has-left p M.memory s P e f in
-    let looks = looks-own p M.memory s P x.0 e x.1 f in
+    let f : own_effect (length M.spes) p M.memory s P ≡ Some e = sym (effect-own M s p P by at) ∙ effect in
+    let x = has-left (length M.spes) p M.memory s P e f in
+    let looks = looks-own (length M.spes) p M.memory s P x.0 e x.1 f in
     let b = bytes-own M p P e.fetch.place at looks.0 in
-    rw b (own_fetch p M.memory s P x.0 e (sound.whole p P at).store place x.1 f)
+    rw b (own_fetch (length M.spes) p M.memory s P x.0 e (sound.whole p P at).store place x.1 f)
 
 fetch_host : (M : State) (e : Effect) → effect_of M Host ≡ Some e → FetchFits M e
 unfolding FetchFits effect_of

@@ -71,7 +71,7 @@ pub may-operate : (lines : ℕ) (c : Processor) (P : Spe) (i : Instr) (op : Chan
 may-operate lines c P i op b shows on some asks ready =
     let o = meaning i c.pc c.registers c.store in
     let Q : Spe = record P { registers = o.regs; store = o.store } in
-    ready lines Q (record { channels = shows.channels; tags = shows.tags; queue = shows.queue; inbound = shows.inbound; outbound = shows.outbound; interrupt = shows.interrupt })
+    ready lines Q (record { channels = shows.channels; tags = shows.tags; signals = shows.signals; events = shows.events; queue = shows.queue; inbound = shows.inbound; outbound = shows.outbound; interrupt = shows.interrupt })
     ∙ sym (ap is_some (exec-made lines c P i o shows on some refl ∙ follows-op lines Q o.flow op (sym asks)))
 
 pub may-go_on : (lines : ℕ) (c : Processor) (P : Spe) (i : Instr) → ShowsSpe c P → is_running c.status ≡ true → instr_of (word_at c.store c.pc) ≡ Some i

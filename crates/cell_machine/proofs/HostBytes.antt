@@ -5,7 +5,7 @@ use Rattle.std.specs.Option.{option_map_or}
 use Rattle.cell_base.specs.declared.steps.Step.{Step}
 use Rattle.cell_base.specs.declared.steps.Step.TheVariants.{Host}
 use Rattle.cell_host.specs.declared.HostAction.{HostAction}
-use Rattle.cell_host.specs.declared.HostAction.TheVariants.{Send, Take as TakeOut, TakeIntr, Store, Await}
+use Rattle.cell_host.specs.declared.HostAction.TheVariants.{Send, Take as TakeOut, TakeIntr, Store, Await, Signal as SignalTo}
 use Rattle.cell_host.specs.Script.{Progress, advanced}
 use Rattle.lock_lines.specs.Versions.{raised}
 use Rattle.cell_machine.specs.declared.effect.Place.{Place}
@@ -15,13 +15,14 @@ use Rattle.cell_machine.specs.Spe.{Spe, is_running}
 use Rattle.cell_machine.specs.Memory.{stored}
 use Rattle.cell_machine.specs.State.{State, with_spe}
 use Rattle.cell_machine.specs.Hosts.{Given as HostGiven, given, taken_of, taken_interrupt_of, Acted, acted, at_spe, after_action, host}
-use Rattle.cell_machine.specs.Next.{next, ended_by}
+use Rattle.cell_machine.specs.Next.{next, ended_by, with_events}
 use Rattle.cell_machine.specs.Effects.{effect_of, host_effect, host_writes}
 use Rattle.cell_machine.specs.EffectLaws.{bytes_of, new_bytes, put_in, at_store, bare, SameBut, DoesTheSame}
 use Rattle.cell_machine.specs.Written.{host_bytes, written_by}
 use Rattle.cell_machine.proofs.Same.{some_same}
 use Rattle.cell_machine.proofs.BytesLaws.{length-put-same}
 use Rattle.cell_machine.proofs.StepBytes.{none_is}
+use Rattle.cell_machine.proofs.Alike.{alike-store, events-alike}
 use Rattle.cell_machine.proofs.StateBytes.{store_of, store-settled, store-set, same-at, bare-set, same-ended}
 
 -- what an action takes of a processor has nothing to do with its store
@@ -50,6 +51,7 @@ given_moved (TakeOut p) P s = taken_moved P s P.outbound
 given_moved (TakeIntr p) P s = interrupt_moved P s P.interrupt
 given_moved (Store ea len bytes) P s = refl
 given_moved (Await p) P s = unless_moved s (is_running P.status) (record { spe = P; took = None }) _ refl
+given_moved (SignalTo p r value) P s = refl
 
 given_store : (P : Spe) (o : Option HostGiven) (g : HostGiven) → o ≡ option_map (moved_to P.store) o → o ≡ Some g → g.spe.store ≡ P.store
 given_store P None g h is = none_is _ g is
@@ -85,12 +87,13 @@ acted_frame M (Send p value) d place h = at_frame M p (Send p value) d place h �
 acted_frame M (TakeOut p) d place h = at_frame M p (TakeOut p) d place h ∙ sym (put_nowhere place _)
 acted_frame M (TakeIntr p) d place h = at_frame M p (TakeIntr p) d place h ∙ sym (put_nowhere place _)
 acted_frame M (Await p) d place h = at_frame M p (Await p) d place h ∙ sym (put_nowhere place _)
+acted_frame M (SignalTo p r value) d place h = at_frame M p (SignalTo p r value) d place h ∙ sym (put_nowhere place _)
 acted_frame M (Store ea len bytes) d Memory h = ap (λ (k : Acted). k.state.memory.bytes) (sym (some_same _ d h))
 acted_frame M (Store ea len bytes) d (Local q) h = ap (λ (k : Acted). store_of k.state.spes q) (sym (some_same _ d h))
 
 bytes_ended : (M : State) (s : Step) (d : Acted) (place : Place) → bytes_of (ended_by M s (after_action d)) place ≡ bytes_of d.state place
 bytes_ended M s d Memory = refl
-bytes_ended M s d (Local q) = store-settled d.state.spes q
+bytes_ended M s d (Local q) = store-settled (with_events M s (after_action d)).spes q ∙ sym (alike-store d.state.spes (with_events M s (after_action d)).spes q (events-alike M s (after_action d)))
 
 -- what the host's step did
 abbrev pub HostDid : State → State → Effect → Type 0
@@ -150,6 +153,7 @@ acts_same M N (Send p value) d same h = let r = at_same M N p (Send p value) d s
 acts_same M N (TakeOut p) d same h = let r = at_same M N p (TakeOut p) d same h in record { other = r.0; does = r.1; took = r.2; spes = r.3; long = r.4; versions = r.5; host = r.6 }
 acts_same M N (TakeIntr p) d same h = let r = at_same M N p (TakeIntr p) d same h in record { other = r.0; does = r.1; took = r.2; spes = r.3; long = r.4; versions = r.5; host = r.6 }
 acts_same M N (Await p) d same h = let r = at_same M N p (Await p) d same h in record { other = r.0; does = r.1; took = r.2; spes = r.3; long = r.4; versions = r.5; host = r.6 }
+acts_same M N (SignalTo p r0 value) d same h = let r = at_same M N p (SignalTo p r0 value) d same h in record { other = r.0; does = r.1; took = r.2; spes = r.3; long = r.4; versions = r.5; host = r.6 }
 acts_same M N (Store ea len bytes) d same h = subst (ActsSame N (Store ea len bytes)) (some_same _ d h) (record {
   other = record { state = record N { memory = stored N.memory ea (take len bytes) }; took = None };
   does = refl;

@@ -1,5 +1,7 @@
 pub mod AllTwo
 pub mod Steps
+pub mod Alike
+pub mod Raising
 pub mod Replays
 pub mod Choices
 pub mod Openings
@@ -8,13 +10,18 @@ pub mod MissesNone
 pub mod Runs
 pub mod Execs
 pub mod ChannelSteps
-pub mod HostSteps
 pub mod Same
 pub mod MovesShown
 pub mod ListsGo
 pub mod SpeShown
 pub mod Staying
 pub mod Bounds
+pub mod Calm
+pub mod Freed
+pub mod Ending
+pub mod Spreading
+pub mod HostGives
+pub mod HostSteps
 pub mod Places
 pub mod Completion
 pub mod CommandsShown
@@ -24,6 +31,8 @@ pub mod ListOrder
 pub mod Acknowledged
 pub mod Controllers
 pub mod MemoryShown
+pub mod Losing
+pub mod Moving
 pub mod AtomicSteps
 pub mod LocksKept
 pub mod LocksRun

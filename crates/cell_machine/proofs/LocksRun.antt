@@ -9,9 +9,11 @@ use Rattle.cell_base.specs.Bytes.{put, zeros}
 use Rattle.cell_base.specs.declared.steps.Step.{Step}
 use Rattle.cell_base.specs.declared.steps.Step.TheVariants.{Exec, Piece, Elem, Retire, Atomic, Host}
 use Rattle.cell_host.specs.declared.HostAction.{HostAction}
-use Rattle.cell_host.specs.declared.HostAction.TheVariants.{Send, Take, TakeIntr, Store, Await}
+use Rattle.cell_host.specs.declared.HostAction.TheVariants.{Send, Take, TakeIntr, Store, Await, Signal as SignalTo}
 use Rattle.cell_host.specs.Script.{Progress, advanced}
 use Rattle.mfc_command.specs.declared.command.AtomicOp.{AtomicOp}
+use Rattle.mfc_command.specs.declared.command.Kind.{Kind}
+use Rattle.mfc_command.specs.declared.command.Kind.TheVariants.{Put, Get, PutList, GetList, Barrier, PutQueued, Signal}
 use Rattle.mfc_command.specs.declared.command.AtomicKind.{AtomicKind}
 use Rattle.mfc_command.specs.declared.command.AtomicKind.TheVariants.{GetLine, PutCond, PutLine}
 use Rattle.mfc_command.specs.declared.command.Order.TheVariants.{Atomic as AtomicOrder}
@@ -28,10 +30,10 @@ use Rattle.cell_machine.specs.Memory.{MainMemory, stored, lines_of}
 use Rattle.cell_machine.specs.Moves.{present, parts_in}
 use Rattle.cell_machine.specs.Tags.{settled}
 use Rattle.cell_machine.specs.Exec.{exec}
-use Rattle.cell_machine.specs.Transfers.{Left, copied, is_put, part_in, piece, piece_of, after_part, has_part, may_piece, elem, retire}
+use Rattle.cell_machine.specs.Transfers.{Left, copied, sent, moved as moved_part, is_put, part_in, piece, piece_of, after_part, has_part, may_piece, elem, retire}
 use Rattle.cell_machine.specs.Atomic.{Fate, fate, reserved_after, answered, moved, line_part, after_atomic, may_atomic, atomic}
 use Rattle.cell_machine.specs.Hosts.{given, at_spe, acted, after_action, host as host_step}
-use Rattle.cell_machine.specs.Next.{act, act_in, own, next, left, with_left, ended_by}
+use Rattle.cell_machine.specs.Next.{act, act_in, own, next, left, with_left, ended_by, closed_in}
 use Rattle.cell_machine.specs.Opening.{Opening, InMemory, opening, opening_spe, filled}
 use Rattle.cell_machine.specs.Limits.{IsOpening, FitsAction, FitsMemory}
 use Rattle.cell_machine.specs.Run.{Ran, replay}
@@ -41,6 +43,7 @@ use Rattle.cell_machine.proofs.MovesShown.{get-within}
 use Rattle.cell_machine.proofs.Same.{some_same, eq_is}
 use Rattle.cell_machine.proofs.Elements.{part-is}
 use Rattle.cell_machine.proofs.Controllers.{element-fits}
+use Rattle.cell_machine.proofs.Alike.{alike-at, closed-alike, left-alike}
 use Rattle.cell_machine.proofs.Openings.{length-zeros, opening_bounded}
 use Rattle.cell_machine.proofs.Completion.{some-of}
 use Rattle.cell_machine.proofs.Bounds.{if_is, if_so, each_of, each_map, Moved, Seen, another, goes, is_at, executes, copies, reads, refuses, retires, locks, acts, passes, map-got, act-seen, act-bounded, act-length}
@@ -74,6 +77,18 @@ unfolding copied
 part_touches lines m P true x at within = let few = range-few P.store x.ls x.len in stores x.ea (slice_range P.store x.ls (x.ls + x.len)) refl refl at (omega arith)
 part_touches lines m P false x at within = leaves refl refl
 
+-- a part that is moved by a command of this kind
+kind_touches : (lines : ℕ) (m : MainMemory) (P : Spe) (kind : Kind) (x : Part) → x.ea < 128 * lines → x.ea + x.len ≤ 128 * lines
+    → Touches lines m (moved_part m P kind x).memory (cond (is_put kind) (Some (x.ea / 128)) None)
+unfolding sent
+kind_touches lines m P Put x at within = part_touches lines m P true x at within
+kind_touches lines m P Get x at within = part_touches lines m P false x at within
+kind_touches lines m P PutList x at within = part_touches lines m P true x at within
+kind_touches lines m P GetList x at within = part_touches lines m P false x at within
+kind_touches lines m P Barrier x at within = part_touches lines m P false x at within
+kind_touches lines m P PutQueued x at within = part_touches lines m P true x at within
+kind_touches lines m P Signal x at within = leaves refl refl
+
 -- each part of an element that fits lies in the memory
 part-within : (lines : ℕ) (x : Element) (k : ℕ) → ElementFits lines x → k < parts_in x
     → ((part_in x k).ea < 128 * lines) × ((part_in x k).ea + (part_in x k).len ≤ 128 * lines)
@@ -97,7 +112,7 @@ piece_touches lines n m P c e k bounded = if_so (may_piece P c e k) _ R (λ may.
     let same : of.element ≡ x = some_same of.element x (sym of.there ∙ there) in
     let fits = element-fits lines n P c d x bounded at of.moved there in
     let within = part-within lines x k fits (subst (λ y. k < parts_in y) same of.within) in
-    rw (at, there) (part_touches lines m (after_part P c x.number k d) (is_put d.kind) (part_in x k) within.0 within.1))))
+    rw (at, there) (kind_touches lines m (after_part P c x.number k d) d.kind (part_in x k) within.0 within.1))))
   where
     R : Left → Type 0
     R x = Touches lines m x.memory (option_and_then (stored_by_piece P.moves c k) (slice_get P.moves.issued c))
@@ -160,6 +175,7 @@ action_acts lines spes M (Store ea len bytes) fits by =
     let there = fits.3 in
     record { touches = stores ea (take len bytes) refl by (omega arith) (omega arith); script = refl }
 action_acts lines spes M (Await p) fits by = given_acts lines M p (Await p) by
+action_acts lines spes M (SignalTo p r value) fits by = given_acts lines M p (SignalTo p r value) by
 
 host_acts : (lines spes : ℕ) (M : State) → All (FitsAction lines spes) M.host.script → IfSome (host_step M) (Acts lines Host M)
 unfolding host_step
@@ -227,18 +243,21 @@ set_is (z ∷ xs) zero y x h = cc
 set_is (z ∷ xs) (suc p) y x h = set_is xs p y x h
 
 atomic_reserved : (M : State) (p : ℕ) (P : Spe) → slice_get M.spes p ≡ Some P
-    → IfSome (act M (Atomic p)) (λ N. (Q : Spe) → slice_get (map settled N.spes) p ≡ Some Q → Q.reserved ≡ locked_by M.memory.versions P P.channels.slot)
+    → IfSome (act M (Atomic p)) (λ N. (Q : Spe) → slice_get ((closed_in M (Atomic p) N).spes) p ≡ Some Q → Q.reserved ≡ locked_by M.memory.versions P P.channels.slot)
 unfolding atomic
 atomic_reserved M p P at =
     rw at (if_map_so (atomic M.memory P) (with_left M p) R (if_so (may_atomic P) _ (λ x. R (with_left M p x)) (λ may.
     each_map P.channels.slot (after_atomic M.memory P) (λ x. R (with_left M p x)) (λ a slot Q got.
-    let one = map-got settled (slice_set M.spes p (after_atomic M.memory P a).spe) p Q got in
+    let x = after_atomic M.memory P a in
+    let base = slice_set M.spes p x.spe in
+    let was = alike-at (closed_in M (Atomic p) (with_left M p x)).spes (map settled base) p Q (sym (closed-alike M (Atomic p) (with_left M p x) base (left-alike M p x))) got in
+    let one = map-got settled base p was.0 was.1 in
     let same : (after_atomic M.memory P a).spe ≡ one.0 = set_is M.spes p (after_atomic M.memory P a).spe one.0 one.1 in
-    ap (λ (x : Spe). x.reserved) (sym one.2) ∙ ap (λ (x : Spe). x.reserved) (sym same)
+    ap (λ (x : Spe). x.reserved) was.2 ∙ ap (λ (x : Spe). x.reserved) (sym one.2) ∙ ap (λ (x : Spe). x.reserved) (sym same)
     ∙ moved_reserved M.memory (answered M.memory P a) a (fate M.memory P a) ∙ ap (locked_by M.memory.versions P) (sym slot)))))
   where
     R : State → Type 0
-    R N = (Q : Spe) → slice_get (map settled N.spes) p ≡ Some Q → Q.reserved ≡ locked_by M.memory.versions P P.channels.slot
+    R N = (Q : Spe) → slice_get ((closed_in M (Atomic p) N).spes) p ≡ Some Q → Q.reserved ≡ locked_by M.memory.versions P P.channels.slot
 
     if_map_so : (o : Option Left) (f : Left → State) (T : State → Type 0) → IfSome o (λ x. T (f x)) → IfSome (option_map f o) T
     if_map_so None f T h = tt
@@ -256,29 +275,30 @@ other-next versions Host p P h = refl
 own-next : (versions : List ℕ) (p : ℕ) (P : Spe) → reserved_next versions (Atomic p) p P ≡ locked_by versions P P.channels.slot
 own-next versions p P = let same : (p == p) ≡ true = grind (arith, nat_tests) in rw same refl
 
-seen-reserved : (M : State) (s : Step) (K : State) (p : ℕ) (P Q : Spe) → act M s ≡ Some K → slice_get M.spes p ≡ Some P → slice_get (map settled K.spes) p ≡ Some Q
+seen-reserved : (M : State) (s : Step) (K : State) (p : ℕ) (P Q : Spe) → act M s ≡ Some K → slice_get M.spes p ≡ Some P → slice_get (closed_in M s K).spes p ≡ Some Q
     → Seen (lines_of M.memory) s p P Q → Q.reserved ≡ reserved_next M.memory.versions s p P
 seen-reserved M s K p P Q e at got (another other moves status same) = same ∙ sym (other-next M.memory.versions s p P other)
-seen-reserved M s K p P Q e at got (goes g) = on s e g.moved g.reserved
+seen-reserved M s K p P Q e at got (goes g) = on s e got g.moved g.reserved
   where
-    on : (t : Step) → act M t ≡ Some K → Moved (lines_of M.memory) t p P Q → ((t ≡ Atomic p → ⊥) → Q.reserved ≡ P.reserved) → Q.reserved ≡ reserved_next M.memory.versions t p P
-    on (Exec q) f m stays = stays (λ a. cc)
-    on (Piece q c d k) f m stays = stays (λ a. cc)
-    on (Elem q c) f m stays = stays (λ a. cc)
-    on (Retire q c) f m stays = stays (λ a. cc)
-    on Host f m stays = stays (λ a. cc)
-    on (Atomic q) f (locks of same) stays =
+    on : (t : Step) → act M t ≡ Some K → slice_get (closed_in M t K).spes p ≡ Some Q → Moved (lines_of M.memory) t p P Q → ((t ≡ Atomic p → ⊥) → Q.reserved ≡ P.reserved) → Q.reserved ≡ reserved_next M.memory.versions t p P
+    on (Exec q) f h m stays = stays (λ a. cc)
+    on (Piece q c d k) f h m stays = stays (λ a. cc)
+    on (Elem q c) f h m stays = stays (λ a. cc)
+    on (Retire q c) f h m stays = stays (λ a. cc)
+    on Host f h m stays = stays (λ a. cc)
+    on (Atomic q) f h (locks of same) stays =
         let own : q ≡ p = cc in
         let own_act : act M (Atomic p) ≡ Some K = subst (λ i. act M (Atomic i) ≡ Some K) own f in
+        let own_got : slice_get (closed_in M (Atomic p) K).spes p ≡ Some Q = subst (λ i. slice_get (closed_in M (Atomic i) K).spes p ≡ Some Q) own h in
         subst (λ i. Q.reserved ≡ reserved_next M.memory.versions (Atomic i) p P) (sym own)
-        (if_is (act M (Atomic p)) K (λ N. (R : Spe) → slice_get (map settled N.spes) p ≡ Some R → R.reserved ≡ locked_by M.memory.versions P P.channels.slot) own_act (atomic_reserved M p P at) Q got
+        (if_is (act M (Atomic p)) K (λ N. (R : Spe) → slice_get ((closed_in M (Atomic p) N).spes) p ≡ Some R → R.reserved ≡ locked_by M.memory.versions P P.channels.slot) own_act (atomic_reserved M p P at) Q own_got
         ∙ sym (own-next M.memory.versions p P))
-    on (Atomic q) f (executes of d) stays = absurd (cc)
-    on (Atomic q) f (copies c b k d of there has same) stays = absurd (cc)
-    on (Atomic q) f (reads c d x of there has is same) stays = absurd (cc)
-    on (Atomic q) f (refuses c of fault same) stays = absurd (cc)
-    on (Atomic q) f (retires c d of there is same) stays = absurd (cc)
-    on (Atomic q) f (acts of same) stays = absurd (cc)
+    on (Atomic q) f h (executes of d) stays = absurd (cc)
+    on (Atomic q) f h (copies c b k d of there has same) stays = absurd (cc)
+    on (Atomic q) f h (reads c d x of there has is same) stays = absurd (cc)
+    on (Atomic q) f h (refuses c of fault same) stays = absurd (cc)
+    on (Atomic q) f h (retires c d of there is same) stays = absurd (cc)
+    on (Atomic q) f h (acts of same) stays = absurd (cc)
 
 -- ---- one step of a run
 
@@ -289,10 +309,10 @@ map-is f (Some x) y h = (x, refl, (cc))
 step_acts : (S : Opening) (M : State) (s : Step) (K : State) → Holds S M → act M s ≡ Some K → Acts S.lines s M K
 step_acts S M s K holds e = if_is (act M s) K (Acts S.lines s M) e (act-acts S.lines holds.issued (length S.entries) M s holds.bounded holds.fits)
 
-act-stepped : (S : Opening) (M : State) (s : Step) (K : State) (p : ℕ) (Q : Spe) → Holds S M → act M s ≡ Some K → slice_get (map settled K.spes) p ≡ Some Q
+act-stepped : (S : Opening) (M : State) (s : Step) (K : State) (p : ℕ) (Q : Spe) → Holds S M → act M s ≡ Some K → slice_get (closed_in M s K).spes p ≡ Some Q
     → (P : Spe) × (slice_get M.spes p ≡ Some P) × Stepped M s (ended_by M s K) p P Q
 act-stepped S M s K p Q holds e got =
-    let within : p < length M.spes = let w = get-within (map settled K.spes) p Q got in let c = act-length M s K e in omega arith in
+    let within : p < length M.spes = let w = get-within (closed_in M s K).spes p Q got in let c = act-length M s K e in omega arith in
     let P : Spe = slice_index_or M.spes p Q in
     let at : slice_get M.spes p ≡ Some P = slice_get-get_or M.spes p Q within in
     let seen = act-seen M s K p P e at in
@@ -380,7 +400,7 @@ opening-holds S is = record {
   long = fill-length S.lines (zeros (128 * S.lines)) S.memory (length-zeros (128 * S.lines)) is.memory;
   versions = length-replicate S.lines 0;
   issued = 0;
-  bounded = opening_bounded S;
+  bounded = opening_bounded S is.limits.0;
   fits = is.actions;
   past = λ p P at r e. absurd (let f : None ≡ Some r = sym (opening-none S p P at) ∙ e in cc);
 }

@@ -1,8 +1,9 @@
 -- What the code's memory shows after a store, a GETLLAR and a PUTLLC.
-use Rattle.std.proofs.Common.{◌≡◌, ℕ, zero, suc, ◌+◌, ◌*◌, ◌/◌, Bool, true, false, List, [], ◌∷◌, arith, refl, sym, ◌∙◌, ap, subst, slice_set, slice_index_or}
-use Rattle.std.specs.Prelude.{Option, Some, None, slice_get, slice_range, replicate, if◌then◌else◌}
+use Rattle.std.proofs.Common.{◌≡◌, ℕ, zero, suc, ◌+◌, ◌*◌, ◌/◌, ◌&&◌, Bool, true, false, List, [], ◌∷◌, arith, refl, sym, ◌∙◌, ap, subst, slice_set, slice_index_or}
+use Rattle.std.specs.Prelude.{Option, Some, None, slice_get, slice_range, replicate, not, if◌then◌else◌}
 use Rattle.std.specs.Option.{option_map_or}
 use Rattle.cell_base.specs.Bytes.{put}
+use Rattle.cell_base.proofs.BitLaws.{bit-none}
 use Rattle.lock_lines.specs.declared.Lock.{Lock}
 use Rattle.lock_lines.specs.declared.Lock.TheVariants.{Stored, Lost}
 use Rattle.lock_lines.specs.Calls.{answer_of}
@@ -14,7 +15,7 @@ use Rattle.cell_machine.specs.Memory.{MainMemory, stored}
 use Rattle.mfc_command.specs.declared.range.Part.{Part}
 use Rattle.cell_machine.specs.Transfers.{copied}
 use Rattle.cell_machine.specs.Atomic.{holds}
-use Rattle.cell_machine.specs.Shows.{ShowsMemory}
+use Rattle.cell_machine.specs.Shows.{ShowsMemory, is_held, Loses}
 
 -- the versions of the memory, with these reservations
 abbrev pub versions_of : MainMemory → List (Option Reserved) → Versions
@@ -29,7 +30,7 @@ store-shows old new m reserved at bytes is does shows = record {
   versions = does (versions_of m reserved) shows.versions;
 }
 
-index-got : {X : Type 0} (xs : List X) (i : ℕ) (x d : X) → slice_get xs i ≡ Some x → slice_index_or xs i d ≡ x
+pub index-got : {X : Type 0} (xs : List X) (i : ℕ) (x d : X) → slice_get xs i ≡ Some x → slice_index_or xs i d ≡ x
 index-got [] i x d h = absurd (cc)
 index-got (y ∷ ys) zero x d h = cc
 index-got (y ∷ ys) (suc i) x d h = index-got ys i x d h
@@ -104,6 +105,23 @@ copied-get_spe m P x bytes old new same was is = ap (λ s. record P { store = s 
 pub copied-get_memory : (new : SharedMemory) (m : MainMemory) (reserved : List (Option Reserved)) (P : Spe) (x : Part) → ShowsMemory new m reserved → ShowsMemory new (copied m P false x).memory reserved
 unfolding copied
 copied-get_memory new m reserved P x shows = shows
+
+-- and which processors lose their reservation
+pub none-loses : (m : MainMemory) (reserved : List (Option Reserved)) → Loses 0 m reserved m
+none-loses m reserved = record { each = λ p o low at. bit-none p ∙ sym (gone (is_held m o)) }
+  where
+    gone : (b : Bool) → (b && not b) ≡ false
+    gone true = refl
+    gone false = refl
+
+pub copied-put_loses : (losers : ℕ) (m : MainMemory) (reserved : List (Option Reserved)) (P : Spe) (x : Part) (store : List ℕ) → P.store ≡ store
+    → Loses losers m reserved (stored m x.ea (slice_range store x.ls (x.ls + x.len))) → Loses losers m reserved (copied m P true x).memory
+unfolding copied
+copied-put_loses losers m reserved P x store was loses = rw was loses
+
+pub copied-get_loses : (m : MainMemory) (reserved : List (Option Reserved)) (P : Spe) (x : Part) → Loses 0 m reserved (copied m P false x).memory
+unfolding copied
+copied-get_loses m reserved P x = none-loses m reserved
 
 -- at the start no store has touched a line, and none is reserved
 pub starts-shows : (c : SharedMemory) (bytes : List ℕ) (lines spes : ℕ) → bytes ≡ c.bytes → StandsForVersions c.locks (opening_versions lines spes)

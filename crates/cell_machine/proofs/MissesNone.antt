@@ -1,5 +1,5 @@
 -- Each step that is allowed is among the allowed ones of its actor.
-use Rattle.std.proofs.Common.{◌≡◌, ℕ, zero, suc, ◌<◌, ◌≤◌, ◌+◌, not, List, [], ◌∷◌, ◌++◌, map, length, arith, refl, sym, subst, ◌∙◌, slice_index_or, ap, true, false, Bool, true≢false}
+use Rattle.std.proofs.Common.{◌≡◌, ℕ, zero, suc, ◌<◌, ◌+◌, not, List, [], ◌∷◌, ◌++◌, map, length, arith, refl, sym, subst, ◌∙◌, ap, true, false, Bool, true≢false}
 use Rattle.std.specs.Prelude.{slice_get, Option, Some, None, is_some, filter, flat_map, cond, Contains}
 use Rattle.std.specs.List.{range_with_len}
 use Rattle.std.specs.Option.{option_map_or}
@@ -7,14 +7,13 @@ use Rattle.cell_base.specs.declared.steps.Step.{Step}
 use Rattle.cell_base.specs.declared.steps.Step.TheVariants.{Exec, Piece, Elem, Retire, Atomic, Host}
 use Rattle.mfc_command.specs.declared.command.Command.{Command}
 use Rattle.mfc_command.specs.Order.{outstanding as outstanding_of}
-use Rattle.mfc_lists.specs.declared.Element.{Element}
 use Rattle.cell_machine.specs.declared.processor.Processor.{Processor}
 use Rattle.cell_machine.specs.declared.memory.SharedMemory.{SharedMemory}
 use Rattle.cell_machine.specs.Spe.{Spe}
 use Rattle.cell_host.specs.Script.{Progress}
 use Rattle.cell_machine.specs.State.{State}
 use Rattle.cell_machine.specs.Moves.{outstanding, is_complete, present, parts_in}
-use Rattle.cell_machine.specs.Transfers.{may_of, may_piece, may_elem, may_retire, has_part, has_element, is_left}
+use Rattle.cell_machine.specs.Transfers.{may_piece, may_elem, may_retire, has_part, has_element, is_left}
 use Rattle.cell_machine.specs.Next.{next}
 use Rattle.cell_machine.specs.Run.{steps_of, steps_of_mfc, steps_of_number, steps_of_command, pieces_of}
 use Rattle.cell_machine.specs.Actors.{actor_of, MissesNone}

@@ -8,7 +8,7 @@ use Rattle.std.proofs.lemmas.Bool.Decides.{nat_tests}
 use mathlib.Core.Path.{fun_ext}
 use Rattle.mfc_command.specs.declared.command.Command.{Command}
 use Rattle.mfc_command.specs.declared.command.Kind.{Kind}
-use Rattle.mfc_command.specs.declared.command.Kind.TheVariants.{Put, Get, PutList, GetList, Barrier, PutQueued}
+use Rattle.mfc_command.specs.declared.command.Kind.TheVariants.{Put, Get, PutList, GetList, Barrier, PutQueued, Signal}
 use Rattle.mfc_command.specs.Check.{KindFits}
 use Rattle.mfc_command.specs.Order.{is_barrier, is_list}
 use Rattle.mfc_command.specs.Parts.{parts_of}
@@ -205,6 +205,7 @@ list-moved d h some = ap (λ b. not b && not (d.size == 0)) (on d.kind h) ∙ ap
     on Get e = absurd (true≢false (sym e))
     on Barrier e = absurd (true≢false (sym e))
     on PutQueued e = absurd (true≢false (sym e))
+    on Signal e = absurd (true≢false (sym e))
 
 pub complete-reading : (m : Moves) (c : ℕ) (d : Command) → slice_get m.issued c ≡ Some d → is_list d.kind ≡ true → (d.size == 0) ≡ false → is_complete m c ≡ is_complete_reading (reading m c d)
 complete-reading m c d at h some =
@@ -366,6 +367,7 @@ whole-elements lines d fits h = on d.kind fits h
     on Get f e = absurd (true≢false (sym e))
     on Barrier f e = absurd (true≢false (sym e))
     on PutQueued f e = absurd (true≢false (sym e))
+    on Signal f e = absurd (true≢false (sym e))
 
 -- a transfer of some bytes has a part
 some-parts : (ea size : ℕ) → (size == 0) ≡ false → 0 < parts_of ea size

@@ -97,10 +97,10 @@ pub opening-settled : (S : Opening) (xs : List (ℕ × ℕ)) → map settled (ma
 opening-settled S [] = refl
 opening-settled S (x ∷ xs) = ap (λ ys. opening_spe S x ∷ ys) (opening-settled S xs)
 
-pub opening_bounded : (S : Opening) → AreBounded S.lines 0 (opening_spes S)
-opening_bounded S p P at =
+pub opening_bounded : (S : Opening) → 0 < S.lines → AreBounded S.lines 0 (opening_spes S)
+opening_bounded S some p P at =
     let g = map-got (opening_spe S) (enumerate_from 0 S.entries) p P at in
-    subst (IsBounded S.lines 0) g.2 (record { few = omega arith; fits = λ c d at2. absurd (let l = get-within no_moves.issued c d at2 in omega arith); elements = λ i d less. absurd (omega arith); slot = tt })
+    subst (IsBounded S.lines 0) g.2 (record { some = some; few = omega arith; fits = λ c d at2. absurd (let l = get-within no_moves.issued c d at2 in omega arith); elements = λ i d less. absurd (omega arith); slot = tt })
 
 -- and nothing is reserved
 opening_reserved : (S : Opening) (xs : List (ℕ × ℕ)) → reservations (map (opening_spe S) xs) ≡ replicate (length xs) None
@@ -137,7 +137,7 @@ machine-new S processors memory host steps capacity is some shows fills size beg
       replayed = ap (replay (opening S)) none;
       shown = record { spes = shows; memory_is = subst (ShowsMemory memory (opening_memory S)) reserved fills; host_is = begins };
       settled = opening-settled S (enumerate_from 0 S.entries);
-      bounded = rw none (opening_bounded S);
+      bounded = rw none (opening_bounded S is.limits.0);
       size = (size.0, size.1 ∙ sym many);
       script = ap (λ (h : Progress). h.script) (sym begins);
       actions = is.actions;

@@ -1,6 +1,6 @@
 -- A run goes on by one step.
 use Rattle.std.proofs.Common.{◌≡◌, slice_index_or, ℕ, ◌+◌, ◌<◌, ◌≤◌, List, [], ◌∷◌, ◌++◌, ◌*◌, length, arith, refl, sym, subst, ◌∙◌, ap, length-append, suc, add-zero, zero-add}
-use Rattle.std.specs.Prelude.{Option, Some, None, IsSomeAnd, option_map, option_and_then, All, map}
+use Rattle.std.specs.Prelude.{Option, Some, None, IsSomeAnd, option_map, option_and_then, All}
 use Rattle.cell_base.specs.declared.steps.Step.{Step}
 use Rattle.cell_machine.specs.declared.processor.Processor.{Processor}
 use Rattle.cell_machine.specs.declared.memory.SharedMemory.{SharedMemory}
@@ -8,10 +8,9 @@ use Rattle.cell_machine.specs.Spe.{Spe}
 use Rattle.cell_host.specs.Script.{Progress}
 use Rattle.cell_machine.specs.State.{State}
 use Rattle.cell_machine.specs.Memory.{lines_of}
-use Rattle.cell_machine.specs.Next.{act, next, ended_by, settled_in}
+use Rattle.cell_machine.specs.Next.{act, next, ended_by, closed_in}
 use Rattle.cell_machine.specs.Opening.{Opening, opening}
 use Rattle.cell_machine.specs.Run.{Ran, replay, spe_of, state_of}
-use Rattle.cell_machine.specs.Tags.{settled}
 use Rattle.mfc_queue.specs.Calls.{issued}
 use Rattle.cell_machine.specs.Kept.{IsKept}
 use Rattle.cell_machine.specs.Shows.{Shows, ShowsSpe, HasSize, IsMachine, IsFit, CanGo, CanStep, AreBounded}
@@ -58,11 +57,11 @@ long-of memory lines spes size = memory.even ∙ ap (λ n. 128 * n) size.0
 -- an allowed step takes a machine to a machine
 pub machine-step : (setup : Opening) (steps : List Step) (capacity : ℕ) (processors new : List Processor) (memory memory2 : SharedMemory) (host host2 : Progress) (s : Step) (room : ℕ)
     → (old : IsMachine setup steps capacity processors memory host)
-    → IsSomeAnd (act old.state s) (λ N. Shows new memory2 host2 (settled_in N)) → length new ≡ length processors → HasSameSize memory.locks memory2.locks → host2.script ≡ host.script
+    → IsSomeAnd (act old.state s) (λ N. Shows new memory2 host2 (closed_in old.state s N)) → length new ≡ length processors → HasSameSize memory.locks memory2.locks → host2.script ≡ host.script
     → length steps < setup.budget → capacity ≤ room
     → IsMachine setup (steps ++ s ∷ []) room new memory2 host2
 machine-step setup steps capacity processors new memory memory2 host host2 s room old did same long script within grown =
-    let made = some_and (act old.state s) (λ N. Shows new memory2 host2 (settled_in N)) did in
+    let made = some_and (act old.state s) (λ N. Shows new memory2 host2 (closed_in old.state s N)) did in
     let lines : lines_of old.state.memory ≡ setup.lines = lines-is old.state.memory memory.bytes setup.lines old.shown.memory_is.bytes (sym (long-of memory setup.lines (length processors) old.size)) in
     let longer : length steps + 1 ≡ length (steps ++ s ∷ []) = sym (length-append steps (s ∷ [])) in
     record {
@@ -76,8 +75,8 @@ machine-step setup steps capacity processors new memory memory2 host host2 s roo
       state = ended_by old.state s made.0;
       replayed = replay-snoc (opening setup) steps s ∙ ap (option_and_then (λ N. next N s)) old.replayed ∙ ap (option_map (ended_by old.state s)) made.1;
       shown = record { spes = made.2.spes; memory_is = made.2.memory_is; host_is = made.2.host_is };
-      settled = act-settled old.state s made.0 made.1 old.settled;
-      bounded = subst (λ n. AreBounded setup.lines n (map settled made.0.spes)) longer (act-bounded old.state s made.0 setup.lines (length steps) lines made.1 old.bounded);
+      settled = act-settled old.state s made.0;
+      bounded = subst (λ n. AreBounded setup.lines n (closed_in old.state s made.0).spes) longer (act-bounded old.state s made.0 setup.lines (length steps) lines made.1 old.bounded);
       size = (long.lines ∙ old.size.0, long.spes ∙ old.size.1 ∙ sym same);
       script = script ∙ old.script;
       actions = old.actions;
@@ -94,7 +93,7 @@ machine-can setup steps capacity processors memory host is within = record { lin
         let bound = is.bounded k two.0 two.1 in
         let few = bound.few in
         let small = is.small in
-        record { spe = two.0; shows = two.2; bounded = record { few = omega arith; fits = bound.fits; elements = bound.elements; slot = bound.slot } }
+        record { spe = two.0; shows = two.2; bounded = record { some = bound.some; few = omega arith; fits = bound.fits; elements = bound.elements; slot = bound.slot } }
 
 -- what each processor of a machine knows of its queue
 pub machine-kept : {setup : Opening} {steps : List Step} {capacity : ℕ} {processors : List Processor} {memory : SharedMemory} {host : Progress}

@@ -1,6 +1,6 @@
 -- Laws of runs: whether a machine can go on, and that nothing follows an end.
 use Rattle.std.proofs.Common.{◌≡◌, ℕ, suc, ◌+◌, ◌<◌, ◌≤◌, Bool, true, false, List, [], ◌∷◌, ◌++◌, length, arith, refl, sym, subst, ◌∙◌, ap, length-append, append-nil}
-use Rattle.std.specs.Prelude.{Option, Some, None, is_some, IsSome, IsSomeAnd, IfSome, IfNone, nat_lt, if◌then◌else◌, option_and_then}
+use Rattle.std.specs.Prelude.{Option, Some, None, is_some, IsSome, IsSomeAnd, nat_lt, if◌then◌else◌, option_and_then}
 use Rattle.std.proofs.lemmas.Bool.Decides.{nat_tests}
 use mathlib.Core.List.{IsPrefix}
 use Rattle.cell_base.specs.declared.steps.Step.{Step}

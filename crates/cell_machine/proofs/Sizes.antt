@@ -10,10 +10,11 @@ use Rattle.cell_base.specs.declared.steps.Step.{Step}
 use Rattle.cell_base.specs.declared.steps.Step.TheVariants.{Exec, Piece, Elem, Retire, Atomic, Host}
 use Rattle.cell_channels.specs.Table.{way_of}
 use Rattle.cell_host.specs.declared.HostAction.{HostAction}
-use Rattle.cell_host.specs.declared.HostAction.TheVariants.{Send, Take, TakeIntr, Store, Await}
+use Rattle.cell_host.specs.declared.HostAction.TheVariants.{Send, Take, TakeIntr, Store, Await, Signal as SignalTo}
 use Rattle.local_store.specs.Store.{word_at, quad_at, line_of}
 use Rattle.mfc_command.specs.declared.command.AtomicOp.{AtomicOp}
 use Rattle.mfc_command.specs.declared.command.Command.{Command}
+use Rattle.mfc_command.specs.declared.command.Kind.{Kind}
 use Rattle.mfc_command.specs.declared.command.DmaFault.{DmaFault as Fault}
 use Rattle.mfc_command.specs.declared.command.Order.{Order}
 use Rattle.mfc_command.specs.declared.command.Order.TheVariants.{Queued, Atomic as AtomicOrder}
@@ -40,14 +41,17 @@ use Rattle.cell_machine.specs.Moves.{present, parts_in, is_stalled}
 use Rattle.cell_machine.specs.Tags.{settled}
 use Rattle.cell_machine.specs.Channels.{given as with_given, is_read, is_write, count, may_read, may_write, channel, read_by, read_inbound, read_status, read_atomic, issued_by, commanded, acknowledged, written}
 use Rattle.cell_machine.specs.Exec.{exec, exec_instr, followed}
-use Rattle.cell_machine.specs.Transfers.{Left, piece, piece_of, after_part, part_in, has_part, may_piece, elem, after_element, next_element, may_elem, retire, may_retire, with_done, with_read, told, copied, is_put}
+use Rattle.cell_signals.specs.Registers.{register_of}
+use Rattle.cell_signals.specs.Events.{status_of}
+use Rattle.cell_machine.specs.Transfers.{Left, piece, piece_of, after_part, part_in, has_part, may_piece, elem, after_element, next_element, may_elem, retire, may_retire, with_done, with_read, told, copied, sent, moved as moved_part, is_put, is_signal}
 use Rattle.cell_machine.specs.Atomic.{Fate, fate, answered, moved, line_part, after_atomic, may_atomic, atomic}
 use Rattle.cell_machine.specs.Hosts.{Given, taken_of, taken_interrupt_of, given, at_spe, acted, after_action, host as host_step}
-use Rattle.cell_machine.specs.Next.{act, act_in, own, left, with_left}
+use Rattle.cell_machine.specs.Next.{act, act_in, own, left, with_left, with_events, closed_in}
 use Rattle.cell_machine.specs.Shows.{IsBounded, AreBounded}
 use Rattle.cell_machine.proofs.Bounds.{if_cond, on_cond, if_is, if_so, each_of, each_map, passes, set_cases, map-got}
 use Rattle.cell_machine.proofs.Elements.{part-is}
 use Rattle.cell_machine.proofs.Controllers.{element-fits}
+use Rattle.cell_machine.proofs.Alike.{AreAlike, alike-at, left-alike, events-alike}
 use Rattle.cell_machine.proofs.LocksRun.{put-length, range-few}
 
 -- 128 registers of 16 bytes, a store of 262,144, and an address at which an instruction may stand
@@ -129,8 +133,8 @@ module _ (lines : ℕ) (P : Spe) (all : IsSized P) where
   written_sized : (ch value : ℕ) → IsSized (written lines P ch value)
   unfolding written commanded acknowledged
   written_sized ch value =
-      on_cond (ch == 21) _ _ IsSized (issued_sized (checked P.channels.params value lines))
-      (on_cond (ch == 22) _ _ IsSized went (on_cond (ch == 23) _ _ IsSized went (on_cond (ch == 26) _ _ IsSized went (on_cond (ch == 28) _ _ IsSized went (on_cond (ch == 30) _ _ IsSized went went)))))
+      on_cond (ch == 1) _ _ IsSized went (on_cond (ch == 2) _ _ IsSized went (on_cond (ch == 21) _ _ IsSized (issued_sized (checked P.channels.params value lines))
+      (on_cond (ch == 22) _ _ IsSized went (on_cond (ch == 23) _ _ IsSized went (on_cond (ch == 26) _ _ IsSized went (on_cond (ch == 28) _ _ IsSized went (on_cond (ch == 30) _ _ IsSized went went)))))))
 
   status_sized : (rt : ℕ) (o : Option TagStatus) → IfSome (read_status P rt o) IsSized
   status_sized rt None = tt
@@ -147,9 +151,11 @@ module _ (lines : ℕ) (P : Spe) (all : IsSized P) where
   read_sized : (rt ch : ℕ) → IfSome (read_by P rt ch) IsSized
   unfolding read_by
   read_sized rt ch =
-      if_cond (ch == 12) _ _ IsSized (given_sized rt P.tags.mask) (if_cond (ch == 24) _ _ IsSized (status_sized rt P.tags.status)
+      if_cond (ch == 0) _ _ IsSized (given_sized rt (status_of P.events)) (if_cond (ch == 3) _ _ IsSized (given_sized rt (register_of P.signals 1).value)
+      (if_cond (ch == 4) _ _ IsSized (given_sized rt (register_of P.signals 2).value) (if_cond (ch == 11) _ _ IsSized (given_sized rt P.events.mask)
+      (if_cond (ch == 12) _ _ IsSized (given_sized rt P.tags.mask) (if_cond (ch == 24) _ _ IsSized (status_sized rt P.tags.status)
       (if_cond (ch == 25) _ _ IsSized (given_sized rt P.channels.stalls) (if_cond (ch == 27) _ _ IsSized (atomic_sized rt P.channels.atomic)
-      (if_cond (ch == 29) _ _ IsSized (inbound_sized rt P.inbound) tt))))
+      (if_cond (ch == 29) _ _ IsSized (inbound_sized rt P.inbound) tt))))))))
 
   channel_sized : (op : ChannelOp) → IfSome (channel lines P op) IsSized
   unfolding channel
@@ -195,6 +201,17 @@ copied_sized memory P false x all within =
     let few = range-few memory.bytes x.ea x.len in
     with_bytes P.pc P.registers P.store (slice_range memory.bytes x.ea (x.ea + x.len)) x.ls all (omega arith)
 
+sent_sized : (memory : MainMemory) (P : Spe) (x : Part) → IsSized P → IsSized (sent memory P x).spe
+unfolding sent
+sent_sized memory P x all = all
+
+part_sized : (memory : MainMemory) (P : Spe) (kind : Kind) (x : Part) → IsSized P → x.ls + x.len ≤ 262144 → IsSized (moved_part memory P kind x).spe
+part_sized memory P kind x all within = on (is_signal kind)
+  where
+    on : (b : Bool) → IsSized (cond b (sent memory P x) (copied memory P (is_put kind) x)).spe
+    on true = sent_sized memory P x all
+    on false = copied_sized memory P (is_put kind) x all within
+
 part_fits : (lines : ℕ) (x : Element) (k : ℕ) → ElementFits lines x → k < parts_in x → (part_in x k).ls + (part_in x k).len ≤ 262144
 part_fits lines x k fits h = on (x.size == 0) refl h
   where
@@ -216,7 +233,7 @@ piece_sized lines n memory P c e k bounded all = if_so (may_piece P c e k) _ Lea
     let of = part-is P.moves c e k d (passes P c (has_part P.moves c e k) d may at) in
     let same : of.element ≡ x = some_same of.element x (sym of.there ∙ there) in
     let fits = element-fits lines n P c d x bounded at of.moved there in
-    copied_sized memory (after_part P c x.number k d) (is_put d.kind) (part_in x k)
+    part_sized memory (after_part P c x.number k d) d.kind (part_in x k)
     (told_sized (is_stalled (with_done P.moves c x.number k) c d) (record P { moves = with_done P.moves c x.number k }) d.tag all)
     (part_fits lines x k fits (subst (λ y. k < parts_in y) same of.within)))))
   where
@@ -256,13 +273,18 @@ left_sized memory (Some Q) h = h
 set_sized : (spes : List Spe) (p : ℕ) (Q : Spe) → AllSized spes → IsSized Q → AllSized (slice_set spes p Q)
 set_sized spes p Q each all q R at = set_cases spes p q Q R (IsSized R) at (λ same. subst IsSized (sym same) all) (each q R)
 
+-- and so do processors that differ in their signal registers and events alone
+alike_sized : (xs ys : List Spe) → AreAlike xs ys → AllSized xs → AllSized ys
+alike_sized xs ys alike all p P at = let was = alike-at ys xs p P (sym alike) at in subst IsSized (sym was.2) (all p was.0 was.1)
+
 abbrev StateSized : State → Type 0
 StateSized N = AllSized N.spes
 
 in_sized : (M : State) (p : ℕ) (s : Step) → AllSized M.spes → ((P : Spe) → slice_get M.spes p ≡ Some P → IfSome (own M.memory s P) LeavesSized) → IfSome (act_in M p s) StateSized
 in_sized M p s each step =
     each_of (slice_get M.spes p) _ StateSized (λ P at.
-    each_map (own M.memory s P) (with_left M p) StateSized (λ x e. set_sized M.spes p x.spe each (if_is (own M.memory s P) x LeavesSized e (step P at))))
+    each_map (own M.memory s P) (with_left M p) StateSized (λ x e.
+    alike_sized (slice_set M.spes p x.spe) (with_left M p x).spes (left-alike M p x) (set_sized M.spes p x.spe each (if_is (own M.memory s P) x LeavesSized e (step P at)))))
 
 -- an action of the host leaves the registers and the store
 abbrev GivesSized : Given → Type 0
@@ -282,6 +304,7 @@ action_sized (Take p) P all = taken_sized P P.outbound all
 action_sized (TakeIntr p) P all = interrupt_sized P P.interrupt all
 action_sized (Store ea len bytes) P all = all
 action_sized (Await p) P all = if_cond (is_running P.status) _ _ GivesSized tt all
+action_sized (SignalTo p r value) P all = all
 
 at_sized : (M : State) (p : ℕ) (a : HostAction) → AllSized M.spes → IfSome (option_map after_action (at_spe M p (given a))) StateSized
 at_sized M p a each =
@@ -297,6 +320,7 @@ acted_sized M (Take p) each = at_sized M p (Take p) each
 acted_sized M (TakeIntr p) each = at_sized M p (TakeIntr p) each
 acted_sized M (Store ea len bytes) each = each
 acted_sized M (Await p) each = at_sized M p (Await p) each
+acted_sized M (SignalTo p r value) each = at_sized M p (SignalTo p r value) each
 
 host_sized : (M : State) → AllSized M.spes → IfSome (host_step M) StateSized
 unfolding host_step
@@ -310,9 +334,10 @@ act_sized lines n M (Retire p c) bounded each = in_sized M p (Retire p c) each (
 act_sized lines n M (Atomic p) bounded each = in_sized M p (Atomic p) each (λ P at. line_sized lines n M.memory P (bounded p P at) (each p P at))
 act_sized lines n M Host bounded each = host_sized M each
 
--- all processors keep their sizes, settled too
-pub act-sized : (lines n : ℕ) (M : State) (s : Step) (N : State) → AreBounded lines n M.spes → AllSized M.spes → act M s ≡ Some N → AllSized (map settled N.spes)
-act-sized lines n M s N bounded each e p P at =
-    let g = map-got settled N.spes p P at in
-    let all = if_is (act M s) N StateSized e (act_sized lines n M s bounded each) p g.0 g.1 in
-    subst IsSized g.2 all
+settled_sized : (spes : List Spe) → AllSized spes → AllSized (map settled spes)
+settled_sized spes all p P at = let g = map-got settled spes p P at in subst IsSized g.2 (all p g.0 g.1)
+
+-- all processors keep their sizes to the end of the step
+pub act-sized : (lines n : ℕ) (M : State) (s : Step) (N : State) → AreBounded lines n M.spes → AllSized M.spes → act M s ≡ Some N → AllSized (closed_in M s N).spes
+act-sized lines n M s N bounded each e =
+    settled_sized (with_events M s N).spes (alike_sized N.spes (with_events M s N).spes (events-alike M s N) (if_is (act M s) N StateSized e (act_sized lines n M s bounded each)))

@@ -46,7 +46,7 @@ next_carries S n M s N has e =
       many = act-length M s K.0 K.1 ∙ has.many;
       sized = act-sized S.lines n M s K.0 has.bounded has.sized K.1;
       bounded = act-bounded M s K.0 S.lines n lines K.1 has.bounded;
-      are_settled = act-settled M s K.0 K.1 has.are_settled;
+      are_settled = act-settled M s K.0;
       fits = subst (All (FitsAction S.lines (length S.entries))) (sym does.script) has.fits;
     })
 
@@ -95,7 +95,7 @@ opening_carries S is = record {
   long = fill-length S.lines (zeros (128 * S.lines)) S.memory (length-zeros (128 * S.lines)) is.memory;
   many = length-enumerate (opening_spe S) 0 S.entries;
   sized = opening_sized S is;
-  bounded = opening_bounded S;
+  bounded = opening_bounded S is.limits.0;
   are_settled = opening-settled S (enumerate_from 0 S.entries);
   fits = is.actions;
 }

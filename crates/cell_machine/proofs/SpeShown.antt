@@ -9,7 +9,7 @@ use Rattle.std.proofs.Math.ListN.{length-map}
 use Rattle.tag_groups.specs.declared.TagStatus.{TagStatus}
 use Rattle.mfc_command.specs.declared.command.Command.{Command}
 use Rattle.mfc_command.specs.declared.command.Kind.{Kind}
-use Rattle.mfc_command.specs.declared.command.Kind.TheVariants.{Put, Get, PutList, GetList, Barrier, PutQueued}
+use Rattle.mfc_command.specs.declared.command.Kind.TheVariants.{Put, Get, PutList, GetList, Barrier, PutQueued, Signal}
 use Rattle.mfc_command.specs.Order.{is_list, is_barrier, may_start, busy_groups, outstanding as outstanding_of}
 use Rattle.mfc_lists.specs.declared.Element.{Element}
 use Rattle.mfc_lists.specs.declared.ListState.{ListState}
@@ -183,6 +183,7 @@ list-no_barrier PutList h = refl
 list-no_barrier GetList h = refl
 list-no_barrier Barrier h = absurd (true≢false (sym h))
 list-no_barrier PutQueued h = refl
+list-no_barrier Signal h = refl
 
 -- a list of a size above 0 is moved
 pub list-moved : (d : Command) → is_list d.kind ≡ true → d.size ≢ 0 → is_moved d ≡ true

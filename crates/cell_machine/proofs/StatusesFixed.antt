@@ -1,34 +1,25 @@
 -- A tag status is fixed at the end of a step exactly where a request was pending then, and isn't any more.
 use Rattle.std.proofs.Common.{◌≡◌, ℕ, zero, suc, List, [], ◌∷◌, refl, sym, ◌∙◌, ap, slice_set}
-use Rattle.std.specs.Prelude.{Option, Some, None, length, is_some, slice_get, Bool, true, false, not, ◌&&◌, cond}
-use Rattle.std.specs.Option.{option_map, option_map_or, option_and_then}
+use Rattle.std.specs.Prelude.{Option, Some, None, length, slice_get, Bool, true, false, cond}
+use Rattle.std.specs.Option.{option_map, option_and_then}
 use Rattle.cell_base.specs.declared.steps.Step.{Step}
 use Rattle.cell_base.specs.declared.steps.Step.TheVariants.{Exec, Piece, Elem, Retire, Atomic, Host}
 use Rattle.mfc_command.specs.declared.command.AtomicOp.{AtomicOp}
-use Rattle.tag_groups.specs.declared.Request.{Request}
-use Rattle.tag_groups.specs.declared.Tags.{Tags}
-use Rattle.tag_groups.specs.Settle.{is_met, idle_groups, fixed_at}
+use Rattle.mfc_command.specs.declared.command.Command.{Command}
+use Rattle.mfc_command.specs.declared.range.Part.{Part}
 use Rattle.cell_machine.specs.declared.effect.Effect.{Effect}
 use Rattle.cell_machine.specs.State.{State}
 use Rattle.cell_machine.specs.Spe.{Spe}
 use Rattle.cell_machine.specs.Moves.{present, busy}
 use Rattle.cell_machine.specs.Memory.{MainMemory, lines_of}
 use Rattle.cell_machine.specs.Exec.{exec}
-use Rattle.cell_machine.specs.Transfers.{Left, piece, elem, retire}
+use Rattle.cell_machine.specs.Transfers.{Left, piece, elem, retire, is_put, is_signal, part_in}
 use Rattle.cell_machine.specs.Atomic.{Fate, Got, Stored, Lost, atomic, fate}
 use Rattle.cell_machine.specs.Next.{act, act_in, own, left, with_left}
-use Rattle.cell_machine.specs.Effects.{effect_of, fixes, exec_effect, piece_effect, elem_effect, plain_effect, line_effect, of_command}
+use Rattle.cell_machine.specs.Effects.{effect_of, fixes, exec_effect, piece_effect, part_effect, signal_effect, copy_effect, elem_effect, plain_effect, line_effect, of_command}
 use Rattle.cell_machine.specs.EffectLaws.{FixesOnce, maker}
-
--- a request that is met is one that is settled
-once : (busy issued : ℕ) (t : Tags) (o : Option Request) → t.request ≡ o
-    → option_map_or (is_met busy) o false ≡ (is_some o && not (is_some (fixed_at busy issued t o).request))
-once busy issued t None e = refl
-once busy issued t (Some r) e = on (is_met busy r)
-  where
-    on : (b : Bool) → b ≡ not (is_some (cond b (record { mask = t.mask; request = None; status = Some (record { groups = idle_groups busy r.mask; issued = issued }) }) t).request)
-    on true = refl
-    on false = sym (ap (λ q. not (is_some q)) e)
+use Rattle.cell_machine.proofs.Alike.{left-alike, alike-at}
+use Rattle.cell_machine.proofs.Raising.{once}
 
 -- ---- what made an option
 
@@ -65,13 +56,20 @@ exec_says M p P x e h k = mapped M.memory (exec (lines_of M.memory) P) (exec_eff
 retire_says : (M : State) (p c : ℕ) → Says M (Retire p c) (λ P. option_map plain_effect (retire P c))
 retire_says M p c P x e h k = mapped M.memory (retire P c) plain_effect x e (λ Q. refl) h k
 
-piece_says : (M : State) (p c n k : ℕ) → Says M (Piece p c n k) (λ P. option_and_then (λ x. of_command P c (piece_effect p c k P x.spe)) (piece M.memory P c n k))
+part_says : (spes p : ℕ) (d : Command) (y : Part) (x : Left) → (part_effect spes p d y x).fixed ≡ fixes x.spe
+part_says spes p d y x = on (is_signal d.kind)
+  where
+    on : (b : Bool) → (cond b (signal_effect spes p y x) (copy_effect p (is_put d.kind) y x.spe)).fixed ≡ fixes x.spe
+    on true = refl
+    on false = refl
+
+piece_says : (M : State) (p c n k : ℕ) → Says M (Piece p c n k) (λ P. option_and_then (λ x. of_command P c (piece_effect (length M.spes) p c k P x)) (piece M.memory P c n k))
 piece_says M p c n k P x e h was =
     let made = then_got _ (piece M.memory P c n k) e was in
     let of = then_got _ (slice_get P.moves.issued c) e made.2 in
     let at = map_got _ (present P.moves.read c of.0) e of.2 in
     let same : made.0 ≡ x = let a = made.1 in cc in
-    sym (ap (λ (f : Effect). f.fixed) at.2) ∙ ap (λ (y : Left). fixes y.spe) same
+    sym (ap (λ (f : Effect). f.fixed) at.2) ∙ part_says (length M.spes) p of.0 (part_in at.0 k) made.0 ∙ ap (λ (y : Left). fixes y.spe) same
 
 elem_says : (M : State) (p c : ℕ) → Says M (Elem p c) (λ P. option_and_then (λ Q. of_command P c (λ d. Some (elem_effect (lines_of M.memory) p c P Q d))) (elem (lines_of M.memory) P c))
 elem_says M p c P x e h was =
@@ -98,14 +96,15 @@ atomic_says M p P x e h was =
 
 of_own : (M N : State) (q p : ℕ) (s : Step) (P : Spe) (e : Effect) (f : Spe → Option Effect) → Says M s f → Some q ≡ Some p → act_in M q s ≡ Some N → slice_get N.spes p ≡ Some P
     → option_and_then f (slice_get M.spes q) ≡ Some e → e.fixed ≡ fixes P
-of_own M N q p s P e f says is made at was =
+of_own M N q p s P e f says is made at effect =
     let before = then_got _ (slice_get M.spes q) N made in
     let own_is = map_got (with_left M q) (own M.memory s before.0) N before.2 in
-    let seen = then_got f (slice_get M.spes q) e was in
+    let seen = then_got f (slice_get M.spes q) e effect in
     let same : seen.0 ≡ before.0 = let a = seen.1 in let b = before.1 in cc in
-    let spe : slice_get (slice_set M.spes q own_is.0.spe) q ≡ Some P =
+    let spe : slice_get (with_left M q own_is.0).spes q ≡ Some P =
     ap (λ (O : State). slice_get O.spes q) own_is.2 ∙ ap (λ o. option_and_then (slice_get N.spes) o) is ∙ at in
-    says before.0 own_is.0 e own_is.1 (ap f (sym same) ∙ seen.2) ∙ ap fixes (set_at M.spes q before.0 own_is.0.spe P before.1 spe)
+    let was = alike-at (with_left M q own_is.0).spes (slice_set M.spes q own_is.0.spe) q P (sym (left-alike M q own_is.0)) spe in
+    says before.0 own_is.0 e own_is.1 (ap f (sym same) ∙ seen.2) ∙ ap fixes (set_at M.spes q before.0 own_is.0.spe was.0 before.1 was.1) ∙ sym (ap (λ (X : Spe). fixes X) was.2)
 
 fixed-is : (M N : State) (s : Step) (p : ℕ) (P : Spe) (e : Effect) → maker s ≡ Some p → act M s ≡ Some N → slice_get N.spes p ≡ Some P → effect_of M s ≡ Some e → e.fixed ≡ fixes P
 unfolding effect_of

@@ -6,6 +6,8 @@ use Rattle.cell_host.specs.declared.HostAction.{HostAction}
 use Rattle.cell_host.specs.Script.{Progress}
 use Rattle.cell_base.specs.declared.steps.Step.TheVariants.{Host}
 use Rattle.mfc_command.specs.declared.command.Command.{Command}
+use Rattle.mfc_command.specs.declared.command.Kind.{Kind}
+use Rattle.cell_machine.specs.declared.signals.Delivery.{Delivery}
 use Rattle.mfc_command.specs.declared.command.AtomicOp.{AtomicOp}
 use Rattle.mfc_command.specs.declared.command.AtomicKind.TheVariants.{PutCond}
 use Rattle.mfc_command.specs.declared.command.DmaFault.{DmaFault as Fault}
@@ -21,13 +23,14 @@ use Rattle.cell_machine.specs.Spe.{Spe, is_running, is_faulted}
 use Rattle.cell_machine.specs.State.{State}
 use Rattle.cell_machine.specs.Memory.{MainMemory}
 use Rattle.cell_machine.specs.Moves.{present, parts_in, is_stalled}
-use Rattle.cell_machine.specs.Transfers.{may_piece, may_elem, may_retire, piece, piece_of, elem, retire, after_element, next_element, next_at, notified, told, copied, is_put, part_in, with_done, with_read, with_retired}
+use Rattle.cell_machine.specs.Transfers.{Left, may_piece, may_elem, may_retire, piece, piece_of, elem, retire, after_element, next_element, next_at, notified, told, copied, is_put, is_signal, sent, moved as moved_part, delivery, part_in, with_done, with_read, with_retired}
 use Rattle.cell_machine.specs.Atomic.{Fate, Got, Stored, Lost, atomic, fate, holds, line_part, moved, answered, after_atomic}
 use Rattle.cell_machine.specs.Hosts.{Acted, acted, host, after_action}
-use Rattle.cell_machine.specs.Effects.{nowhere, in_memory, in_store, is_fixed, fixes, of_spe, of_command, copy_effect, piece_effect, told_element, elem_effect, plain_effect, line_effect, host_writes, host_tells, host_effect, effect_of}
-use Rattle.cell_machine.specs.Shows.{Shows, ShowsSpe}
+use Rattle.cell_machine.specs.Effects.{nowhere, in_memory, in_store, is_fixed, fixes, of_spe, of_command, copy_effect, part_effect, signal_effect, told_delivery, piece_effect, told_element, elem_effect, plain_effect, line_effect, host_writes, host_tells, host_effect, effect_of}
+use Rattle.cell_machine.specs.Shows.{Shows, ShowsSpe, IsSignal}
 use Rattle.cell_machine.proofs.AllTwo.{two_at, two_none}
 use Rattle.cell_machine.proofs.Controllers.{piece-off, piece-on, elem-off, elem-on, retire-off, retire-on}
+use Rattle.cell_machine.proofs.Raising.{signal-part, signal-first}
 use Rattle.cell_machine.proofs.AtomicSteps.{atomic-is}
 
 -- ---- what a request waits for
@@ -37,6 +40,17 @@ copied-fixes : (memory : MainMemory) (P : Spe) (put_it : Bool) (x : Part) → fi
 unfolding copied
 copied-fixes memory P true x = refl
 copied-fixes memory P false x = refl
+
+sent-fixes : (memory : MainMemory) (P : Spe) (x : Part) → fixes (sent memory P x).spe ≡ fixes P
+unfolding sent
+sent-fixes memory P x = refl
+
+part-fixes : (memory : MainMemory) (P : Spe) (kind : Kind) (x : Part) → fixes (moved_part memory P kind x).spe ≡ fixes P
+part-fixes memory P kind x = on (is_signal kind)
+  where
+    on : (b : Bool) → fixes (if b then sent memory P x else copied memory P (is_put kind) x).spe ≡ fixes P
+    on true = sent-fixes memory P x
+    on false = copied-fixes memory P (is_put kind) x
 
 -- and so does a stall that is told
 notified-fixes : (P : Spe) (c : ℕ) (d : Command) → fixes (notified P c d) ≡ fixes P
@@ -49,14 +63,45 @@ notified-fixes P c d = on (is_stalled P.moves c d)
 -- ---- pieces
 
 pub piece-fixes : (memory : MainMemory) (P : Spe) (c k : ℕ) (d : Command) (x : Element) → fixes (piece_of memory P c k d x).spe ≡ is_fixed P.tags (with_done P.moves c x.number k)
-piece-fixes memory P c k d x = copied-fixes memory (notified (record P { moves = with_done P.moves c x.number k }) c d) (is_put d.kind) (part_in x k) ∙ notified-fixes (record P { moves = with_done P.moves c x.number k }) c d
+piece-fixes memory P c k d x = part-fixes memory (notified (record P { moves = with_done P.moves c x.number k }) c d) d.kind (part_in x k) ∙ notified-fixes (record P { moves = with_done P.moves c x.number k }) c d
 
-pub piece-none : (memory : MainMemory) (spe : ℕ) (P : Spe) (c e k : ℕ) → may_piece P c e k ≡ false → None ≡ option_and_then (λ x. of_command P c (piece_effect spe c k P x.spe)) (piece memory P c e k)
-piece-none memory spe P c e k off = ap (option_and_then (λ x. of_command P c (piece_effect spe c k P x.spe))) (sym (piece-off memory P c e k off))
+pub piece-none : (memory : MainMemory) (spes spe : ℕ) (P : Spe) (c e k : ℕ) → may_piece P c e k ≡ false → None ≡ option_and_then (λ x. of_command P c (piece_effect spes spe c k P x)) (piece memory P c e k)
+piece-none memory spes spe P c e k off = ap (option_and_then (λ x. of_command P c (piece_effect spes spe c k P x))) (sym (piece-off memory P c e k off))
 
-pub piece-some : (memory : MainMemory) (spe : ℕ) (P : Spe) (c e k : ℕ) (d : Command) (x : Element) → may_piece P c e k ≡ true → slice_get P.moves.issued c ≡ Some d → present P.moves.read c d ≡ Some x
-    → Some (copy_effect spe (is_put d.kind) (part_in x k) (piece_of memory P c k d x).spe) ≡ option_and_then (λ y. of_command P c (piece_effect spe c k P y.spe)) (piece memory P c e k)
-piece-some memory spe P c e k d x may at there = rw (piece-on memory P c e k d x may at there, at) (rw there refl)
+pub piece-some : (memory : MainMemory) (spes spe : ℕ) (P : Spe) (c e k : ℕ) (d : Command) (x : Element) → may_piece P c e k ≡ true → slice_get P.moves.issued c ≡ Some d → present P.moves.read c d ≡ Some x
+    → Some (part_effect spes spe d (part_in x k) (piece_of memory P c k d x)) ≡ option_and_then (λ y. of_command P c (piece_effect spes spe c k P y)) (piece memory P c e k)
+piece-some memory spes spe P c e k d x may at there = rw (piece-on memory P c e k d x may at there, at) (rw there refl)
+
+-- an effect that writes nothing
+abbrev looks : Span → Note → Bool → Effect
+looks reads note fixed = record { fetch = nowhere; reads = reads; writes = nowhere; note = note; fixed = fixed }
+
+looks_same : (a b : Span) (n o : Note) (f g : Bool) → a ≡ b → n ≡ o → f ≡ g → looks a n f ≡ looks b o g
+looks_same a b n o f g d e h = rw (d, e, h) refl
+
+-- the effect of a part that is copied, and of one that is sent
+pub part-copied : (spes spe : ℕ) (d : Command) (x : Part) (y : Left) → is_signal d.kind ≡ false → copy_effect spe (is_put d.kind) x y.spe ≡ part_effect spes spe d x y
+part-copied spes spe d x y h = rw h refl
+
+pub part-sent : (spes spe k : ℕ) (memory : MainMemory) (P K : Spe) (d : Command) (x : Element) (sent_is : Delivery) (fixed : Bool) → is_signal d.kind ≡ true → IsSignal x → k < parts_in x → K.store ≡ P.store
+    → ((Q : Spe) → Q.store ≡ P.store → sent_is ≡ delivery Q (part_in x 0)) → fixed ≡ fixes (moved_part memory K d.kind (part_in x k)).spe
+    → record { fetch = nowhere; reads = in_store spe x.ls 4; writes = nowhere; note = told_delivery spes (Some sent_is); fixed = fixed } ≡ part_effect spes spe d (part_in x k) (moved_part memory K d.kind (part_in x k))
+unfolding sent
+part-sent spes spe k memory P K d x sent_is fixed kind is less store sends fixed_is =
+    let first : k ≡ 0 = signal-first x k is less in
+    let part : part_in x k ≡ record { ls = x.ls; ea = x.ea; len = 4 } = ap (part_in x) first ∙ signal-part x is in
+    let value : sent_is ≡ delivery K (part_in x k) = sends K store ∙ ap (λ j. delivery K (part_in x j)) (sym first) in
+    let at : x.ls ≡ (part_in x k).ls = ap (λ (y : Part). y.ls) (sym part) in
+    on (is_signal d.kind) kind at value fixed_is
+  where
+    Y : Bool → Left
+    Y b = if b then sent memory K (part_in x k) else copied memory K (is_put d.kind) (part_in x k)
+
+    on : (b : Bool) → b ≡ true → x.ls ≡ (part_in x k).ls → sent_is ≡ delivery K (part_in x k) → fixed ≡ fixes (Y b).spe
+        → record { fetch = nowhere; reads = in_store spe x.ls 4; writes = nowhere; note = told_delivery spes (Some sent_is); fixed = fixed }
+        ≡ (if b then signal_effect spes spe (part_in x k) (Y b) else copy_effect spe (is_put d.kind) (part_in x k) (Y b).spe)
+    on true h at value fixed_is = looks_same (in_store spe x.ls 4) (in_store spe (part_in x k).ls 4) (told_delivery spes (Some sent_is)) (told_delivery spes (Some (delivery K (part_in x k)))) fixed (fixes K) (ap (λ n. in_store spe n 4) at) (ap (λ v. told_delivery spes (Some v)) value) fixed_is
+    on false h at value fixed_is = absurd (true≢false (sym h))
 
 -- ---- elements
 
@@ -66,13 +111,6 @@ elem-none lines spe P c off = ap (option_and_then (λ Q. of_command P c (λ d. S
 elem-some : (lines spe : ℕ) (P : Spe) (c : ℕ) (d : Command) → may_elem P c ≡ true → slice_get P.moves.issued c ≡ Some d
     → Some (elem_effect lines spe c P (after_element P c d (next_element lines P c d)) d) ≡ option_and_then (λ Q. of_command P c (λ e. Some (elem_effect lines spe c P Q e))) (elem lines P c)
 elem-some lines spe P c d may at = rw (elem-on lines P c d may at, at) refl
-
--- an effect that writes nothing
-abbrev looks : Span → Note → Bool → Effect
-looks reads note fixed = record { fetch = nowhere; reads = reads; writes = nowhere; note = note; fixed = fixed }
-
-looks_same : (a b : Span) (n o : Note) (f g : Bool) → a ≡ b → n ≡ o → f ≡ g → looks a n f ≡ looks b o g
-looks_same a b n o f g d e h = rw (d, e, h) refl
 
 pub read-effect : (lines spe : ℕ) (P : Spe) (c at : ℕ) (d : Command) (x : Element) (reads : Span) (note : Note) (fixed : Bool) → may_elem P c ≡ true → slice_get P.moves.issued c ≡ Some d
     → next_element lines P c d ≡ Ok x → at ≡ next_at P.moves c d → reads ≡ in_store spe at 8 → note ≡ Reading x.number (parts_in x) x.flagged → fixed ≡ is_fixed P.tags (with_read P.moves c x)

@@ -19,6 +19,7 @@ use Rattle.spu_exec.specs.declared.flow.Flow.TheVariants.{Next, Stop, Halt, Chan
 use Rattle.spu_exec.specs.Meaning.{meaning, value_of, with_value, with_stored, loaded_at}
 use Rattle.local_store.specs.Store.{quad_at}
 use Rattle.cell_machine.specs.Spe.{Spe, is_running}
+use Rattle.cell_signals.specs.Events.{cleared}
 use Rattle.cell_machine.specs.Channels.{went_on, is_read, is_write, count, may_read, may_write, channel, read_by, read_inbound, read_status, read_atomic, issued_by, commanded, acknowledged, parameterized, written}
 use Rattle.cell_machine.specs.Exec.{exec, followed, outcome}
 use Rattle.cell_machine.specs.Effects.{instr, loads_at, stores_at}
@@ -61,12 +62,18 @@ module _ (lines : ℕ) (P : Spe) (s : List ℕ) where
       let g26 = cond (ch == 26) w26 g28 in
       let g23 = cond (ch == 23) w23 g26 in
       let g22 = cond (ch == 22) w22 g23 in
-      of_if (λ Q. at_store Q s) (ch == 21) (commanded lines P value) g22 _ _ (commanded_moved value)
+      let w1 = went_on (record P { events = record P.events { mask = value } }) in
+      let w2 = went_on (record P { events = cleared P.events value }) in
+      let g21 = cond (ch == 21) (commanded lines P value) g22 in
+      let g2 = cond (ch == 2) w2 g21 in
+      of_if (λ Q. at_store Q s) (ch == 1) w1 g2 _ _ refl
+      (of_if (λ Q. at_store Q s) (ch == 2) w2 g21 _ _ refl
+      (of_if (λ Q. at_store Q s) (ch == 21) (commanded lines P value) g22 _ _ (commanded_moved value)
       (of_if (λ Q. at_store Q s) (ch == 22) w22 g23 _ _ refl
       (of_if (λ Q. at_store Q s) (ch == 23) w23 g26 _ _ refl
       (of_if (λ Q. at_store Q s) (ch == 26) w26 g28 _ _ refl
       (of_if (λ Q. at_store Q s) (ch == 28) w28 g30 _ _ refl
-      (of_if (λ Q. at_store Q s) (ch == 30) w30 (went_on (parameterized P ch value)) _ _ refl refl)))))
+      (of_if (λ Q. at_store Q s) (ch == 30) w30 (went_on (parameterized P ch value)) _ _ refl refl)))))))
 
   status_moved : (rt : ℕ) (o : Option TagStatus) → read_status (at_store P s) rt o ≡ option_map (λ Q. at_store Q s) (read_status P rt o)
   status_moved rt None = refl
@@ -83,11 +90,15 @@ module _ (lines : ℕ) (P : Spe) (s : List ℕ) where
   read_moved : (rt ch : ℕ) → read_by (at_store P s) rt ch ≡ option_map (λ Q. at_store Q s) (read_by P rt ch)
   unfolding read_by
   read_moved rt ch =
-      map_if (λ Q. at_store Q s) (ch == 12) _ _ _ _ refl
+      map_if (λ Q. at_store Q s) (ch == 0) _ _ _ _ refl
+      (map_if (λ Q. at_store Q s) (ch == 3) _ _ _ _ refl
+      (map_if (λ Q. at_store Q s) (ch == 4) _ _ _ _ refl
+      (map_if (λ Q. at_store Q s) (ch == 11) _ _ _ _ refl
+      (map_if (λ Q. at_store Q s) (ch == 12) _ _ _ _ refl
       (map_if (λ Q. at_store Q s) (ch == 24) _ _ _ _ (status_moved rt P.tags.status)
       (map_if (λ Q. at_store Q s) (ch == 25) _ _ _ _ refl
       (map_if (λ Q. at_store Q s) (ch == 27) _ _ _ _ (atomic_moved rt P.channels.atomic)
-      (map_if (λ Q. at_store Q s) (ch == 29) _ _ _ _ (inbound_moved rt P.inbound) refl))))
+      (map_if (λ Q. at_store Q s) (ch == 29) _ _ _ _ (inbound_moved rt P.inbound) refl))))))))
 
   pub channel-moved : (op : ChannelOp) → channel lines (at_store P s) op ≡ option_map (λ Q. at_store Q s) (channel lines P op)
   unfolding channel count may_write

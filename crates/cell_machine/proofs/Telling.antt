@@ -19,7 +19,7 @@ use Rattle.spu_exec.specs.declared.flow.Flow.TheVariants.{Next, Stop, Halt, Chan
 use Rattle.cell_machine.specs.declared.effect.Note.TheVariants.{Nothing, Issue, AtomicIssue, Ended}
 use Rattle.cell_machine.specs.Spe.{Spe, is_running}
 use Rattle.cell_machine.specs.Exec.{followed}
-use Rattle.cell_machine.specs.Channels.{channel, is_read, is_write, may_read, may_write, read_by, read_stalls, read_status, read_atomic, read_inbound, written, commanded, given, went_on, bad_channel, acknowledged, with_issued, with_resumed}
+use Rattle.cell_machine.specs.Channels.{channel, is_read, is_write, may_read, may_write, read_by, read_status, read_atomic, read_inbound, written, commanded, went_on, bad_channel, acknowledged, with_issued, with_resumed}
 use Rattle.cell_machine.specs.Moves.{stalls_of_tag}
 use Rattle.cell_machine.specs.Effects.{ends, told, told_by, is_fixed, fixes}
 use Rattle.cell_machine.proofs.ChannelSteps.{read-bad, write-bad, write-param, count-bad, count-given, command-off, commanded-queued, commanded-line, commanded-fault}
@@ -73,6 +73,22 @@ inbound_leaves : (R Q : Spe) (rt : ℕ) (xs : List ℕ) → read_inbound R rt xs
 inbound_leaves R Q rt [] h = absurd (cc)
 inbound_leaves R Q rt (x ∷ xs) h = leaves_by R _ Q h refl refl
 
+pub read-0 : (lines : ℕ) (R Q : Spe) (rt : ℕ) → channel lines R (Read rt 0) ≡ Some Q → Leaves R Q
+unfolding way_of read_by
+read-0 lines R Q rt made = leaves_by R _ Q (read_got lines R Q rt 0 refl made) refl refl
+
+pub read-3 : (lines : ℕ) (R Q : Spe) (rt : ℕ) → channel lines R (Read rt 3) ≡ Some Q → Leaves R Q
+unfolding way_of read_by
+read-3 lines R Q rt made = leaves_by R _ Q (read_got lines R Q rt 3 refl made) refl refl
+
+pub read-4 : (lines : ℕ) (R Q : Spe) (rt : ℕ) → channel lines R (Read rt 4) ≡ Some Q → Leaves R Q
+unfolding way_of read_by
+read-4 lines R Q rt made = leaves_by R _ Q (read_got lines R Q rt 4 refl made) refl refl
+
+pub read-11 : (lines : ℕ) (R Q : Spe) (rt : ℕ) → channel lines R (Read rt 11) ≡ Some Q → Leaves R Q
+unfolding way_of read_by
+read-11 lines R Q rt made = leaves_by R _ Q (read_got lines R Q rt 11 refl made) refl refl
+
 pub read-12 : (lines : ℕ) (R Q : Spe) (rt : ℕ) → channel lines R (Read rt 12) ≡ Some Q → Leaves R Q
 unfolding way_of read_by
 read-12 lines R Q rt made = leaves_by R _ Q (read_got lines R Q rt 12 refl made) refl refl
@@ -97,8 +113,8 @@ read-29 lines R Q rt made = inbound_leaves R Q rt R.inbound (read_got lines R Q 
 pub bad-off : (R Q : Spe) (o : Option Spe) → o ≡ Some (bad_channel R) → o ≡ Some Q → (is_running Q.status ≡ false) × (fixes Q ≡ fixes R)
 bad-off R Q o bad made = let same : bad_channel R ≡ Q = cc in rw (← same) (refl, refl)
 
-pub read-rest : (lines : ℕ) (R Q : Spe) (rt ch : ℕ) → ch ≢ 12 → ch ≢ 24 → ch ≢ 25 → ch ≢ 27 → ch ≢ 29 → channel lines R (Read rt ch) ≡ Some Q → is_running Q.status ≡ false
-read-rest lines R Q rt ch a b d e f made = (bad-off R Q _ (read-bad lines R rt ch a b d e f) made).0
+pub read-rest : (lines : ℕ) (R Q : Spe) (rt ch : ℕ) → ch ≢ 0 → ch ≢ 3 → ch ≢ 4 → ch ≢ 11 → ch ≢ 12 → ch ≢ 24 → ch ≢ 25 → ch ≢ 27 → ch ≢ 29 → channel lines R (Read rt ch) ≡ Some Q → is_running Q.status ≡ false
+read-rest lines R Q rt ch s t u v a b d e f made = (bad-off R Q _ (read-bad lines R rt ch s t u v a b d e f) made).0
 
 -- ---- counts
 
@@ -113,6 +129,14 @@ count-absent lines R Q rt ch absent made = (bad-off R Q _ (count-bad lines R rt 
 write_made : (lines : ℕ) (R Q : Spe) (ch value : ℕ) → is_write (way_of ch) ≡ true → channel lines R (Write ch value) ≡ Some Q → Some (written lines R ch value) ≡ Some Q
 unfolding channel
 write_made lines R Q ch value way made = read_on (is_write (way_of ch)) (may_write R ch value) (Some (written lines R ch value)) (bad_channel R) Q made way
+
+pub write-1 : (lines : ℕ) (R Q : Spe) (value : ℕ) → channel lines R (Write 1 value) ≡ Some Q → Leaves R Q
+unfolding way_of written
+write-1 lines R Q value made = leaves_by R _ Q (write_made lines R Q 1 value refl made) refl refl
+
+pub write-2 : (lines : ℕ) (R Q : Spe) (value : ℕ) → channel lines R (Write 2 value) ≡ Some Q → Leaves R Q
+unfolding way_of written
+write-2 lines R Q value made = leaves_by R _ Q (write_made lines R Q 2 value refl made) refl refl
 
 pub write-22 : (lines : ℕ) (R Q : Spe) (value : ℕ) → channel lines R (Write 22 value) ≡ Some Q → Leaves R Q
 unfolding way_of written
@@ -129,8 +153,8 @@ write-30 lines R Q value made = leaves_by R _ Q (write_made lines R Q 30 value r
 pub write-of_param : (lines : ℕ) (R Q : Spe) (ch value : ℕ) → (nat_le 16 ch && nat_le ch 20) ≡ true → channel lines R (Write ch value) ≡ Some Q → Leaves R Q
 write-of_param lines R Q ch value is made = leaves_by R _ Q (sym (write-param lines R ch value is) ∙ made) refl refl
 
-pub write-rest : (lines : ℕ) (R Q : Spe) (ch value : ℕ) → (nat_le 16 ch && nat_le ch 20) ≡ false → ch ≢ 21 → ch ≢ 22 → ch ≢ 23 → ch ≢ 26 → ch ≢ 28 → ch ≢ 30 → channel lines R (Write ch value) ≡ Some Q → is_running Q.status ≡ false
-write-rest lines R Q ch value p a b d e f g made = (bad-off R Q _ (write-bad lines R ch value p a b d e f g) made).0
+pub write-rest : (lines : ℕ) (R Q : Spe) (ch value : ℕ) → (nat_le 16 ch && nat_le ch 20) ≡ false → ch ≢ 1 → ch ≢ 2 → ch ≢ 21 → ch ≢ 22 → ch ≢ 23 → ch ≢ 26 → ch ≢ 28 → ch ≢ 30 → channel lines R (Write ch value) ≡ Some Q → is_running Q.status ≡ false
+write-rest lines R Q ch value p s t a b d e f g made = (bad-off R Q _ (write-bad lines R ch value p s t a b d e f g) made).0
 
 pub param-told : (spe : ℕ) (P Q : Spe) (ch value : ℕ) → ch ≢ 21 → ch ≢ 26 → ch ≢ 28 → ch ≢ 30 → told_by spe P Q (Write ch value) ≡ Nothing
 param-told spe P Q ch value a b d e = rw (off ch 21 a, off ch 26 b, off ch 28 d, off ch 30 e) refl
@@ -201,15 +225,16 @@ line-told lines spe op P Q registers store a is made =
 
 -- ---- statuses fixed by the other operations
 
-one_of : (a b c : Bool) (A B C D R : Spe) → fixes A ≡ fixes R → fixes B ≡ fixes R → fixes C ≡ fixes R → fixes D ≡ fixes R → fixes (cond a A (cond b B (cond c C D))) ≡ fixes R
-one_of true b c A B C D R w x y z = w
-one_of false true c A B C D R w x y z = x
-one_of false false true A B C D R w x y z = y
-one_of false false false A B C D R w x y z = z
+-- what each of some outcomes leaves, the one that comes leaves
+by_test : (b : Bool) (A B R : Spe) → fixes A ≡ fixes R → fixes B ≡ fixes R → fixes (cond b A B) ≡ fixes R
+by_test true A B R x y = x
+by_test false A B R x y = y
 
 written_fixes : (lines : ℕ) (R : Spe) (ch value : ℕ) → ch ≢ 21 → ch ≢ 23 → ch ≢ 26 → fixes (written lines R ch value) ≡ fixes R
 unfolding written
-written_fixes lines R ch value a b d = rw (off ch 21 a, off ch 23 b, off ch 26 d) (one_of (ch == 22) (ch == 28) (ch == 30) _ _ _ _ R refl refl refl refl)
+written_fixes lines R ch value a b d =
+    rw (off ch 21 a, off ch 23 b, off ch 26 d)
+    (by_test (ch == 1) _ _ R refl (by_test (ch == 2) _ _ R refl (by_test (ch == 22) _ _ R refl (by_test (ch == 28) _ _ R refl (by_test (ch == 30) _ _ R refl refl)))))
 
 made_fixes : (b c : Bool) (A bad Q R : Spe) → cond b (cond c (Some A) None) (Some bad) ≡ Some Q → fixes A ≡ fixes R → fixes bad ≡ fixes R → fixes Q ≡ fixes R
 made_fixes true true A bad Q R h x y = let same : A ≡ Q = cc in rw (← same) x
@@ -220,17 +245,18 @@ pub write-fixes : (lines : ℕ) (R Q : Spe) (ch value : ℕ) → ch ≢ 21 → c
 unfolding channel
 write-fixes lines R Q ch value a b d made = made_fixes (is_write (way_of ch)) (may_write R ch value) _ (bad_channel R) Q R made (written_fixes lines R ch value a b d) refl
 
+if_fixes : (b : Bool) (o r : Option Spe) (Q R : Spe) → (o ≡ Some Q → fixes Q ≡ fixes R) → (r ≡ Some Q → fixes Q ≡ fixes R) → cond b o r ≡ Some Q → fixes Q ≡ fixes R
+if_fixes true o r Q R h k made = h made
+if_fixes false o r Q R h k made = k made
+
 read_by_fixes : (R Q : Spe) (rt ch : ℕ) → read_by R rt ch ≡ Some Q → fixes Q ≡ fixes R
 unfolding read_by
-read_by_fixes R Q rt ch h = on (ch == 12) (ch == 24) (ch == 25) (ch == 27) (ch == 29) h
-  where
-    on : (a b d e f : Bool) → cond a (Some (given R rt R.tags.mask)) (cond b (read_status R rt R.tags.status) (cond d (Some (read_stalls R rt)) (cond e (read_atomic R rt R.channels.atomic) (cond f (read_inbound R rt R.inbound) None)))) ≡ Some Q → fixes Q ≡ fixes R
-    on true b d e f h = (leaves_by R _ Q h refl refl).fixes
-    on false true d e f h = (status_leaves R Q rt R.tags.status h).fixes
-    on false false true e f h = (leaves_by R _ Q h refl refl).fixes
-    on false false false true f h = (atomic_leaves R Q rt R.channels.atomic h).fixes
-    on false false false false true h = (inbound_leaves R Q rt R.inbound h).fixes
-    on false false false false false h = absurd (cc)
+read_by_fixes R Q rt ch h =
+    let stays : (A : Spe) → A.status ≡ R.status → fixes A ≡ fixes R → Some A ≡ Some Q → fixes Q ≡ fixes R = λ A s f e. (leaves_by R A Q e s f).fixes in
+    if_fixes (ch == 0) _ _ Q R (stays _ refl refl) (if_fixes (ch == 3) _ _ Q R (stays _ refl refl) (if_fixes (ch == 4) _ _ Q R (stays _ refl refl) (if_fixes (ch == 11) _ _ Q R (stays _ refl refl)
+    (if_fixes (ch == 12) _ _ Q R (stays _ refl refl) (if_fixes (ch == 24) _ _ Q R (λ e. (status_leaves R Q rt R.tags.status e).fixes)
+    (if_fixes (ch == 25) _ _ Q R (stays _ refl refl) (if_fixes (ch == 27) _ _ Q R (λ e. (atomic_leaves R Q rt R.channels.atomic e).fixes)
+    (if_fixes (ch == 29) _ _ Q R (λ e. (inbound_leaves R Q rt R.inbound e).fixes) (λ e. absurd (let none : None ≡ Some Q = e in cc)))))))))) h
 
 read_fixes : (lines : ℕ) (R Q : Spe) (rt ch : ℕ) → channel lines R (Read rt ch) ≡ Some Q → fixes Q ≡ fixes R
 unfolding channel

@@ -1,4 +1,4 @@
--- What a step fetches, reads and writes, and what it tells. Mailboxes are numbered 0 inbound, 1 outbound, 2 interrupt.
+-- What a step fetches, reads and writes, and what it tells. Signal registers are numbered 1 and 2; mailboxes are numbered 0 inbound, 1 outbound, 2 interrupt.
 use Rattle.std.specs.Prelude.{ℕ, ◌*◌, Bool, true, false, not, ◌==◌, ◌&&◌, nat_lt, if◌then◌else◌, length, Option, Some, None, Result, Ok, Err, slice_get}
 use Rattle.std.specs.Option.{option_and_then, option_map, option_map_or}
 use Rattle.cell_base.specs.declared.steps.ChannelOp.{ChannelOp}
@@ -6,7 +6,7 @@ use Rattle.cell_base.specs.declared.steps.ChannelOp.TheVariants.{Read, Count, Wr
 use Rattle.cell_base.specs.declared.steps.Step.{Step}
 use Rattle.cell_base.specs.declared.steps.Step.TheVariants.{Exec, Piece, Elem, Retire, Atomic, Host}
 use Rattle.cell_host.specs.declared.HostAction.{HostAction}
-use Rattle.cell_host.specs.declared.HostAction.TheVariants.{Send, Take as TakeOut, TakeIntr, Store, Await}
+use Rattle.cell_host.specs.declared.HostAction.TheVariants.{Send, Take as TakeOut, TakeIntr, Store, Await, Signal as SignalTo}
 use Rattle.spu_decode.specs.declared.Instr.{Instr}
 use Rattle.spu_decode.specs.Spelling.{instr_of}
 use Rattle.spu_regs.specs.Registers.{register}
@@ -17,18 +17,18 @@ use Rattle.mfc_command.specs.declared.command.AtomicOp.{AtomicOp}
 use Rattle.mfc_command.specs.declared.command.DmaFault.{DmaFault}
 use Rattle.mfc_command.specs.declared.range.Part.{Part}
 use Rattle.mfc_lists.specs.declared.Element.{Element}
-use Rattle.tag_groups.specs.declared.Tags.{Tags}
-use Rattle.tag_groups.specs.Settle.{is_met}
 use Rattle.cell_machine.specs.declared.effect.Place.TheVariants.{Memory, Local}
 use Rattle.cell_machine.specs.declared.effect.Span.{Span}
 use Rattle.cell_machine.specs.declared.effect.Note.{Note}
-use Rattle.cell_machine.specs.declared.effect.Note.TheVariants.{Nothing, Issue, AtomicIssue, TagRead, StallRead, Ack, AtomicRead, Put, Take, Ended, Awaited, Element as Reading}
+use Rattle.cell_machine.specs.declared.effect.Note.TheVariants.{Nothing, Issue, AtomicIssue, TagRead, StallRead, Ack, AtomicRead, Put, Take, Ended, Awaited, Element as Reading, Signal}
 use Rattle.cell_machine.specs.declared.effect.Effect.{Effect}
-use Rattle.cell_machine.specs.Spe.{Spe, Moves, is_running}
+use Rattle.cell_machine.specs.Spe.{Spe, is_running}
 use Rattle.cell_machine.specs.State.{State}
-use Rattle.cell_machine.specs.Moves.{busy, present, parts_in}
+use Rattle.cell_machine.specs.Moves.{present, parts_in}
+pub use Rattle.cell_machine.specs.Tags.{is_fixed, fixes}
 use Rattle.cell_machine.specs.Exec.{exec, asks}
-use Rattle.cell_machine.specs.Transfers.{piece, elem, retire, is_put, part_in, next_at, next_element}
+use Rattle.cell_machine.specs.declared.signals.Delivery.{Delivery}
+use Rattle.cell_machine.specs.Transfers.{Left, piece, elem, retire, is_put, is_signal, part_in, next_at, next_element}
 use Rattle.cell_machine.specs.Memory.{lines_of}
 use Rattle.cell_machine.specs.Atomic.{Fate, Got, Stored, Lost, atomic, fate, line_part}
 use Rattle.cell_machine.specs.Hosts.{acted}
@@ -69,7 +69,9 @@ told_issue P Q = option_map_or (Issue (length P.moves.issued)) (slice_get Q.move
 -- what an operation tells, of processor p before it and after it
 abbrev pub told_by : ℕ → Spe → Spe → ChannelOp → Note
 told_by p P Q (Read rt ch) =
-    if ch == 24 then option_map_or (λ t. TagRead t.groups t.issued) P.tags.status Nothing
+    if ch == 3 then Signal p 1
+    else if ch == 4 then Signal p 2
+    else if ch == 24 then option_map_or (λ t. TagRead t.groups t.issued) P.tags.status Nothing
     else if ch == 25 then StallRead P.channels.stalls
     else if ch == 27 then AtomicRead
     else if ch == 29 then Take p 0
@@ -90,13 +92,6 @@ abbrev pub told : ℕ → Spe → Spe → Option ChannelOp → Note
 told p P Q op = if ends P Q then Ended else option_map_or (told_by p P Q) op Nothing
 
 -- ---- the steps of one processor, before it and after it
-
--- whether a tag status is fixed at the end of a step after which the tags and the commands are these
-abbrev pub is_fixed : Tags → Moves → Bool
-is_fixed t m = option_map_or (is_met (busy m)) t.request false
-
-abbrev pub fixes : Spe → Bool
-fixes Q = is_fixed Q.tags Q.moves
 
 abbrev pub exec_effect : ℕ → Spe → Spe → Effect
 exec_effect p P Q = record {
@@ -123,8 +118,26 @@ copy_effect p put_it x Q = record {
   fixed = fixes Q;
 }
 
-abbrev pub piece_effect : ℕ → ℕ → ℕ → Spe → Spe → Command → Option Effect
-piece_effect p c k P Q d = option_map (λ x. copy_effect p (is_put d.kind) (part_in x k) Q) (present P.moves.read c d)
+-- a value that is delivered tells its register, where that is one of so many processors
+abbrev pub told_delivery : ℕ → Option Delivery → Note
+told_delivery spes None = Nothing
+told_delivery spes (Some d) = if nat_lt d.spe spes then Signal d.spe d.register else Nothing
+
+-- a signal is four bytes of the store, and no byte is written
+abbrev pub signal_effect : ℕ → ℕ → Part → Left → Effect
+signal_effect spes p x left = record {
+  fetch = nowhere;
+  reads = in_store p x.ls 4;
+  writes = nowhere;
+  note = told_delivery spes left.sent;
+  fixed = fixes left.spe;
+}
+
+abbrev pub part_effect : ℕ → ℕ → Command → Part → Left → Effect
+part_effect spes p d x left = if is_signal d.kind then signal_effect spes p x left else copy_effect p (is_put d.kind) x left.spe
+
+abbrev pub piece_effect : ℕ → ℕ → ℕ → ℕ → Spe → Left → Command → Option Effect
+piece_effect spes p c k P left d = option_map (λ x. part_effect spes p d (part_in x k) left) (present P.moves.read c d)
 
 -- an element that was read tells its number, its parts and its flag; one at fault tells only that the processor ceased to run, if it did
 abbrev pub told_element : Spe → Spe → Result Element DmaFault → Note
@@ -158,6 +171,7 @@ host_writes (Send p value) = nowhere
 host_writes (TakeOut p) = nowhere
 host_writes (TakeIntr p) = nowhere
 host_writes (Await p) = nowhere
+host_writes (SignalTo p r value) = nowhere
 
 abbrev pub host_tells : HostAction → Note
 host_tells (Send p value) = Put p 0
@@ -165,6 +179,7 @@ host_tells (TakeOut p) = Take p 1
 host_tells (TakeIntr p) = Take p 2
 host_tells (Store ea len bytes) = Nothing
 host_tells (Await p) = Awaited p
+host_tells (SignalTo p r value) = Signal p r
 
 abbrev pub host_effect : HostAction → Effect
 host_effect a = record { fetch = nowhere; reads = nowhere; writes = host_writes a; note = host_tells a; fixed = false }
@@ -182,7 +197,7 @@ of_command P c f = option_and_then f (slice_get P.moves.issued c)
 -- the effect of a step, None where it isn't allowed
 unfoldable pub effect_of : State → Step → Option Effect
 effect_of M (Exec p) = of_spe M p (λ P. option_map (exec_effect p P) (exec (lines_of M.memory) P))
-effect_of M (Piece p c e k) = of_spe M p (λ P. option_and_then (λ x. of_command P c (piece_effect p c k P x.spe)) (piece M.memory P c e k))
+effect_of M (Piece p c e k) = of_spe M p (λ P. option_and_then (λ x. of_command P c (piece_effect (length M.spes) p c k P x)) (piece M.memory P c e k))
 effect_of M (Elem p c) =
     of_spe M p (λ P. option_and_then (λ Q. of_command P c (λ d. Some (elem_effect (lines_of M.memory) p c P Q d))) (elem (lines_of M.memory) P c))
 effect_of M (Retire p c) = of_spe M p (λ P. option_map plain_effect (retire P c))

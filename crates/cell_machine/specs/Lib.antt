@@ -1,6 +1,7 @@
 pub mod Spe
 pub mod Memory
 pub mod State
+pub mod Signals
 pub mod Moves
 pub mod MovesShown
 pub mod Kept
@@ -10,6 +11,7 @@ pub mod Exec
 pub mod Transfers
 pub mod Atomic
 pub mod Hosts
+pub mod Raised
 pub mod Next
 pub mod Opening
 pub mod Limits
@@ -19,6 +21,7 @@ pub mod Choices
 pub mod Order
 pub mod Lists
 pub mod Locks
+pub mod OwnEvents
 pub mod Shows
 pub mod Effects
 pub mod Written

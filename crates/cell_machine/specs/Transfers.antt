@@ -6,7 +6,7 @@ use Rattle.local_store.specs.Store.{word_at}
 use Rattle.mfc_command.specs.declared.command.Command.{Command}
 use Rattle.mfc_command.specs.declared.command.DmaFault.{DmaFault as Fault}
 use Rattle.mfc_command.specs.declared.command.Kind.{Kind}
-use Rattle.mfc_command.specs.declared.command.Kind.TheVariants.{Put, Get, PutList, GetList, Barrier, PutQueued}
+use Rattle.mfc_command.specs.declared.command.Kind.TheVariants.{Put, Get, PutList, GetList, Barrier, PutQueued, Signal}
 use Rattle.mfc_command.specs.declared.range.Part.{Part}
 use Rattle.mfc_command.specs.Order.{is_list}
 use Rattle.mfc_command.specs.Parts.{part_of}
@@ -15,6 +15,8 @@ use Rattle.mfc_lists.specs.Elements.{element_of}
 use Rattle.cell_machine.specs.declared.status.Status.TheVariants.{DmaFault}
 use Rattle.cell_machine.specs.Spe.{Spe, Moves, PartDone, is_faulted}
 use Rattle.cell_machine.specs.Memory.{MainMemory, stored}
+use Rattle.cell_signals.specs.Registers.{processor_in, register_in}
+use Rattle.cell_machine.specs.declared.signals.Delivery.{Delivery}
 use Rattle.cell_machine.specs.Moves.{is_moved, read_of, present, parts_in, is_done, is_stalled, is_at_rest, are_all_there, was_retired, may_begin}
 
 -- whether command c, which passes a test, may begin
@@ -54,18 +56,40 @@ is_put PutList = true
 is_put GetList = false
 is_put Barrier = false
 is_put PutQueued = true
+is_put Signal = false
 
--- what a step leaves: the processor, and the main memory
+-- whether they go to a signal register
+abbrev pub is_signal : Kind → Bool
+is_signal Signal = true
+is_signal Put = false
+is_signal Get = false
+is_signal PutList = false
+is_signal GetList = false
+is_signal Barrier = false
+is_signal PutQueued = false
+
+-- what a step leaves: the processor, the main memory, and what is on its way to a signal register
 pub record Left : Type 0 where
   pub spe : Spe
   pub memory : MainMemory
+  pub sent : Option Delivery
 
 -- the bytes of a part are copied to the memory, or to the store
 unfoldable pub copied : MainMemory → Spe → Bool → Part → Left
 copied memory P put_it x =
     if put_it
-    then record { spe = P; memory = stored memory x.ea (slice_range P.store x.ls (x.ls + x.len)) }
-    else record { spe = record P { store = put P.store x.ls (slice_range memory.bytes x.ea (x.ea + x.len)) }; memory = memory }
+    then record { spe = P; memory = stored memory x.ea (slice_range P.store x.ls (x.ls + x.len)); sent = None }
+    else record { spe = record P { store = put P.store x.ls (slice_range memory.bytes x.ea (x.ea + x.len)) }; memory = memory; sent = None }
+
+-- the word of a part goes to the register that its effective address numbers
+abbrev pub delivery : Spe → Part → Delivery
+delivery P x = record { spe = processor_in x.ea; register = register_in x.ea; value = word_at P.store x.ls }
+
+unfoldable pub sent : MainMemory → Spe → Part → Left
+sent memory P x = record { spe = P; memory = memory; sent = Some (delivery P x) }
+
+abbrev pub moved : MainMemory → Spe → Kind → Part → Left
+moved memory P kind x = if is_signal kind then sent memory P x else copied memory P (is_put kind) x
 
 abbrev pub with_done : Moves → ℕ → ℕ → ℕ → Moves
 with_done m c e k = record m { done = m.done ++ record { cmd = c; elem = e; part = k } ∷ [] }
@@ -79,7 +103,7 @@ abbrev pub part_in : Element → ℕ → Part
 part_in x k = part_of x.ls x.ea x.size k
 
 abbrev pub piece_of : MainMemory → Spe → ℕ → ℕ → Command → Element → Left
-piece_of memory P c k d x = copied memory (after_part P c x.number k d) (is_put d.kind) (part_in x k)
+piece_of memory P c k d x = moved memory (after_part P c x.number k d) d.kind (part_in x k)
 
 -- what is left after part k of element e of command c
 unfoldable pub piece : MainMemory → Spe → ℕ → ℕ → ℕ → Option Left

@@ -1,16 +1,15 @@
 //! The atomic command of a processor.
 
-ghost use Rattle.std.specs.Prelude.{◌≡◌, ℕ, ◌+◌, ◌*◌, ◌<◌, ◌≤◌, List, Option, Some, None, length, IsSomeAnd, MatchBool, slice_get, slice_set, slice_range, if◌then◌else◌};
-ghost use Rattle.std.specs.Bool.{OnFalse};
+ghost use Rattle.std.specs.Prelude.{◌≡◌, ◌+◌, ◌*◌, ◌<◌, ◌≤◌, List, Option, Some, None, length, IfNone, slice_get, slice_set, slice_range, if◌then◌else◌};
 ghost use Rattle.lock_lines.specs.Stands.{line_count, HasSameSize};
 ghost use Rattle.lock_lines.specs.Versions.{Reserved, version_of};
 ghost use Rattle.mfc_command.specs.declared.command.Order.TheVariants.{Atomic};
 ghost use Rattle.mfc_command.specs.Check.{OrderFits};
 ghost use Rattle.cell_machine.specs.Spe.{Spe};
 ghost use Rattle.cell_machine.specs.Memory.{MainMemory, stored};
-ghost use Rattle.cell_machine.specs.Tags.{settled};
 ghost use Rattle.cell_machine.specs.Atomic.{may_atomic, atomic, holds, fate, status_of, reserved_after, line_part, moved};
-ghost use Rattle.cell_machine.specs.Shows.{ShowsMemory};
+ghost use Rattle.cell_machine.specs.Shows.{ShowsMemory, LosesOthers, Makes};
+ghost use Rattle.cell_machine.specs.OwnEvents.{with_fixed};
 
 use crate::memory::SharedMemory;
 use crate::processor::Processor;
@@ -41,46 +40,69 @@ pub(crate) fn line_part(a: AtomicOp) -> Part
     }
 }
 
-/// PUTLLC: stores the line where the processor holds it, and gives up its reservation. Answers the status.
-fn put_conditional(store: &LocalStore, memory: &mut SharedMemory, spe: u8, a: AtomicOp) -> u32
+/// What an atomic command comes to: its status, and which other processors lose their reservation.
+#[derive(Clone, Copy)]
+pub(crate) struct Done {
+    status: u32,
+    losers: u16,
+}
+
+/// PUTLLC: stores the line where the processor holds it, and gives up its reservation.
+fn put_conditional(store: &LocalStore, memory: &mut SharedMemory, spe: u8, a: AtomicOp) -> Done
     requires fits { OrderFits (line_count memory.old.locks) (Atomic a) }
     requires spe { spe < memory.old.locks.spes }
     requires small { length memory.old.bytes ≤ 67108864 }
-    ensures status { (P : Spe) (m : MainMemory) (reserved : List (Option Reserved)) → ShowsMemory memory.old m reserved → slice_get reserved spe ≡ Some P.reserved → result ≡ (if holds m P a.line then 0 else 1) }
+    ensures status { (P : Spe) (m : MainMemory) (reserved : List (Option Reserved)) → ShowsMemory memory.old m reserved → slice_get reserved spe ≡ Some P.reserved → result.status ≡ (if holds m P a.line then 0 else 1) }
     ensures stores { (P : Spe) (m : MainMemory) (reserved : List (Option Reserved)) → ShowsMemory memory.old m reserved → slice_get reserved spe ≡ Some P.reserved → ShowsMemory memory.new (if holds m P a.line then stored m (128 * a.line) (slice_range store.now a.ls (a.ls + 128)) else m) (slice_set reserved spe None) }
+    ensures losers { (P : Spe) (m : MainMemory) (reserved : List (Option Reserved)) → ShowsMemory memory.old m reserved → slice_get reserved spe ≡ Some P.reserved → LosesOthers spe result.losers m reserved (if holds m P a.line then stored m (128 * a.line) (slice_range store.now a.ls (a.ls + 128)) else m) }
     ensures size { HasSameSize memory.old.locks memory.new.locks }
 {
+    let losers = memory.locks.other_holders(spe, a.line);
     match memory.locks.putllc(spe, a.line) {
         Lock::Stored => {
             let mut bytes = [0; LINE_BYTES as usize];
             store.copy_out(a.ls, &mut bytes);
             memory.bytes.copy_in(LINE_BYTES * a.line, &bytes);
-            PUTLLC_STORED
+            Done {
+                status: PUTLLC_STORED,
+                losers,
+            }
         }
-        Lock::Lost => PUTLLC_LOST,
+        Lock::Lost => Done {
+            status: PUTLLC_LOST,
+            losers: 0,
+        },
     }
 }
 
-/// Moves the line of an atomic command of processor `spe`, and answers the command's status.
-fn move_line(store: &mut LocalStore, memory: &mut SharedMemory, spe: u8, a: AtomicOp) -> u32
+/// Moves the line of an atomic command of processor `spe`.
+fn move_line(store: &mut LocalStore, memory: &mut SharedMemory, spe: u8, a: AtomicOp) -> Done
     requires fits { OrderFits (line_count memory.old.locks) (Atomic a) }
     requires spe { spe < memory.old.locks.spes }
     requires small { length memory.old.bytes ≤ 67108864 }
-    ensures status { (P : Spe) (m : MainMemory) (reserved : List (Option Reserved)) → ShowsMemory memory.old m reserved → slice_get reserved spe ≡ Some P.reserved → result ≡ status_of a.kind (holds m P a.line) }
+    ensures status { (P : Spe) (m : MainMemory) (reserved : List (Option Reserved)) → ShowsMemory memory.old m reserved → slice_get reserved spe ≡ Some P.reserved → result.status ≡ status_of a.kind (holds m P a.line) }
     ensures store { (P Q : Spe) (m : MainMemory) (reserved : List (Option Reserved)) → ShowsMemory memory.old m reserved → slice_get reserved spe ≡ Some P.reserved → Q.store ≡ store.old → (moved m Q a (fate m P a)).spe ≡ record Q { store = store.new } }
     ensures memory { (P Q : Spe) (m : MainMemory) (reserved : List (Option Reserved)) → ShowsMemory memory.old m reserved → slice_get reserved spe ≡ Some P.reserved → Q.store ≡ store.old → ShowsMemory memory.new (moved m Q a (fate m P a)).memory (slice_set reserved spe (reserved_after a.kind (record { line = a.line; version = version_of m.versions a.line }) P.reserved)) }
+    ensures losers { (P Q : Spe) (m : MainMemory) (reserved : List (Option Reserved)) → ShowsMemory memory.old m reserved → slice_get reserved spe ≡ Some P.reserved → Q.store ≡ store.old → LosesOthers spe result.losers m reserved (moved m Q a (fate m P a)).memory }
     ensures size { HasSameSize memory.old.locks memory.new.locks }
 {
     match a.kind {
         AtomicKind::GetLine => {
             get_part(store, &memory.bytes, line_part(a));
             memory.locks.getllar(spe, a.line);
-            GETLLAR_DONE
+            Done {
+                status: GETLLAR_DONE,
+                losers: 0,
+            }
         }
         AtomicKind::PutCond => put_conditional(store, memory, spe, a),
         AtomicKind::PutLine => {
+            let losers = memory.locks.other_holders(spe, a.line);
             put_part(store, memory, line_part(a));
-            PUTLLUC_DONE
+            Done {
+                status: PUTLLUC_DONE,
+                losers,
+            }
         }
     }
 }
@@ -95,39 +117,41 @@ impl Processor {
         !self.is_faulted() && self.channels.slot().is_some()
     }
 
-    /// Does the atomic command in the slot of the processor, whose number is `spe`, if that is allowed.
-    fn atomic(&mut self, memory: &mut SharedMemory, spe: u8) -> bool
+    /// Does the atomic command in the slot of the processor, whose number is `spe`, if that is allowed. Answers which other processors
+    /// lose their reservation.
+    fn atomic(&mut self, memory: &mut SharedMemory, spe: u8) -> Option<u16>
         requires can { CanStep (line_count memory.old.locks) self.old }
         requires spe { spe < memory.old.locks.spes }
         requires small { length memory.old.bytes ≤ 67108864 }
-        ensures made { (P : Spe) (m : MainMemory) (reserved : List (Option Reserved)) → ShowsSpe self.old P → ShowsMemory memory.old m reserved → slice_get reserved spe ≡ Some P.reserved → MatchBool result (IsSomeAnd (atomic m P) (λ x. ShowsSpe self.new x.spe × ShowsMemory memory.new x.memory (slice_set reserved spe x.spe.reserved))) (atomic m P ≡ None) }
-        ensures refused { OnFalse result ((self.new ≡ self.old) × (memory.new ≡ memory.old)) }
+        ensures made { (P : Spe) (m : MainMemory) (reserved : List (Option Reserved)) → ShowsSpe self.old P → ShowsMemory memory.old m reserved → slice_get reserved spe ≡ Some P.reserved → Makes result (atomic m P) (λ w x. ShowsSpe self.new x.spe × ShowsMemory memory.new x.memory (slice_set reserved spe x.spe.reserved) × LosesOthers spe w m reserved x.memory) }
+        ensures refused { IfNone result ((self.new ≡ self.old) × (memory.new ≡ memory.old)) }
         ensures size { HasSameSize memory.old.locks memory.new.locks }
     {
         if self.is_faulted() {
-            return false;
+            return None;
         }
         let Some(a) = self.channels.slot() else {
-            return false;
+            return None;
         };
-        let status = move_line(&mut self.store, memory, spe, a);
-        self.channels.atomic_done(status);
-        true
+        let done = move_line(&mut self.store, memory, spe, a);
+        self.channels.atomic_done(done.status);
+        Some(done.losers)
     }
 
-    /// Does the atomic command and settles, or leaves all as it is where that isn't allowed.
-    pub(crate) fn atomic_step(&mut self, memory: &mut SharedMemory, spe: u8) -> bool
+    /// Does the atomic command and ends the step, or leaves all as it is where that isn't allowed. Answers which other processors
+    /// lose their reservation.
+    pub(crate) fn atomic_step(&mut self, memory: &mut SharedMemory, spe: u8) -> Option<u16>
         requires can { CanStep (line_count memory.old.locks) self.old }
         requires spe { spe < memory.old.locks.spes }
         requires small { length memory.old.bytes ≤ 67108864 }
-        ensures made { (P : Spe) (m : MainMemory) (reserved : List (Option Reserved)) → ShowsSpe self.old P → ShowsMemory memory.old m reserved → slice_get reserved spe ≡ Some P.reserved → MatchBool result (IsSomeAnd (atomic m P) (λ x. ShowsSpe self.new (settled x.spe) × ShowsMemory memory.new x.memory (slice_set reserved spe x.spe.reserved))) (atomic m P ≡ None) }
-        ensures refused { OnFalse result ((self.new ≡ self.old) × (memory.new ≡ memory.old)) }
+        ensures made { (P : Spe) (m : MainMemory) (reserved : List (Option Reserved)) → ShowsSpe self.old P → ShowsMemory memory.old m reserved → slice_get reserved spe ≡ Some P.reserved → Makes result (atomic m P) (λ w x. ShowsSpe self.new (with_fixed x.spe) × ShowsMemory memory.new x.memory (slice_set reserved spe x.spe.reserved) × LosesOthers spe w m reserved x.memory) }
+        ensures refused { IfNone result ((self.new ≡ self.old) × (memory.new ≡ memory.old)) }
         ensures size { HasSameSize memory.old.locks memory.new.locks }
     {
-        if !self.atomic(memory, spe) {
-            return false;
-        }
+        let Some(losers) = self.atomic(memory, spe) else {
+            return None;
+        };
         self.settle();
-        true
+        Some(losers)
     }
 }

@@ -1,6 +1,6 @@
 //! The channel instructions of a processor.
 
-ghost use Rattle.std.specs.Prelude.{◌≡◌, ◌≢◌, ◌==◌, false, ◌<◌, ◌≤◌, ◌+◌, ℕ, List, [], ◌∷◌, length, is_some, true, None, Some, IsSomeAnd, MatchBool, nat_le, ◌&&◌};
+ghost use Rattle.std.specs.Prelude.{◌≡◌, ◌≢◌, ◌==◌, false, ◌<◌, ◌≤◌, ℕ, List, [], ◌∷◌, length, is_some, true, None, Some, IsSomeAnd, MatchBool, nat_le, ◌&&◌};
 ghost use Rattle.std.specs.Bool.{OnFalse, OnTrue};
 ghost use Rattle.spu_decode.specs.Spelling.{FieldsFit};
 ghost use Rattle.spu_exec.specs.Meaning.{meaning};
@@ -8,17 +8,23 @@ ghost use Rattle.spu_exec.specs.Places.{RegisterFits};
 ghost use Rattle.cell_machine.specs.Spe.{Spe};
 ghost use Rattle.mfc_queue.specs.Calls.{Call, outstanding};
 ghost use Rattle.mfc_queue.specs.Stands.{StandsFor};
-ghost use Rattle.cell_machine.specs.Channels.{channel, count, is_atomic, may_write, given, went_on, read_inbound, read_status, read_atomic, read_stalls, acknowledged, commanded};
+ghost use Rattle.cell_signals.specs.Registers.{register_of};
+ghost use Rattle.cell_signals.specs.Events.{status_of};
+ghost use Rattle.cell_machine.specs.Limits.{IsRegister};
+ghost use Rattle.cell_machine.specs.OwnEvents.{with_freed};
+ghost use Rattle.cell_machine.specs.Channels.{channel, count, is_atomic, may_write, given, went_on, read_signal, read_inbound, read_status, read_atomic, read_stalls, acknowledged, commanded};
 ghost use Rattle.cell_channels.specs.Table.{way_of};
 ghost use Rattle.cell_machine.specs.Exec.{op_of};
 
+use crate::events::{QUEUE_FREED, ceases};
 use crate::processor::Processor;
 use crate::status::Status;
 use cell_base::{ChannelOp, Quad};
 use cell_channels::{
     Counts, MFC_CMD, MFC_LSA, MFC_RD_ATOMIC_STAT, MFC_RD_LIST_STALL_STAT, MFC_RD_TAG_MASK,
     MFC_RD_TAG_STAT, MFC_TAG_ID, MFC_WR_LIST_STALL_ACK, MFC_WR_TAG_MASK, MFC_WR_TAG_UPDATE,
-    SPU_RD_IN_MBOX, SPU_WR_OUT_INTR_MBOX, SPU_WR_OUT_MBOX, way,
+    SPU_RD_EVENT_MASK, SPU_RD_EVENT_STAT, SPU_RD_IN_MBOX, SPU_RD_SIG_NOTIFY_1, SPU_RD_SIG_NOTIFY_2,
+    SPU_WR_EVENT_ACK, SPU_WR_EVENT_MASK, SPU_WR_OUT_INTR_MBOX, SPU_WR_OUT_MBOX, way,
 };
 use mfc_command::{AtomicOp, DmaFault, Order, check, is_atomic};
 use spu_decode::{Instr, Row};
@@ -65,6 +71,9 @@ impl Processor {
             inbound: self.inbound.len(),
             outbound: OUTBOUND_PLACES - self.outbound.len(),
             intr: OUTBOUND_PLACES - self.interrupt.len(),
+            sig1: self.signals.ready(1),
+            sig2: self.signals.ready(2),
+            event: self.events.status() != 0,
         };
         match self.channels.count(ch, counts) {
             Ok(count) => count,
@@ -95,6 +104,14 @@ impl Processor {
         ensures refused { OnFalse result (self.new ≡ self.old) }
     {
         match ch {
+            SPU_RD_EVENT_STAT => self.read_events(rt),
+            SPU_RD_SIG_NOTIFY_1 => self.read_signal(rt, 1),
+            SPU_RD_SIG_NOTIFY_2 => self.read_signal(rt, 2),
+            SPU_RD_EVENT_MASK => {
+                let mask = self.events.mask();
+                self.give(rt, mask);
+                true
+            }
             MFC_RD_TAG_MASK => {
                 let mask = self.tags.mask();
                 self.give(rt, mask);
@@ -108,6 +125,39 @@ impl Processor {
                 self.status = Status::BadChannel;
                 true
             }
+        }
+    }
+
+    /// Reads the event status, if it isn't 0. It stays until it is acknowledged.
+    fn read_events(&mut self, rt: u8) -> bool
+        requires { rt < 128 }
+        ensures made { (P : Spe) → ShowsSpe self.old P → MatchBool result (((status_of P.events == 0) ≡ false) × ShowsSpe self.new (given P rt (status_of P.events))) ((status_of P.events == 0) ≡ true) }
+        ensures refused { OnFalse result (self.new ≡ self.old) }
+    {
+        let status = self.events.status();
+        if status == 0 {
+            return false;
+        }
+        self.give(rt, status);
+        true
+    }
+
+    /// Takes the value of a signal register, if it is ready.
+    fn read_signal(&mut self, rt: u8, register: u8) -> bool
+        requires rt { rt < 128 }
+        requires register { IsRegister register }
+        ensures made { (P : Spe) → ShowsSpe self.old P → MatchBool result (((register_of P.signals register).ready ≡ true) × ShowsSpe self.new (read_signal P rt register)) ((register_of P.signals register).ready ≡ false) }
+        ensures refused { OnFalse result (self.new ≡ self.old) }
+    {
+        if !self.signals.ready(register) {
+            return false;
+        }
+        match self.signals.read(register) {
+            Ok(value) => {
+                self.give(rt, value);
+                true
+            }
+            Err(_) => unreachable!(),
         }
     }
 
@@ -196,10 +246,20 @@ impl Processor {
     fn write_channel(&mut self, lines: u32, ch: u8, value: u32) -> bool
         requires number { CanIssue self.old.commands }
         requires lines { lines ≤ 524288 }
-        ensures made { (P : Spe) → ShowsSpe self.old P → MatchBool result (IsSomeAnd (channel lines P (ChannelOp.Write ch value)) (ShowsSpe self.new)) (channel lines P (ChannelOp.Write ch value) ≡ None) }
+        ensures made { (P : Spe) → ShowsSpe self.old P → MatchBool result (IsSomeAnd (channel lines P (ChannelOp.Write ch value)) (λ Q. ShowsSpe self.new (with_freed P Q))) (channel lines P (ChannelOp.Write ch value) ≡ None) }
         ensures refused { OnFalse result (self.new ≡ self.old) }
     {
         match ch {
+            SPU_WR_EVENT_MASK => {
+                self.events.set_mask(value);
+                self.go_on();
+                true
+            }
+            SPU_WR_EVENT_ACK => {
+                self.events.acknowledge(value);
+                self.go_on();
+                true
+            }
             MFC_CMD => self.write_command(lines, value),
             MFC_WR_TAG_MASK => {
                 self.tags.set_mask(value);
@@ -225,17 +285,20 @@ impl Processor {
         }
     }
 
-    /// Lets all lists of a tag that stall go on.
+    /// Lets all lists of a tag that stall go on. The queue may come to have a free place by that, which is an event.
     fn acknowledge(&mut self, tag: u32)
         requires { CanIssue self.old.commands }
-        ensures { (P : Spe) → ShowsSpe self.old P → ShowsSpe self.new (acknowledged P tag) }
+        ensures { (P : Spe) → ShowsSpe self.old P → ShowsSpe self.new (with_freed P (acknowledged P tag)) }
     {
+        let was_full = self.is_queue_full();
         self.commands.acknowledge(tag);
+        let is_full = self.is_queue_full();
+        self.raise_if(ceases(was_full, is_full), QUEUE_FREED);
     }
 
     /// Sets a parameter of the next command, where the channel holds one.
     fn write_param(&mut self, ch: u8, value: u32)
-        requires other { (ch ≢ 21) × (ch ≢ 22) × (ch ≢ 23) × (ch ≢ 26) × (ch ≢ 28) × (ch ≢ 30) }
+        requires other { (ch ≢ 1) × (ch ≢ 2) × (ch ≢ 21) × (ch ≢ 22) × (ch ≢ 23) × (ch ≢ 26) × (ch ≢ 28) × (ch ≢ 30) }
         ensures { (lines : ℕ) (P : Spe) → ShowsSpe self.old P → IsSomeAnd (channel lines P (ChannelOp.Write ch value)) (ShowsSpe self.new) }
     {
         if !is_param(ch) {
@@ -342,7 +405,7 @@ impl Processor {
         requires register { RegisterFits op }
         requires number { CanIssue self.old.commands }
         requires lines { lines ≤ 524288 }
-        ensures made { (P : Spe) → ShowsSpe self.old P → MatchBool result (IsSomeAnd (channel lines P op) (ShowsSpe self.new)) (channel lines P op ≡ None) }
+        ensures made { (P : Spe) → ShowsSpe self.old P → MatchBool result (IsSomeAnd (channel lines P op) (λ Q. ShowsSpe self.new (with_freed P Q))) (channel lines P op ≡ None) }
         ensures refused { OnFalse result (self.new ≡ self.old) }
     {
         match op {
@@ -371,6 +434,9 @@ impl Processor {
         ensures { (lines : ℕ) (P : Spe) (rt : ℕ) → ShowsChannels self.now P → result ≡ is_some (channel lines P (ChannelOp.Read rt ch)) }
     {
         match ch {
+            SPU_RD_EVENT_STAT => self.events.status() != 0,
+            SPU_RD_SIG_NOTIFY_1 => self.signals.ready(1),
+            SPU_RD_SIG_NOTIFY_2 => self.signals.ready(2),
             MFC_RD_TAG_STAT => self.tags.ready(),
             MFC_RD_LIST_STALL_STAT => self.channels.has_stall(),
             MFC_RD_ATOMIC_STAT => self.channels.has_atomic(),

@@ -42,6 +42,7 @@ fn is_list(kind: Kind) -> bool
         Kind::GetList => true,
         Kind::Barrier => false,
         Kind::PutQueued => false,
+        Kind::Signal => false,
     }
 }
 
@@ -56,6 +57,7 @@ fn is_moved(command: &Command) -> bool
         Kind::GetList => command.size != 0,
         Kind::Barrier => false,
         Kind::PutQueued => command.size != 0,
+        Kind::Signal => command.size != 0,
     }
 }
 

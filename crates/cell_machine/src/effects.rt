@@ -6,7 +6,6 @@ ghost use Rattle.lock_lines.specs.Stands.{line_count};
 ghost use Rattle.lock_lines.specs.Versions.{Reserved};
 ghost use Rattle.mfc_command.specs.declared.command.Order.TheVariants.{Atomic};
 ghost use Rattle.mfc_command.specs.Check.{OrderFits};
-ghost use Rattle.cell_host.specs.Script.{Progress};
 ghost use Rattle.cell_machine.specs.declared.effect.Note.TheVariants.{Nothing, Ended, Element as Reading};
 ghost use Rattle.cell_machine.specs.Spe.{Spe, is_running};
 ghost use Rattle.cell_machine.specs.State.{State};
@@ -15,7 +14,7 @@ ghost use Rattle.cell_machine.specs.Kept.{IsKept};
 ghost use Rattle.cell_machine.specs.Moves.{parts_in};
 ghost use Rattle.cell_machine.specs.Transfers.{piece, elem, retire};
 ghost use Rattle.cell_machine.specs.Atomic.{atomic, fate};
-ghost use Rattle.cell_machine.specs.Effects.{nowhere, in_memory, in_store, part_reads, part_writes, copy_effect, piece_effect, elem_effect, plain_effect, line_effect, host_writes, host_tells, fixes, of_command, effect_of};
+ghost use Rattle.cell_machine.specs.Effects.{nowhere, in_memory, in_store, part_reads, part_writes, copy_effect, told_delivery, piece_effect, elem_effect, plain_effect, line_effect, host_writes, host_tells, fixes, of_command, effect_of};
 ghost use Rattle.cell_machine.specs.Shows.{Shows, ShowsMemory, CanGo};
 
 use crate::atomics::line_part;
@@ -23,7 +22,8 @@ use crate::effect::{Effect, INBOUND, INTERRUPT, Note, OUTBOUND, Place, Span};
 use crate::hosts::may_act_host;
 use crate::memory::SharedMemory;
 use crate::processor::Processor;
-use crate::transfers::is_put;
+use crate::signals::Delivery;
+use crate::transfers::{is_put, is_signal, signal};
 use cell_base::Step;
 use cell_host::{Host, HostAction};
 use main_memory::LINE_BYTES;
@@ -32,6 +32,9 @@ use mfc_lists::Element;
 
 /// How many bytes of the store an element of a list is read from.
 const ELEMENT_BYTES: u32 = 8;
+
+/// How many bytes of the store a signal has.
+const SIGNAL_BYTES: u32 = 4;
 
 /// No bytes.
 pub(crate) fn nowhere() -> Span
@@ -96,6 +99,20 @@ fn copying(spe: u8, put_it: bool, x: Part, fixed: bool) -> Effect
     }
 }
 
+/// What a value that is delivered tells, where there are so many processors.
+fn told_delivery(spes: usize, sent: Delivery) -> Note
+    ensures { result ≡ told_delivery spes (Some sent) }
+{
+    if usize::from(sent.spe) < spes {
+        Note::Signal {
+            spe: sent.spe,
+            register: sent.register,
+        }
+    } else {
+        Note::Nothing
+    }
+}
+
 /// An effect that writes nothing.
 fn looking(reads: Span, note: Note, fixed: bool) -> Effect
     ensures { result ≡ record { fetch = nowhere; reads = reads; writes = nowhere; note = note; fixed = fixed } }
@@ -136,10 +153,10 @@ fn line_effect(memory: &SharedMemory, spe: u8, a: AtomicOp, fixed: bool) -> Effe
 impl Processor {
     ghost use Rattle.cell_machine.specs.Shows.{ShowsSpe, CanStep};
 
-    /// What a piece would do.
-    fn piece_effect(&self, spe: u8, cmd: u32, elem: u16, k: u16) -> Option<Effect>
+    /// What a piece would do, where there are so many processors.
+    fn piece_effect(&self, spes: usize, spe: u8, cmd: u32, elem: u16, k: u16) -> Option<Effect>
         requires { (lines : ℕ) × CanStep lines self.now × (lines ≤ 524288) }
-        ensures { (P : Spe) (m : MainMemory) → ShowsSpe self.now P → result ≡ option_and_then (λ x. of_command P cmd (piece_effect spe cmd k P x.spe)) (piece m P cmd elem k) }
+        ensures { (P : Spe) (m : MainMemory) → ShowsSpe self.now P → result ≡ option_and_then (λ x. of_command P cmd (piece_effect spes spe cmd k P x)) (piece m P cmd elem k) }
     {
         if self.is_faulted() {
             return None;
@@ -148,8 +165,12 @@ impl Processor {
             return None;
         };
         let command = self.commands.queue.command(cmd);
-        let copied = part(x.ls, x.ea, x.size, k as u32);
         let fixed = self.fixes_by_piece(cmd, k as u32);
+        if is_signal(command.kind) {
+            let note = told_delivery(spes, signal(&self.store, x));
+            return Some(looking(in_store(spe, x.ls, SIGNAL_BYTES), note, fixed));
+        }
+        let copied = part(x.ls, x.ea, x.size, k as u32);
         Some(copying(spe, is_put(command.kind), copied, fixed))
     }
 
@@ -262,6 +283,7 @@ fn host_tells(action: HostAction) -> Note
         },
         HostAction::Store { .. } => Note::Nothing,
         HostAction::Await { spe } => Note::Awaited { spe },
+        HostAction::Signal { spe, register, .. } => Note::Signal { spe, register },
     }
 }
 
@@ -313,7 +335,7 @@ pub(crate) fn effect_of(
             if spe as usize >= processors.len() {
                 return None;
             }
-            processors[spe as usize].piece_effect(spe, cmd, elem, part)
+            processors[spe as usize].piece_effect(processors.len(), spe, cmd, elem, part)
         }
         Step::Elem { spe, cmd } => {
             if spe as usize >= processors.len() {

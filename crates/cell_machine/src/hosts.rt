@@ -1,16 +1,22 @@
 //! The host script's actions.
 
-ghost use Rattle.std.specs.Prelude.{◌≡◌, ℕ, ◌≤◌, ◌<◌, length, take, Option, is_some, true, None, IfSome, IfNone, IsSomeAnd, MatchBool};
+ghost use Rattle.std.specs.Prelude.{◌≡◌, ◌≤◌, ◌<◌, length, Option, is_some, true, Some, None, IfSome, IfNone, IsSomeAnd, MatchBool};
 ghost use Rattle.std.specs.Bool.{OnFalse};
 ghost use Rattle.cell_host.specs.Script.{Progress, takes};
 ghost use Rattle.lock_lines.specs.Stands.{HasSameSize};
 ghost use Rattle.cell_machine.specs.Spe.{Spe};
 ghost use Rattle.cell_machine.specs.State.{State};
 ghost use Rattle.cell_machine.specs.Hosts.{sent, taken, taken_interrupt, awaited, given, at_spe, acted, host};
-ghost use Rattle.cell_machine.specs.Shows.{Shows, Gives, Leaves, Fits, IsFit};
+ghost use Rattle.cell_machine.specs.Limits.{IsRegister};
+ghost use Rattle.cell_machine.specs.Next.{closed_in};
+ghost use Rattle.cell_machine.specs.Signals.{with_signal};
+ghost use Rattle.cell_base.specs.declared.steps.Step.{Step};
+ghost use Rattle.cell_machine.specs.Shows.{Shows, Gives, Leaves, Fits, IsFit, IsStill, AreSettled, NamesRegister};
 
+use crate::events::{INBOUND_FILLED, INTERRUPT_EMPTY, OUTBOUND_EMPTY};
 use crate::memory::SharedMemory;
 use crate::processor::Processor;
+use crate::signals::lose;
 use cell_host::{Host, HostAction};
 
 /// How many values the inbound mailbox takes.
@@ -27,39 +33,60 @@ impl Processor {
 
     /// Takes a value into the inbound mailbox, if it has a free place.
     fn receive(&mut self, value: u32) -> Option<Taken>
-        ensures made { (P : Spe) → ShowsSpe self.old P → Gives result (sent value P) self.new }
+        ensures made { (P : Spe) → ShowsSpe self.old P → IsStill P → Gives P result (sent value P) self.new }
         ensures refused { IfNone result (self.new ≡ self.old) }
         ensures takes { IfSome result (λ t. t.value ≡ None) }
     {
+        let is_first = self.inbound.len() == 0;
         if self.inbound.put(value).is_err() {
             return None;
         }
+        self.raise_if(is_first, INBOUND_FILLED);
         Some(Taken { value: None })
     }
 
     /// Gives the oldest value of the outbound mailbox, if there is one.
     fn give_outbound(&mut self) -> Option<Taken>
-        ensures made { (P : Spe) → ShowsSpe self.old P → Gives result (taken P) self.new }
+        ensures made { (P : Spe) → ShowsSpe self.old P → IsStill P → Gives P result (taken P) self.new }
         ensures refused { IfNone result (self.new ≡ self.old) }
         ensures takes { IfSome result (λ t. is_some t.value ≡ true) }
     {
-        let value = self.outbound.take()?;
+        let Some(value) = self.outbound.take() else {
+            return None;
+        };
+        let is_empty = self.outbound.len() == 0;
+        self.raise_if(is_empty, OUTBOUND_EMPTY);
         Some(Taken { value: Some(value) })
     }
 
     /// Gives the oldest value of the outbound interrupt mailbox, if there is one.
     fn give_interrupt(&mut self) -> Option<Taken>
-        ensures made { (P : Spe) → ShowsSpe self.old P → Gives result (taken_interrupt P) self.new }
+        ensures made { (P : Spe) → ShowsSpe self.old P → IsStill P → Gives P result (taken_interrupt P) self.new }
         ensures refused { IfNone result (self.new ≡ self.old) }
         ensures takes { IfSome result (λ t. is_some t.value ≡ true) }
     {
-        let value = self.interrupt.take()?;
+        let Some(value) = self.interrupt.take() else {
+            return None;
+        };
+        let is_empty = self.interrupt.len() == 0;
+        self.raise_if(is_empty, INTERRUPT_EMPTY);
         Some(Taken { value: Some(value) })
+    }
+
+    /// Takes a value into a signal register.
+    fn receive_signal(&mut self, register: u8, value: u32) -> Option<Taken>
+        requires { IsRegister register }
+        ensures made { (P : Spe) → ShowsSpe self.old P → IsStill P → Gives P result (Some (record { spe = with_signal P register value; took = None })) self.new }
+        ensures refused { IfNone result (self.new ≡ self.old) }
+        ensures takes { IfSome result (λ t. t.value ≡ None) }
+    {
+        self.deliver(register, value);
+        Some(Taken { value: None })
     }
 
     /// Lets the host go on, if the processor doesn't run.
     fn let_go(&self) -> Option<Taken>
-        ensures made { (P : Spe) → ShowsSpe self.now P → Gives result (awaited P) self.now }
+        ensures made { (P : Spe) → ShowsSpe self.now P → IsStill P → Gives P result (awaited P) self.now }
         ensures takes { IfSome result (λ t. t.value ≡ None) }
     {
         if self.is_running() {
@@ -68,9 +95,10 @@ impl Processor {
         Some(Taken { value: None })
     }
 
-    /// Does what an action asks of its processor, or leaves it as it is where that isn't allowed.
+    /// Does what an action asks of its processor, with its events, or leaves it as it is where that isn't allowed.
     fn answer(&mut self, action: HostAction) -> Option<Taken>
-        ensures made { (P : Spe) → ShowsSpe self.old P → Gives result (given action P) self.new }
+        requires { NamesRegister action }
+        ensures made { (P : Spe) → ShowsSpe self.old P → IsStill P → Gives P result (given action P) self.new }
         ensures refused { IfNone result (self.new ≡ self.old) }
         ensures takes { IfSome result (λ t. is_some t.value ≡ takes action) }
     {
@@ -80,6 +108,11 @@ impl Processor {
             HostAction::TakeIntr { .. } => self.give_interrupt(),
             HostAction::Store { .. } => Some(Taken { value: None }),
             HostAction::Await { .. } => self.let_go(),
+            HostAction::Signal {
+                register,
+                value,
+                ..
+            } => self.receive_signal(register, value),
         }
     }
 
@@ -93,13 +126,16 @@ impl Processor {
             HostAction::TakeIntr { .. } => self.interrupt.len() > 0,
             HostAction::Store { .. } => true,
             HostAction::Await { .. } => !self.is_running(),
+            HostAction::Signal { .. } => true,
         }
     }
 }
 
 /// Does what an action asks of processor `spe`, or leaves all as it is where that isn't allowed.
 fn answer_at(processors: &mut [Processor], spe: u8, action: HostAction) -> Option<Taken>
-    ensures made { (memory : SharedMemory) (host : Progress) (M : State) → Shows processors.old memory host M → Leaves result (at_spe M spe (given action)) processors.new memory host }
+    requires many { length processors.old ≤ 16 }
+    requires register { NamesRegister action }
+    ensures made { (memory : SharedMemory) (host : Progress) (M : State) → Shows processors.old memory host M → AreSettled M.spes → Leaves M result (at_spe M spe (given action)) processors.new memory host }
     ensures refused { IfNone result (processors.new ≡ processors.old) }
     ensures takes { IfSome result (λ t. is_some t.value ≡ takes action) }
 {
@@ -126,8 +162,9 @@ fn perform(
     memory: &mut SharedMemory,
     action: HostAction,
 ) -> Option<Taken>
-    requires { Fits (length processors.old) memory.old action }
-    ensures made { (host : Progress) (M : State) → Shows processors.old memory.old host M → Leaves result (acted M action) processors.new memory.new host }
+    requires many { length processors.old ≤ 16 }
+    requires fits { Fits (length processors.old) memory.old action }
+    ensures made { (host : Progress) (M : State) → Shows processors.old memory.old host M → AreSettled M.spes → Leaves M result (acted M action) processors.new memory.new host }
     ensures refused { IfNone result ((processors.new ≡ processors.old) × (memory.new ≡ memory.old)) }
     ensures takes { IfSome result (λ t. is_some t.value ≡ takes action) }
     ensures size { HasSameSize memory.old.locks memory.new.locks }
@@ -137,10 +174,12 @@ fn perform(
         HostAction::Take { spe } => answer_at(processors, spe, action),
         HostAction::TakeIntr { spe } => answer_at(processors, spe, action),
         HostAction::Store { ea, len, bytes } => {
-            memory.store(ea, &bytes[..len as usize]);
+            let losers = memory.store(ea, &bytes[..len as usize]);
+            lose(processors, losers);
             Some(Taken { value: None })
         }
         HostAction::Await { spe } => answer_at(processors, spe, action),
+        HostAction::Signal { spe, .. } => answer_at(processors, spe, action),
     }
 }
 
@@ -150,8 +189,9 @@ pub(crate) fn act_host(
     memory: &mut SharedMemory,
     script: &mut Host,
 ) -> bool
-    requires { IsFit (length processors.old) memory.old script.old }
-    ensures made { (M : State) → Shows processors.old memory.old script.old M → MatchBool result (IsSomeAnd (host M) (Shows processors.new memory.new script.new)) (host M ≡ None) }
+    requires many { length processors.old ≤ 16 }
+    requires fit { IsFit (length processors.old) memory.old script.old }
+    ensures made { (M : State) → Shows processors.old memory.old script.old M → AreSettled M.spes → MatchBool result (IsSomeAnd (host M) (λ N. Shows processors.new memory.new script.new (closed_in M Step.Host N))) (host M ≡ None) }
     ensures refused { OnFalse result ((processors.new ≡ processors.old) × (memory.new ≡ memory.old) × (script.new ≡ script.old)) }
     ensures size { HasSameSize memory.old.locks memory.new.locks }
     ensures script { script.new.script ≡ script.old.script }
@@ -179,5 +219,6 @@ pub(crate) fn may_act_host(processors: &[Processor], script: &Host) -> bool
         HostAction::TakeIntr { spe } => lets_at(processors, spe, action),
         HostAction::Store { .. } => true,
         HostAction::Await { spe } => lets_at(processors, spe, action),
+        HostAction::Signal { spe, .. } => lets_at(processors, spe, action),
     }
 }

@@ -16,8 +16,9 @@ use crate::processor::Processor;
 use cell_base::ChannelOp;
 use cell_channels::{
     MFC_CMD, MFC_RD_ATOMIC_STAT, MFC_RD_LIST_STALL_STAT, MFC_RD_TAG_MASK, MFC_RD_TAG_STAT,
-    MFC_WR_LIST_STALL_ACK, MFC_WR_TAG_MASK, MFC_WR_TAG_UPDATE, SPU_RD_IN_MBOX,
-    SPU_WR_OUT_INTR_MBOX, SPU_WR_OUT_MBOX, way,
+    MFC_WR_LIST_STALL_ACK, MFC_WR_TAG_MASK, MFC_WR_TAG_UPDATE, SPU_RD_EVENT_MASK,
+    SPU_RD_EVENT_STAT, SPU_RD_IN_MBOX, SPU_RD_SIG_NOTIFY_1, SPU_RD_SIG_NOTIFY_2, SPU_WR_EVENT_ACK,
+    SPU_WR_EVENT_MASK, SPU_WR_OUT_INTR_MBOX, SPU_WR_OUT_MBOX, way,
 };
 use local_store::line_of;
 use mfc_command::{Order, check};
@@ -101,6 +102,10 @@ impl Processor {
         ensures { (lines : ℕ) (P Q : Spe) (registers : List (List ℕ)) (store : List ℕ) (rt : ℕ) → ShowsSpe self.now P → is_running P.status ≡ true → channel lines (record P { registers = registers; store = store }) (ChannelOp.Read rt ch) ≡ Some Q → result ≡ told spe P Q (Some (ChannelOp.Read rt ch)) }
     {
         match ch {
+            SPU_RD_EVENT_STAT => Note::Nothing,
+            SPU_RD_SIG_NOTIFY_1 => Note::Signal { spe, register: 1 },
+            SPU_RD_SIG_NOTIFY_2 => Note::Signal { spe, register: 2 },
+            SPU_RD_EVENT_MASK => Note::Nothing,
             MFC_RD_TAG_MASK => Note::Nothing,
             MFC_RD_TAG_STAT => self.status_told(),
             MFC_RD_LIST_STALL_STAT => Note::StallRead {
@@ -135,6 +140,8 @@ impl Processor {
         ensures { (P Q : Spe) (registers : List (List ℕ)) (store : List ℕ) → ShowsSpe self.now P → is_running P.status ≡ true → channel lines (record P { registers = registers; store = store }) (ChannelOp.Write ch value) ≡ Some Q → result ≡ told spe P Q (Some (ChannelOp.Write ch value)) }
     {
         match ch {
+            SPU_WR_EVENT_MASK => Note::Nothing,
+            SPU_WR_EVENT_ACK => Note::Nothing,
             MFC_CMD => self.command_tells(lines, value),
             MFC_WR_TAG_MASK => Note::Nothing,
             MFC_WR_TAG_UPDATE => Note::Nothing,
@@ -179,7 +186,7 @@ fn count_tells(ch: u8) -> Note
 
 /// What a write to another channel tells: nothing, where the channel holds a parameter.
 fn param_tells(ch: u8) -> Note
-    requires { (ch ≢ 21) × (ch ≢ 22) × (ch ≢ 23) × (ch ≢ 26) × (ch ≢ 28) × (ch ≢ 30) }
+    requires { (ch ≢ 1) × (ch ≢ 2) × (ch ≢ 21) × (ch ≢ 22) × (ch ≢ 23) × (ch ≢ 26) × (ch ≢ 28) × (ch ≢ 30) }
     ensures { (lines spe value : ℕ) (P Q : Spe) (registers : List (List ℕ)) (store : List ℕ) → is_running P.status ≡ true → channel lines (record P { registers = registers; store = store }) (ChannelOp.Write ch value) ≡ Some Q → result ≡ told spe P Q (Some (ChannelOp.Write ch value)) }
 {
     if is_param(ch) {

@@ -1,20 +1,19 @@
 //! The whole machine.
 
-ghost use Rattle.std.specs.Prelude.{◌≡◌, ℕ, ◌+◌, ◌*◌, ◌<◌, ◌≤◌, ◌↔◌, Bool, List, [], ◌∷◌, ◌++◌, Some, None, length, IfOk, IsOk, OnErr, OnOk, IsSome, IsSomeAnd, IfSome, IfNone, MatchBool, All, slice_get};
+ghost use Rattle.std.specs.Prelude.{◌≡◌, ◌+◌, ◌*◌, ◌<◌, ◌≤◌, ◌↔◌, [], ◌∷◌, ◌++◌, Some, None, length, IfOk, IsOk, OnErr, IsSome, IsSomeAnd, IfSome, IfNone, MatchBool, All, slice_get};
 ghost use Rattle.std.specs.Bool.{OnFalse};
 ghost use Rattle.cell_base.specs.Records.{AreSteps};
 ghost use Rattle.cell_base.specs.declared.steps.Step.{Step};
 ghost use Rattle.cell_machine.specs.State.{State};
-ghost use Rattle.cell_machine.specs.Next.{act, settled_in};
+ghost use Rattle.cell_machine.specs.Next.{act, closed_in};
 ghost use Rattle.cell_machine.specs.Moves.{outstanding};
 ghost use Rattle.cell_machine.specs.Kept.{IsKept};
 ghost use Rattle.cell_machine.specs.Choices.{all_of_spus, all_of_mfcs};
 ghost use Rattle.spu_exec.specs.Places.{IsPlace};
 ghost use Rattle.spu_regs.specs.Registers.{register};
-ghost use Rattle.cell_base.specs.Bytes.{zeros};
 ghost use Rattle.cell_host.specs.Script.{Progress};
-ghost use Rattle.cell_machine.specs.Opening.{Opening, opening_spes, filled};
-ghost use Rattle.cell_machine.specs.Limits.{shown, shown_memory};
+ghost use Rattle.cell_machine.specs.Opening.{Opening, opening_spes};
+ghost use Rattle.cell_machine.specs.Limits.{shown};
 ghost use Rattle.cell_machine.specs.Run.{Ran, IsRun, state_of, next_of, spe_of, picked_of, first_of, first_allowed, picked, allowed, is_quiet, IsEnd};
 ghost use Rattle.cell_machine.specs.Actors.{MissesNone};
 ghost use Rattle.cell_machine.specs.Effects.{effect_in};
@@ -34,6 +33,7 @@ use crate::hosts::{act_host, may_act_host};
 use crate::memory::SharedMemory;
 use crate::processor::Processor;
 use crate::setup::{PlacedBytes, Setup};
+use crate::signals::{lose, spread};
 use crate::status::{End, Refused, Status};
 use cell_base::{Actor, Quad, Step};
 use cell_host::Host;
@@ -67,9 +67,10 @@ impl Model for Machine {
 
 /// Does the step, or leaves all as it is where it isn't allowed.
 fn act(processors: &mut [Processor], memory: &mut SharedMemory, host: &mut Host, s: Step) -> bool
+    requires many { length processors.old ≤ 16 }
     requires fit { IsFit (length processors.old) memory.old host.old }
     requires can { CanGo processors.old memory.old }
-    ensures made { (M : State) → Shows processors.old memory.old host.old M → AreSettled M.spes → MatchBool result (IsSomeAnd (act M s) (λ N. Shows processors.new memory.new host.new (settled_in N))) (act M s ≡ None) }
+    ensures made { (M : State) → Shows processors.old memory.old host.old M → AreSettled M.spes → MatchBool result (IsSomeAnd (act M s) (λ N. Shows processors.new memory.new host.new (closed_in M s N))) (act M s ≡ None) }
     ensures refused { OnFalse result ((processors.new ≡ processors.old) × (memory.new ≡ memory.old) × (host.new ≡ host.old)) }
     ensures size { HasSameSize memory.old.locks memory.new.locks }
     ensures script { host.new.script ≡ host.old.script }
@@ -91,7 +92,11 @@ fn act(processors: &mut [Processor], memory: &mut SharedMemory, host: &mut Host,
             if spe as usize >= processors.len() {
                 return false;
             }
-            processors[spe as usize].piece_step(memory, cmd, elem, part)
+            let Some(reach) = processors[spe as usize].piece_step(memory, cmd, elem, part) else {
+                return false;
+            };
+            spread(processors, reach);
+            true
         }
         Step::Elem { spe, cmd } => {
             if spe as usize >= processors.len() {
@@ -109,7 +114,11 @@ fn act(processors: &mut [Processor], memory: &mut SharedMemory, host: &mut Host,
             if spe as usize >= processors.len() {
                 return false;
             }
-            processors[spe as usize].atomic_step(memory, spe)
+            let Some(losers) = processors[spe as usize].atomic_step(memory, spe) else {
+                return false;
+            };
+            lose(processors, losers);
+            true
         }
         Step::Host => act_host(processors, memory, host),
     }
@@ -119,16 +128,17 @@ fn act(processors: &mut [Processor], memory: &mut SharedMemory, host: &mut Host,
 fn opening_processors(
     alloc: Global,
     entries: &[u32],
+    or_modes: u32,
     placed: &[PlacedBytes],
 ) -> Result<Vec<Processor>, MachineError>
     requires many { length entries.now ≤ 16 }
     requires places { All IsPlace entries.now }
     requires fits { All (λ x. x.at + length x.bytes.items ≤ 262144) placed.now }
-    ensures { IfOk result (λ v. (S : Opening) → S.entries ≡ entries.now → S.placed ≡ shown placed.now → AllTwo ShowsSpe v.items (opening_spes S)) }
+    ensures { IfOk result (λ v. (S : Opening) → S.entries ≡ entries.now → S.or_modes ≡ or_modes → S.placed ≡ shown placed.now → AllTwo ShowsSpe v.items (opening_spes S)) }
 {
     let mut processors = Vec::new(alloc);
     for spe in 0..entries.len() {
-        processors.push(Processor::new(alloc, spe as u8, entries[spe], placed)?)?;
+        processors.push(Processor::new(alloc, spe as u8, entries[spe], or_modes, placed)?)?;
     }
     Ok(processors)
 }
@@ -237,7 +247,7 @@ impl Machine {
         requires { 0 < length setup.entries }
         ensures { IfOk result (λ m. m ≡ record { setup = setup; steps = [] }) }
     {
-        let processors = opening_processors(alloc, &setup.entries, &setup.placed)?;
+        let processors = opening_processors(alloc, &setup.entries, setup.or_modes, &setup.placed)?;
         let spes = setup.entries.len() as u8;
         let memory = SharedMemory::new(alloc, setup.lines, spes, &setup.memory)?;
         let host = Host::new(alloc, &setup.actions)?;

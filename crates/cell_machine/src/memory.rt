@@ -1,6 +1,6 @@
 //! The main memory that all processors share, and the reservations of its lines.
 
-ghost use Rattle.std.specs.Prelude.{◌≡◌, ℕ, ◌+◌, ◌*◌, ◌<◌, ◌≤◌, List, Option, None, length, replicate, IfOk, All};
+ghost use Rattle.std.specs.Prelude.{◌≡◌, ◌+◌, ◌*◌, ◌<◌, ◌≤◌, List, Option, None, length, replicate, IfOk, All};
 ghost use Rattle.cell_base.specs.Bytes.{zeros};
 ghost use Rattle.lock_lines.specs.Stands.{line_count, HasSameSize};
 ghost use Rattle.lock_lines.specs.Versions.{Reserved};
@@ -37,7 +37,7 @@ fn opening_bytes(alloc: Global, lines: u32, pieces: &[MemoryBytes]) -> Result<Me
 }
 
 impl SharedMemory {
-    ghost use Rattle.cell_machine.specs.Shows.{ShowsMemory, HasSize};
+    ghost use Rattle.cell_machine.specs.Shows.{ShowsMemory, HasSize, Loses};
 
     /// The memory at the start, of which no line is reserved.
     pub(crate) fn new(
@@ -57,14 +57,18 @@ impl SharedMemory {
         Ok(SharedMemory { bytes, locks })
     }
 
-    /// Stores one or more bytes, which lie in one line. Each store but that of a PUTLLC is one of these.
-    pub(crate) fn store(&mut self, at: u32, bytes: &[u8])
+    /// Stores one or more bytes, which lie in one line, and answers which processors held that. Each store but that of a PUTLLC is one of these.
+    pub(crate) fn store(&mut self, at: u32, bytes: &[u8]) -> u16
         requires some { 0 < length bytes.now }
         requires there { at + length bytes.now ≤ length self.old.bytes }
         ensures shows { (m : MainMemory) (reserved : List (Option Reserved)) → ShowsMemory self.old m reserved → ShowsMemory self.new (stored m at bytes.now) reserved }
+        ensures losers { (m : MainMemory) (reserved : List (Option Reserved)) → ShowsMemory self.old m reserved → Loses result m reserved (stored m at bytes.now) }
         ensures size { HasSameSize self.old.locks self.new.locks }
     {
+        let line = at / LINE_BYTES;
+        let losers = self.locks.holders(line);
         self.bytes.copy_in(at, bytes);
-        self.locks.touched(at / LINE_BYTES);
+        self.locks.touched(line);
+        losers
     }
 }

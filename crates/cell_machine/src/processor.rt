@@ -1,15 +1,17 @@
 //! One processor.
 
-ghost use Rattle.std.specs.Prelude.{◌≡◌, ℕ, ◌+◌, ◌≤◌, List, length, is_some, None, IfOk, IsSome, IsSomeAnd, MatchBool, All};
+ghost use Rattle.std.specs.Prelude.{◌≡◌, ℕ, ◌+◌, ◌<◌, ◌≤◌, length, is_some, None, IfOk, IsSome, IsSomeAnd, MatchBool, All};
 ghost use Rattle.std.specs.Bool.{OnFalse};
 ghost use Rattle.spu_exec.specs.Places.{IsPlace, LeadsToPlace, RegisterFits};
 ghost use Rattle.cell_base.specs.declared.steps.ChannelOp.{ChannelOp};
 ghost use Rattle.cell_machine.specs.Spe.{Spe, is_running};
 ghost use Rattle.cell_machine.specs.Moves.{outstanding};
-ghost use Rattle.cell_machine.specs.Tags.{settled};
 ghost use Rattle.cell_machine.specs.Exec.{exec, followed, op_of};
 ghost use Rattle.cell_machine.specs.Opening.{placed_in};
-ghost use Rattle.cell_machine.specs.Limits.{shown};
+ghost use Rattle.cell_machine.specs.Limits.{shown, IsRegister};
+ghost use Rattle.cell_machine.specs.OwnEvents.{with_freed, with_fixed};
+ghost use Rattle.cell_signals.specs.Registers.{number_of};
+ghost use Rattle.cell_base.specs.Bits.{has_bit};
 
 use crate::channels::operation;
 use crate::commands::Commands;
@@ -17,6 +19,7 @@ use crate::error::MachineError;
 use crate::setup::PlacedBytes;
 use crate::status::Status;
 use cell_channels::Channels;
+use cell_signals::{Events, Signals};
 use local_store::LocalStore;
 use mailboxes::Mailbox;
 use spu_decode::decode;
@@ -40,6 +43,8 @@ pub(crate) struct Processor {
     pub(crate) interrupt: Mailbox<1>,
     pub(crate) channels: Channels,
     pub(crate) tags: Tags,
+    pub(crate) signals: Signals,
+    pub(crate) events: Events,
     pub(crate) commands: Commands,
     ghost here: { IsPlace pc },
 }
@@ -57,6 +62,15 @@ fn place_bytes(store: &mut LocalStore, spe: u8, placed: &[PlacedBytes])
     }
 }
 
+/// Whether a signal register is in OR mode.
+fn is_or(or_modes: u32, spe: u8, register: u8) -> bool
+    requires spe { spe < 16 }
+    requires register { IsRegister register }
+    ensures { result ≡ has_bit or_modes (number_of spe register) }
+{
+    (or_modes >> (2 * spe + register - 1)) & 1 == 1
+}
+
 impl Processor {
     ghost use Rattle.cell_machine.specs.Opening.{Opening, opening_spe};
     ghost use Rattle.cell_machine.specs.Shows.{ShowsSpe, CanIssue};
@@ -67,11 +81,13 @@ impl Processor {
         alloc: Global,
         spe: u8,
         entry: u32,
+        or_modes: u32,
         placed: &[PlacedBytes],
     ) -> Result<Processor, MachineError>
+        requires small { spe < 16 }
         requires here { IsPlace entry }
         requires fits { All (λ x. x.at + length x.bytes.items ≤ 262144) placed.now }
-        ensures { IfOk result (λ c. (S : Opening) → S.placed ≡ shown placed.now → ShowsSpe c (opening_spe S (spe, entry))) }
+        ensures { IfOk result (λ c. (S : Opening) → S.or_modes ≡ or_modes → S.placed ≡ shown placed.now → ShowsSpe c (opening_spe S (spe, entry))) }
     {
         let registers = Regs::new(alloc)?;
         let mut store = LocalStore::new(alloc)?;
@@ -86,6 +102,8 @@ impl Processor {
             interrupt: Mailbox::new(),
             channels: Channels::new(),
             tags: Tags::new(),
+            signals: Signals::new(is_or(or_modes, spe, 1), is_or(or_modes, spe, 2)),
+            events: Events::new(),
             commands: Commands::new(),
         })
     }
@@ -102,7 +120,7 @@ impl Processor {
         requires number { CanIssue self.old.commands }
         requires lines { lines ≤ 524288 }
         requires channel { (op : ChannelOp) → flow ≡ Flow.Channel op → RegisterFits op }
-        ensures made { (P : Spe) → ShowsSpe self.old P → MatchBool result (IsSomeAnd (followed lines P flow) (ShowsSpe self.new)) (followed lines P flow ≡ None) }
+        ensures made { (P : Spe) → ShowsSpe self.old P → MatchBool result (IsSomeAnd (followed lines P flow) (λ Q. ShowsSpe self.new (with_freed P Q))) (followed lines P flow ≡ None) }
         ensures refused { OnFalse result (self.new ≡ self.old) }
         ensures only { OnFalse result (IsSome (op_of flow)) }
     {
@@ -129,7 +147,7 @@ impl Processor {
     fn exec(&mut self, lines: u32) -> bool
         requires number { CanIssue self.old.commands }
         requires lines { lines ≤ 524288 }
-        ensures made { (P : Spe) → ShowsSpe self.old P → MatchBool result (IsSomeAnd (exec lines P) (ShowsSpe self.new)) (exec lines P ≡ None) }
+        ensures made { (P : Spe) → ShowsSpe self.old P → MatchBool result (IsSomeAnd (exec lines P) (λ Q. ShowsSpe self.new (with_freed P Q))) (exec lines P ≡ None) }
         ensures refused { OnFalse result (self.new ≡ self.old) }
     {
         if !self.is_running() {
@@ -143,11 +161,11 @@ impl Processor {
         self.follow(lines, flow)
     }
 
-    /// Makes the next instruction and settles, or leaves all as it is where the instruction isn't allowed.
+    /// Makes the next instruction and ends the step, or leaves all as it is where the instruction isn't allowed.
     pub(crate) fn exec_step(&mut self, lines: u32) -> bool
         requires number { CanIssue self.old.commands }
         requires lines { lines ≤ 524288 }
-        ensures made { (P : Spe) → ShowsSpe self.old P → MatchBool result (IsSomeAnd (exec lines P) (λ Q. ShowsSpe self.new (settled Q))) (exec lines P ≡ None) }
+        ensures made { (P : Spe) → ShowsSpe self.old P → MatchBool result (IsSomeAnd (exec lines P) (λ Q. ShowsSpe self.new (with_fixed (with_freed P Q)))) (exec lines P ≡ None) }
         ensures refused { OnFalse result (self.new ≡ self.old) }
     {
         if !self.exec(lines) {

@@ -1,8 +1,9 @@
 //! What a machine begins with.
 
-ghost use Rattle.std.specs.Prelude.{All, ◌≡◌, ℕ, ◌+◌, ◌*◌, ◌%◌, ◌<◌, ◌≤◌, ◌↔◌, [], ◌∷◌, ◌++◌, length, slice_set, Err, IfOk, IsTrue, OnErr, OnOk};
+ghost use Rattle.std.specs.Prelude.{All, ◌≡◌, ◌+◌, ◌*◌, ◌%◌, ◌^◌, ◌<◌, ◌≤◌, ◌↔◌, bit_or, [], ◌∷◌, ◌++◌, length, slice_set, Err, IfOk, IsTrue, OnErr, OnOk};
 ghost use Rattle.spu_exec.specs.Places.{IsPlace};
-ghost use Rattle.cell_machine.specs.Limits.{AreMachineLimits, FitsShow, MayShow, FitsAction, MayAct, shown, shown_memory};
+ghost use Rattle.cell_signals.specs.Registers.{number_of};
+ghost use Rattle.cell_machine.specs.Limits.{AreMachineLimits, FitsShow, MayShow, FitsAction, MayAct, IsRegister, shown, shown_memory};
 ghost use Rattle.cell_machine.specs.declared.setup.SetupError.TheVariants as setup_error;
 
 use cell_host::{HostAction, MAX_ACTIONS};
@@ -55,6 +56,8 @@ pub struct Setup {
     pub(crate) lines: u32,
     pub(crate) budget: u32,
     pub(crate) entries: Vec<u32>,
+    /// The signal registers in OR mode, as bits: 2 q + r - 1 is the bit of register r of processor q.
+    pub(crate) or_modes: u32,
     pub(crate) placed: Vec<PlacedBytes>,
     pub(crate) memory: Vec<MemoryBytes>,
     pub(crate) actions: Vec<HostAction>,
@@ -69,9 +72,9 @@ impl Model for Setup {
 
     ghost use Rattle.cell_machine.specs.Limits.{shown, shown_memory, IsOpening};
 
-    ghost view = { λ s. record { lines = s.lines; budget = s.budget; entries = s.entries.items; placed = shown s.placed.items; memory = shown_memory s.memory.items; actions = s.actions.items; shows = s.shows.items } };
+    ghost view = { λ s. record { lines = s.lines; budget = s.budget; entries = s.entries.items; or_modes = s.or_modes; placed = shown s.placed.items; memory = shown_memory s.memory.items; actions = s.actions.items; shows = s.shows.items } };
 
-    ghost invariant = { λ s. IsOpening (record { lines = s.lines; budget = s.budget; entries = s.entries.items; placed = shown s.placed.items; memory = shown_memory s.memory.items; actions = s.actions.items; shows = s.shows.items }) };
+    ghost invariant = { λ s. IsOpening (record { lines = s.lines; budget = s.budget; entries = s.entries.items; or_modes = s.or_modes; placed = shown s.placed.items; memory = shown_memory s.memory.items; actions = s.actions.items; shows = s.shows.items }) };
 }
 
 /// Why a call of a Setup refused.
@@ -131,11 +134,18 @@ fn copy_memory(alloc: Global, pieces: &[MemoryBytes]) -> Result<Vec<MemoryBytes>
     Ok(copies)
 }
 
+/// Whether a signal register has this number.
+fn is_register(register: u8) -> bool
+    ensures { IsTrue result ↔ IsRegister register }
+{
+    register == 1 || register == 2
+}
+
 impl Setup {
     /// A setup with no processor, of 1 to 524,288 lines and with a budget of 1 to 1,000,000 steps; `Limit` exactly outside of these.
     /// It takes no memory.
     pub fn new(alloc: Global, lines: u32, budget: u32) -> Result<Setup, SetupError>
-        ensures made { IfOk result (λ s. s ≡ record { lines = lines; budget = budget; entries = []; placed = []; memory = []; actions = []; shows = [] }) }
+        ensures made { IfOk result (λ s. s ≡ record { lines = lines; budget = budget; entries = []; or_modes = 0; placed = []; memory = []; actions = []; shows = [] }) }
         ensures limits { OnOk result (AreMachineLimits lines budget) }
         ensures refused { OnErr result ((result ≡ Err SetupError.Limit) × (AreMachineLimits lines budget → ⊥)) }
     {
@@ -146,6 +156,7 @@ impl Setup {
             lines,
             budget,
             entries: Vec::new(alloc),
+            or_modes: 0,
             placed: Vec::new(alloc),
             memory: Vec::new(alloc),
             actions: Vec::new(alloc),
@@ -163,6 +174,7 @@ impl Setup {
             lines: self.lines,
             budget: self.budget,
             entries: self.entries.to_vec(alloc)?,
+            or_modes: self.or_modes,
             placed: copy_placed(alloc, &self.placed)?,
             memory: copy_memory(alloc, &self.memory)?,
             actions: self.actions.to_vec(alloc)?,
@@ -237,8 +249,8 @@ impl Setup {
         Ok(())
     }
 
-    /// Adds the next action of the host's script. `Limit` where 4,096 are there, its processor isn't there, or it is a store
-    /// that doesn't have 1 to 16 bytes within one line of 128 bytes of the memory.
+    /// Adds the next action of the host's script. `Limit` where 4,096 are there, its processor isn't there, it is a store
+    /// that doesn't have 1 to 16 bytes within one line of 128 bytes of the memory, or a signal to a register other than 1 and 2.
     pub fn add_action(&mut self, a: HostAction) -> Result<(), SetupError>
         ensures added { OnOk result (self.new ≡ record self.old { actions = self.old.actions ++ a ∷ [] }) }
         ensures limit { (result ≡ Err SetupError.Limit) ↔ (MayAct self.old a → ⊥) }
@@ -253,7 +265,7 @@ impl Setup {
         Ok(())
     }
 
-    /// Whether an action's processor is there, or its bytes are 1 to 16 within one line of the memory.
+    /// Whether an action's processor and register are there, or its bytes are 1 to 16 within one line of the memory.
     fn fits_action(&self, a: HostAction) -> bool
         ensures { IsTrue result ↔ FitsAction self.now.lines (length self.now.entries) a }
     {
@@ -263,11 +275,13 @@ impl Setup {
             HostAction::TakeIntr { spe } => self.has_spe(spe),
             HostAction::Store { ea, len, .. } => self.fits_in_line(ea, len),
             HostAction::Await { spe } => self.has_spe(spe),
+            HostAction::Signal { spe, register, .. } => self.has_spe(spe) && is_register(register),
         }
     }
 
     fn has_spe(&self, spe: u8) -> bool
-        ensures { IsTrue result ↔ (spe < length self.now.entries) }
+        ensures there { IsTrue result ↔ (spe < length self.now.entries) }
+        ensures small { IsTrue result → spe < 16 }
     {
         (spe as usize) < self.entries.len()
     }
@@ -305,6 +319,20 @@ impl Setup {
             return Err(SetupError::Limit);
         }
         self.entries[spe as usize] = at;
+        Ok(())
+    }
+
+    /// Puts signal register 1 or 2 of a processor into OR mode. `Limit` where the processor isn't there, or the register is another.
+    pub fn set_or_mode(&mut self, spe: u8, register: u8) -> Result<(), SetupError>
+        ensures set { OnOk result (self.new ≡ record self.old { or_modes = bit_or self.old.or_modes (2 ^ number_of spe register) }) }
+        ensures limit { (result ≡ Err SetupError.Limit) ↔ (spe < length self.old.entries → IsRegister register → ⊥) }
+        ensures only { OnErr result (result ≡ Err SetupError.Limit) }
+        ensures err { OnErr result (self.new ≡ self.old) }
+    {
+        if !self.has_spe(spe) || !is_register(register) {
+            return Err(SetupError::Limit);
+        }
+        self.or_modes |= 1 << (2 * spe + register - 1);
         Ok(())
     }
 

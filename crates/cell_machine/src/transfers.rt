@@ -1,6 +1,6 @@
 //! The steps of queued commands: pieces, the reading of list elements, and retirements.
 
-ghost use Rattle.std.specs.Prelude.{◌≡◌, ℕ, ◌+◌, ◌≤◌, ◌<◌, List, Option, length, None, IsSomeAnd, MatchBool, slice_range, if◌then◌else◌};
+ghost use Rattle.std.specs.Prelude.{◌≡◌, ◌+◌, ◌≤◌, ◌<◌, true, List, Option, length, None, IsSomeAnd, IfSome, IfNone, MatchBool, slice_range, if◌then◌else◌};
 ghost use Rattle.std.specs.Bool.{OnFalse, OnTrue};
 ghost use Rattle.cell_base.specs.Bytes.{put};
 ghost use Rattle.lock_lines.specs.Stands.{line_count, HasSameSize};
@@ -10,12 +10,15 @@ ghost use Rattle.cell_machine.specs.Spe.{Spe, is_faulted};
 ghost use Rattle.cell_machine.specs.Memory.{MainMemory, stored};
 ghost use Rattle.cell_machine.specs.Moves.{parts_in};
 ghost use Rattle.cell_machine.specs.Kept.{IsKept};
-ghost use Rattle.cell_machine.specs.Tags.{settled};
-ghost use Rattle.cell_machine.specs.Transfers.{may_elem, may_retire, piece, elem, retire, copied, is_put, part_in, told};
-ghost use Rattle.cell_machine.specs.Shows.{ShowsMemory};
+ghost use Rattle.cell_machine.specs.Transfers.{may_elem, may_retire, piece, elem, retire, copied, delivery, moved, is_put, is_signal, part_in, told};
+ghost use Rattle.cell_machine.specs.Limits.{IsRegister};
+ghost use Rattle.cell_machine.specs.Shows.{ShowsMemory, Loses, Reaches, IsDelivery, IsSignal, Makes};
+ghost use Rattle.cell_machine.specs.OwnEvents.{with_flow, with_fixed};
 
+use crate::events::TAG_STATUS;
 use crate::memory::SharedMemory;
 use crate::processor::Processor;
+use crate::signals::{Delivery, Reach};
 use crate::status::Status;
 use local_store::LocalStore;
 use main_memory::Memory;
@@ -36,21 +39,39 @@ pub(crate) fn is_put(kind: Kind) -> bool
         Kind::GetList => false,
         Kind::Barrier => false,
         Kind::PutQueued => true,
+        Kind::Signal => false,
     }
 }
 
-/// Copies a part from the store to the memory.
-pub(crate) fn put_part(store: &LocalStore, memory: &mut SharedMemory, x: Part)
+/// Whether a command of this kind goes to a signal register.
+pub(crate) fn is_signal(kind: Kind) -> bool
+    ensures { result ≡ is_signal kind }
+{
+    match kind {
+        Kind::Put => false,
+        Kind::Get => false,
+        Kind::PutList => false,
+        Kind::GetList => false,
+        Kind::Barrier => false,
+        Kind::PutQueued => false,
+        Kind::Signal => true,
+    }
+}
+
+/// Copies a part from the store to the memory, and answers which processors lose their reservation.
+pub(crate) fn put_part(store: &LocalStore, memory: &mut SharedMemory, x: Part) -> u16
     requires some { 0 < x.len }
     requires few { x.len ≤ 128 }
     requires store { x.ls + x.len ≤ 262144 }
     requires memory { x.ea + x.len ≤ length memory.old.bytes }
     ensures stores { (m : MainMemory) (reserved : List (Option Reserved)) → ShowsMemory memory.old m reserved → ShowsMemory memory.new (stored m x.ea (slice_range store.now x.ls (x.ls + x.len))) reserved }
+    ensures losers { (m : MainMemory) (reserved : List (Option Reserved)) → ShowsMemory memory.old m reserved → Loses result m reserved (stored m x.ea (slice_range store.now x.ls (x.ls + x.len))) }
     ensures size { HasSameSize memory.old.locks memory.new.locks }
 {
     let mut bytes = [0; PIECE_BYTES];
-    store.copy_out(x.ls, &mut bytes[..x.len as usize]);
-    memory.store(x.ea, &bytes[..x.len as usize]);
+    let part = &mut bytes[..x.len as usize];
+    store.copy_out(x.ls, part);
+    memory.store(x.ea, part)
 }
 
 /// Copies a part from the memory to the store.
@@ -65,8 +86,8 @@ pub(crate) fn get_part(store: &mut LocalStore, memory: &Memory, x: Part)
     store.copy_in(x.ls, &bytes[..x.len as usize]);
 }
 
-/// Copies part `k` of an element between the store and the memory.
-fn copy(store: &mut LocalStore, memory: &mut SharedMemory, put_it: bool, x: Element, k: u32)
+/// Copies part `k` of an element between the store and the memory, and answers which processors lose their reservation.
+fn copy(store: &mut LocalStore, memory: &mut SharedMemory, put_it: bool, x: Element, k: u32) -> u16
     requires few { x.size ≤ 16384 }
     requires store { x.ls + x.size ≤ 262144 }
     requires memory { x.ea + x.size ≤ length memory.old.bytes }
@@ -74,13 +95,60 @@ fn copy(store: &mut LocalStore, memory: &mut SharedMemory, put_it: bool, x: Elem
     requires there { k < parts_in x }
     ensures store { (P : Spe) (m : MainMemory) (reserved : List (Option Reserved)) → ShowsMemory memory.old m reserved → P.store ≡ store.old → (copied m P put_it (part_in x k)).spe ≡ record P { store = store.new } }
     ensures memory { (P : Spe) (m : MainMemory) (reserved : List (Option Reserved)) → ShowsMemory memory.old m reserved → P.store ≡ store.old → ShowsMemory memory.new (copied m P put_it (part_in x k)).memory reserved }
+    ensures losers { (P : Spe) (m : MainMemory) (reserved : List (Option Reserved)) → ShowsMemory memory.old m reserved → P.store ≡ store.old → Loses result m reserved (copied m P put_it (part_in x k)).memory }
     ensures size { HasSameSize memory.old.locks memory.new.locks }
 {
     let y = part(x.ls, x.ea, x.size, k);
     if put_it {
-        put_part(store, memory, y);
+        put_part(store, memory, y)
     } else {
         get_part(store, &memory.bytes, y);
+        0
+    }
+}
+
+/// The signal of an element, whose effective address numbers a register.
+pub(crate) fn signal(store: &LocalStore, x: Element) -> Delivery
+    requires { IsSignal x }
+    ensures sent { (P : Spe) → P.store ≡ store.now → result ≡ delivery P (part_in x 0) }
+    ensures register { IsRegister result.register }
+{
+    Delivery {
+        spe: (x.ea / 2) as u8,
+        register: (x.ea % 2 + 1) as u8,
+        value: store.word(x.ls),
+    }
+}
+
+/// Moves part `k` of an element of a command of this kind, and answers what that does to other processors.
+fn move_part(
+    store: &mut LocalStore,
+    memory: &mut SharedMemory,
+    kind: Kind,
+    x: Element,
+    k: u32,
+) -> Reach
+    requires few { x.size ≤ 16384 }
+    requires store { x.ls + x.size ≤ 262144 }
+    requires memory { x.ea + x.size ≤ length memory.old.bytes }
+    requires small { length memory.old.bytes ≤ 67108864 }
+    requires there { k < parts_in x }
+    requires signal { is_signal kind ≡ true → IsSignal x }
+    ensures store { (P : Spe) (m : MainMemory) (reserved : List (Option Reserved)) → ShowsMemory memory.old m reserved → P.store ≡ store.old → (moved m P kind (part_in x k)).spe ≡ record P { store = store.new } }
+    ensures memory { (P : Spe) (m : MainMemory) (reserved : List (Option Reserved)) → ShowsMemory memory.old m reserved → P.store ≡ store.old → ShowsMemory memory.new (moved m P kind (part_in x k)).memory reserved }
+    ensures reach { (P : Spe) (m : MainMemory) (reserved : List (Option Reserved)) → ShowsMemory memory.old m reserved → P.store ≡ store.old → Reaches result m reserved (moved m P kind (part_in x k)) }
+    ensures register { IsDelivery result.sent }
+    ensures size { HasSameSize memory.old.locks memory.new.locks }
+{
+    if is_signal(kind) {
+        return Reach {
+            sent: Some(signal(store, x)),
+            losers: 0,
+        };
+    }
+    Reach {
+        sent: None,
+        losers: copy(store, memory, is_put(kind), x, k),
     }
 }
 
@@ -105,24 +173,25 @@ impl Processor {
     }
 
     /// Copies a part, if that is allowed.
-    fn piece(&mut self, memory: &mut SharedMemory, cmd: u32, elem: u16, k: u16) -> bool
+    fn piece(&mut self, memory: &mut SharedMemory, cmd: u32, elem: u16, k: u16) -> Option<Reach>
         requires can { CanStep (line_count memory.old.locks) self.old }
         requires small { length memory.old.bytes ≤ 67108864 }
-        ensures made { (P : Spe) (m : MainMemory) (reserved : List (Option Reserved)) → ShowsSpe self.old P → ShowsMemory memory.old m reserved → MatchBool result (IsSomeAnd (piece m P cmd elem k) (λ x. ShowsSpe self.new x.spe × ShowsMemory memory.new x.memory reserved)) (piece m P cmd elem k ≡ None) }
-        ensures refused { OnFalse result ((self.new ≡ self.old) × (memory.new ≡ memory.old)) }
+        ensures made { (P : Spe) (m : MainMemory) (reserved : List (Option Reserved)) → ShowsSpe self.old P → ShowsMemory memory.old m reserved → Makes result (piece m P cmd elem k) (λ r x. ShowsSpe self.new x.spe × ShowsMemory memory.new x.memory reserved × Reaches r m reserved x) }
+        ensures register { IfSome result (λ r. IsDelivery r.sent) }
+        ensures refused { IfNone result ((self.new ≡ self.old) × (memory.new ≡ memory.old)) }
         ensures size { HasSameSize memory.old.locks memory.new.locks }
     {
         if self.is_faulted() {
-            return false;
+            return None;
         }
         let Some(x) = self.commands.part_left(cmd, elem, k as u32) else {
-            return false;
+            return None;
         };
         let command = self.commands.queue.command(cmd);
-        copy(&mut self.store, memory, is_put(command.kind), x, k as u32);
+        let reach = move_part(&mut self.store, memory, command.kind, x, k as u32);
         let stalls = self.commands.mark(cmd, k as u32);
         self.tell(stalls, command.tag);
-        true
+        Some(reach)
     }
 
     /// Whether the next element of a command may be read.
@@ -182,59 +251,71 @@ impl Processor {
         true
     }
 
-    /// Makes a piece and settles, or leaves all as it is where the piece isn't allowed.
+    /// Makes a piece and ends the step, or leaves all as it is where the piece isn't allowed.
     pub(crate) fn piece_step(
         &mut self,
         memory: &mut SharedMemory,
         cmd: u32,
         elem: u16,
         k: u16,
-    ) -> bool
+    ) -> Option<Reach>
         requires can { CanStep (line_count memory.old.locks) self.old }
         requires small { length memory.old.bytes ≤ 67108864 }
-        ensures made { (P : Spe) (m : MainMemory) (reserved : List (Option Reserved)) → ShowsSpe self.old P → ShowsMemory memory.old m reserved → MatchBool result (IsSomeAnd (piece m P cmd elem k) (λ x. ShowsSpe self.new (settled x.spe) × ShowsMemory memory.new x.memory reserved)) (piece m P cmd elem k ≡ None) }
-        ensures refused { OnFalse result ((self.new ≡ self.old) × (memory.new ≡ memory.old)) }
+        ensures made { (P : Spe) (m : MainMemory) (reserved : List (Option Reserved)) → ShowsSpe self.old P → ShowsMemory memory.old m reserved → Makes result (piece m P cmd elem k) (λ r x. ShowsSpe self.new (with_flow P x.spe) × ShowsMemory memory.new x.memory reserved × Reaches r m reserved x) }
+        ensures register { IfSome result (λ r. IsDelivery r.sent) }
+        ensures refused { IfNone result ((self.new ≡ self.old) × (memory.new ≡ memory.old)) }
         ensures size { HasSameSize memory.old.locks memory.new.locks }
     {
-        if !self.piece(memory, cmd, elem, k) {
-            return false;
-        }
+        let before = self.load();
+        let Some(reach) = self.piece(memory, cmd, elem, k) else {
+            return None;
+        };
+        self.raise_since(before);
         self.settle();
-        true
+        Some(reach)
     }
 
-    /// Reads an element and settles, or leaves all as it is where that isn't allowed.
+    /// Reads an element and ends the step, or leaves all as it is where that isn't allowed.
     pub(crate) fn elem_step(&mut self, lines: u32, cmd: u32) -> bool
         requires can { CanStep lines self.old }
         requires lines { lines ≤ 524288 }
-        ensures made { (P : Spe) → ShowsSpe self.old P → MatchBool result (IsSomeAnd (elem lines P cmd) (λ Q. ShowsSpe self.new (settled Q))) (elem lines P cmd ≡ None) }
+        ensures made { (P : Spe) → ShowsSpe self.old P → MatchBool result (IsSomeAnd (elem lines P cmd) (λ Q. ShowsSpe self.new (with_flow P Q))) (elem lines P cmd ≡ None) }
         ensures refused { OnFalse result (self.new ≡ self.old) }
     {
+        let before = self.load();
         if !self.elem(lines, cmd) {
             return false;
         }
+        self.raise_since(before);
         self.settle();
         true
     }
 
-    /// Retires a command and settles, or leaves all as it is where that isn't allowed.
+    /// Retires a command and ends the step, or leaves all as it is where that isn't allowed.
     pub(crate) fn retire_step(&mut self, cmd: u32) -> bool
         requires { IsKept self.old.commands.queue }
-        ensures made { (P : Spe) → ShowsSpe self.old P → MatchBool result (IsSomeAnd (retire P cmd) (λ Q. ShowsSpe self.new (settled Q))) (retire P cmd ≡ None) }
+        ensures made { (P : Spe) → ShowsSpe self.old P → MatchBool result (IsSomeAnd (retire P cmd) (λ Q. ShowsSpe self.new (with_flow P Q))) (retire P cmd ≡ None) }
         ensures refused { OnFalse result (self.new ≡ self.old) }
     {
+        let before = self.load();
         if !self.retire(cmd) {
             return false;
         }
+        self.raise_since(before);
         self.settle();
         true
     }
 
-    /// Fixes a tag status where a request's condition holds.
+    /// Fixes a tag status where a request's condition holds, which is an event.
     pub(crate) fn settle(&mut self)
-        ensures { (P : Spe) → ShowsSpe self.old P → ShowsSpe self.new (settled P) }
+        ensures { (P : Spe) → ShowsSpe self.old P → ShowsSpe self.new (with_fixed P) }
     {
+        if !self.tags.pending() {
+            return;
+        }
         let busy = self.commands.queue.busy();
+        let fixed = self.tags.would_settle(busy);
         self.tags.settle(busy, self.commands.queue.issued());
+        self.raise_if(fixed, TAG_STATUS);
     }
 }

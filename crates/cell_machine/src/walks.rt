@@ -1,6 +1,6 @@
 //! The allowed steps of a flow controller: that of its atomic command, then those of its queued ones in the order of their numbers and parts.
 
-ghost use Rattle.std.specs.Prelude.{◌≡◌, ℕ, ◌%◌, ◌<◌, ◌≤◌, List, [], ◌∷◌, Some, length, filter, flat_map, slice_get, if◌then◌else◌};
+ghost use Rattle.std.specs.Prelude.{◌≡◌, ◌%◌, ◌<◌, [], ◌∷◌, Some, length, filter, flat_map, slice_get, if◌then◌else◌};
 ghost use Rattle.std.specs.Option.{option_map_or};
 ghost use Rattle.mfc_queue.specs.At.{IsAt};
 ghost use Rattle.mfc_queue.specs.Stands.{IsOneOf};

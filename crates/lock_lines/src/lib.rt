@@ -1,7 +1,8 @@
 //! The reservations of lines of main memory, one word for each line with one bit for each processor.
 #![tactic(auto)]
 
-ghost use Rattle.std.specs.Prelude.{◌≡◌, ℕ, ◌<◌, ◌≤◌, IfOk};
+ghost use Rattle.std.specs.Prelude.{◌≡◌, ℕ, ◌<◌, ◌≤◌, ◌==◌, ◌&&◌, not, IfOk};
+ghost use Rattle.cell_base.specs.Bits.{has_bit};
 ghost use Rattle.lock_lines.specs.Logs.{Logs, no_logs, held};
 ghost use Rattle.lock_lines.specs.Calls.{IsAbove, after_store, after_getllar, after_putllc, answer_of};
 ghost use Rattle.lock_lines.specs.Versions.{Versions, opening_versions, is_reserved, stored_to, got, put};
@@ -135,6 +136,25 @@ impl LockLines {
         ensures marked { result ≡ is_marked self.now.words spe line }
     {
         (self.words[line as usize] >> spe) & 1 == 1
+    }
+
+    /// The processors that hold the line, as bits, of which that of processor p has the value 2^p.
+    pub fn holders(&self, line: u32) -> u16
+        requires { line < line_count self.now }
+        ensures logs { (logs : Logs) (p : ℕ) → StandsFor self.now logs → p < 16 → has_bit result p ≡ held logs p line }
+        ensures versions { (v : Versions) (p : ℕ) → StandsForVersions self.now v → p < 16 → has_bit result p ≡ is_reserved v p line }
+    {
+        self.words[line as usize]
+    }
+
+    /// Those of them that aren't processor `spe`.
+    pub fn other_holders(&self, spe: u8, line: u32) -> u16
+        requires spe { spe < self.now.spes }
+        requires line { line < line_count self.now }
+        ensures logs { (logs : Logs) (p : ℕ) → StandsFor self.now logs → p < 16 → has_bit result p ≡ (held logs p line && not (spe == p)) }
+        ensures versions { (v : Versions) (p : ℕ) → StandsForVersions self.now v → p < 16 → has_bit result p ≡ (is_reserved v p line && not (spe == p)) }
+    {
+        self.words[line as usize] & !(1 << spe)
     }
 
     /// Takes all marks from the line.

@@ -1,6 +1,6 @@
 //! Lists of crowds when a new entry comes.
 
-ghost use Rattle.std.specs.Prelude.{◌≡◌, ℕ, ◌<◌, ◌≤◌, Option, Some, None, length, IfSome, OnOk, slice_index_or};
+ghost use Rattle.std.specs.Prelude.{◌<◌, ◌≤◌, Option, Some, None, length, IfSome, OnOk, slice_index_or};
 ghost use Rattle.race_check.specs.declared.crowd.Crowd.{Crowd as ACrowd};
 ghost use Rattle.race_check.specs.Walks.{IsOrdered, IsAt};
 ghost use Rattle.race_check.specs.Entries.{HasSameBytes};

@@ -3,7 +3,7 @@
 ghost use Rattle.std.specs.Prelude.{◌≡◌, ◌+◌, ◌-◌, ◌<◌, ◌↔◌, [], ◌∷◌, ◌++◌, length, IfOk, IsTrue, Some};
 ghost use Rattle.cell_machine.specs.Effects.{effect_in};
 ghost use Rattle.cell_machine.specs.Run.{Ran};
-ghost use Rattle.race_check.specs.Walks.{IsOrdered, IsAt, Stands, accesses_in};
+ghost use Rattle.race_check.specs.Walks.{IsOrdered, Stands, accesses_in};
 
 use crate::access::Access;
 use crate::error::RaceError;

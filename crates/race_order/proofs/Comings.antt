@@ -6,20 +6,21 @@ use Rattle.std.proofs.lemmas.List.{length-set}
 use Rattle.cell_base.specs.declared.steps.Step.{Step}
 use Rattle.cell_base.specs.declared.steps.Step.TheVariants.{Exec, Piece, Elem, Retire, Atomic, Host}
 use Rattle.cell_host.specs.declared.HostAction.{HostAction}
-use Rattle.cell_host.specs.declared.HostAction.TheVariants.{Send, Take as TakeOut, TakeIntr, Store, Await}
+use Rattle.cell_host.specs.declared.HostAction.TheVariants.{Send, Take as TakeOut, TakeIntr, Store, Await, Signal as SignalTo}
 use Rattle.cell_machine.specs.declared.effect.Note.{Note}
-use Rattle.cell_machine.specs.declared.effect.Note.TheVariants.{Nothing, Issue, AtomicIssue, TagRead, StallRead, Ack, AtomicRead, Put, Take, Ended, Awaited, Element as Reading}
+use Rattle.cell_machine.specs.declared.effect.Note.TheVariants.{Nothing, Issue, AtomicIssue, TagRead, StallRead, Ack, AtomicRead, Put, Take, Ended, Awaited, Element as Reading, Signal}
 use Rattle.cell_machine.specs.declared.effect.Effect.{Effect}
 use Rattle.cell_machine.specs.Spe.{Spe, is_faulted, is_running}
 use Rattle.cell_machine.specs.State.{State, with_spe}
 use Rattle.cell_machine.specs.Tags.{settled}
 use Rattle.cell_machine.specs.Hosts.{Given, Acted, sent, taken_of, taken_interrupt_of, awaited, given, at_spe, acted, after_action, host as host_step}
-use Rattle.cell_machine.specs.Next.{next, ended_by}
+use Rattle.cell_machine.specs.Next.{next, ended_by, closed_in, with_left}
 use Rattle.cell_machine.specs.Effects.{effect_of, host_effect}
 use Rattle.cell_machine.specs.EffectLaws.{maker}
 use Rattle.cell_machine.proofs.Same.{some_same, eq_same, get-within}
 use Rattle.cell_machine.proofs.Bounds.{set_got}
 use Rattle.cell_machine.proofs.StepBytes.{none_is, of_map, of_then}
+use Rattle.cell_machine.proofs.Alike.{AreAlike, closed-alike, left-alike}
 use Rattle.cell_machine.proofs.StateBytes.{effect-own, next-own, there}
 use Rattle.race_order.specs.Trace.{is_put, is_take}
 use Rattle.race_order.specs.Status.{after_ack, issued_as}
@@ -52,6 +53,7 @@ put-else q p k (TagRead g i) n h = refl
 put-else q p k (StallRead g) n h = refl
 put-else q p k (Ack t) n h = refl
 put-else q p k AtomicRead n h = refl
+put-else q p k (Signal x r) n h = refl
 put-else q p k Ended n h = refl
 put-else q p k (Awaited r) n h = refl
 put-else q p k (Reading x y z) n h = refl
@@ -66,6 +68,7 @@ take-else q p k (TagRead g i) n h = refl
 take-else q p k (StallRead g) n h = refl
 take-else q p k (Ack t) n h = refl
 take-else q p k AtomicRead n h = refl
+take-else q p k (Signal x r) n h = refl
 take-else q p k Ended n h = refl
 take-else q p k (Awaited r) n h = refl
 take-else q p k (Reading x y z) n h = refl
@@ -166,9 +169,13 @@ waited_did q r P g h = on (is_running P.status) h
     on false k = subst (λ (y : Given). HostDid q (Awaited r) P y.spe) (some_same _ g k)
         (record { moves = refl; status = refl; slot = refl; tags = refl; inbound = same-box q 0 _ _ (Awaited r) refl refl refl; outbound = same-box q 1 _ _ (Awaited r) refl refl refl; interrupt = same-box q 2 _ _ (Awaited r) refl refl refl })
 
+signal_did : (q r value : ℕ) (P : Spe) (g : Given) → given (SignalTo q r value) P ≡ Some g → HostDid q (Signal q r) P g.spe
+signal_did q r value P g h = subst (λ (y : Given). HostDid q (Signal q r) P y.spe) (some_same _ g h)
+    (record { moves = refl; status = refl; slot = refl; tags = refl; inbound = same-box q 0 _ _ (Signal q r) refl refl refl; outbound = same-box q 1 _ _ (Signal q r) refl refl refl; interrupt = same-box q 2 _ _ (Signal q r) refl refl refl })
+
 -- ---- the whole machine
 
--- the machine before a step, and after it but not settled
+-- the machine before a step, and after it but not settled, and with nothing delivered or raised
 pub record Came (old new : List Spe) (s : Step) (e : Effect) : Type 0 where
   pub each : (p : ℕ) (P : Spe) → slice_get old p ≡ Some P → (Q : Spe) × (slice_get new p ≡ Some Q) × Turn p P Q s e
   pub count : length new ≡ length old
@@ -194,6 +201,7 @@ noted_own n q (TagRead g i) l h = tt
 noted_own n q (StallRead g) l h = tt
 noted_own n q (Ack t) l h = tt
 noted_own n q AtomicRead l h = tt
+noted_own n q (Signal x r) l h = tt
 noted_own n q Ended l h = tt
 noted_own n q (Awaited r) l h = tt
 noted_own n q (Reading x y z) l h = tt
@@ -215,13 +223,13 @@ within_of n q (Atomic r) by l = subst (λ k. k < n) (sym (some_same r q by)) l
 within_of n q Host by l = tt
 
 -- a step of processor q
-own_came : (M N : State) (s : Step) (q : ℕ) (e : Effect) → maker s ≡ Some q → next M s ≡ Some N → effect_of M s ≡ Some e → (new : List Spe) × (map settled new ≡ N.spes) × Came M.spes new s e
-own_came M N s q e by made effect = there M s q e ((new : List Spe) × (map settled new ≡ N.spes) × Came M.spes new s e) by effect (λ P at.
+own_came : (M N : State) (s : Step) (q : ℕ) (e : Effect) → maker s ≡ Some q → next M s ≡ Some N → effect_of M s ≡ Some e → (new : List Spe) × AreAlike (map settled new) N.spes × Came M.spes new s e
+own_came M N s q e by made effect = there M s q e ((new : List Spe) × AreAlike (map settled new) N.spes × Came M.spes new s e) by effect (λ P at.
     let left = next-own M N s q P by at made in
-    let own = own-turn q M.memory s P left.0 e by left.1 (sym (effect-own M s q P by at) ∙ effect) in
+    let own = own-turn (length M.spes) q M.memory s P left.0 e by left.1 (sym (effect-own M s q P by at) ∙ effect) in
     let low = get-within M.spes q P at in (
       slice_set M.spes q left.0.spe,
-      ap (λ (K : State). K.spes) left.2,
+      subst (λ (K : State). AreAlike (map settled (slice_set M.spes q left.0.spe)) K.spes) left.2 (closed-alike M s (with_left M q left.0) (slice_set M.spes q left.0.spe) (left-alike M q left.0)),
       record {
         each = set_came M.spes q P left.0.spe s e at own.turn (away_of q s by) own.asks.names;
         count = length-set M.spes q left.0.spe;
@@ -256,20 +264,21 @@ acted_came M (Send q value) d h = at_came M q (given (Send q value)) d (host_eff
 acted_came M (TakeOut q) d h = at_came M q (given (TakeOut q)) d (host_effect (TakeOut q)) h (λ P g got. taken_did q P P.outbound g refl got) (refl, omega arith)
 acted_came M (TakeIntr q) d h = at_came M q (given (TakeIntr q)) d (host_effect (TakeIntr q)) h (λ P g got. interrupt_did q P P.interrupt g refl got) (refl, omega arith)
 acted_came M (Await q) d h = at_came M q (given (Await q)) d (host_effect (Await q)) h (λ P g got. waited_did q q P g got) tt
+acted_came M (SignalTo q r value) d h = at_came M q (given (SignalTo q r value)) d (host_effect (SignalTo q r value)) h (λ P g got. signal_did q r value P g got) tt
 acted_came M (Store ea len bytes) d h = subst (λ (x : Acted). Came M.spes x.state.spes Host (host_effect (Store ea len bytes))) (some_same _ d h)
     (still_came M.spes (host_effect (Store ea len bytes)) (λ p P. record { moves = refl; status = refl; slot = refl; tags = refl; inbound = same-box p 0 _ _ Nothing refl refl refl; outbound = same-box p 1 _ _ Nothing refl refl refl; interrupt = same-box p 2 _ _ Nothing refl refl refl }) tt)
 
-host_came : (M N : State) (e : Effect) → next M Host ≡ Some N → effect_of M Host ≡ Some e → (new : List Spe) × (map settled new ≡ N.spes) × Came M.spes new Host e
+host_came : (M N : State) (e : Effect) → next M Host ≡ Some N → effect_of M Host ≡ Some e → (new : List Spe) × AreAlike (map settled new) N.spes × Came M.spes new Host e
 unfolding host_step effect_of
 host_came M N e made effect =
-    of_map (ended_by M Host) (host_step M) N (λ N. (new : List Spe) × (map settled new ≡ N.spes) × Came M.spes new Host e) made (λ K is.
-    of_then _ (slice_get M.host.script M.host.done) K (λ K. (new : List Spe) × (map settled new ≡ map settled K.spes) × Came M.spes new Host e) is (λ a at acts.
-    of_map after_action (acted M a) K (λ K. (new : List Spe) × (map settled new ≡ map settled K.spes) × Came M.spes new Host e) acts (λ d did.
+    of_map (ended_by M Host) (host_step M) N (λ N. (new : List Spe) × AreAlike (map settled new) N.spes × Came M.spes new Host e) made (λ K is.
+    of_then _ (slice_get M.host.script M.host.done) K (λ K. (new : List Spe) × AreAlike (map settled new) (closed_in M Host K).spes × Came M.spes new Host e) is (λ a at acts.
+    of_map after_action (acted M a) K (λ K. (new : List Spe) × AreAlike (map settled new) (closed_in M Host K).spes × Came M.spes new Host e) acts (λ d did.
     let told : host_effect a ≡ e = some_same _ e (sym (ap (option_and_then (λ a. option_map (λ d. host_effect a) (acted M a))) at ∙ ap (option_map (λ d. host_effect a)) did) ∙ effect) in
-    (d.state.spes, refl, subst (Came M.spes d.state.spes Host) told (acted_came M a d did)))))
+    (d.state.spes, closed-alike M Host (after_action d) d.state.spes refl, subst (Came M.spes d.state.spes Host) told (acted_came M a d did)))))
 
 -- any step
-pub came : (M N : State) (s : Step) (e : Effect) → next M s ≡ Some N → effect_of M s ≡ Some e → (new : List Spe) × (map settled new ≡ N.spes) × Came M.spes new s e
+pub came : (M N : State) (s : Step) (e : Effect) → next M s ≡ Some N → effect_of M s ≡ Some e → (new : List Spe) × AreAlike (map settled new) N.spes × Came M.spes new s e
 came M N (Exec q) e made effect = own_came M N (Exec q) q e refl made effect
 came M N (Piece q c f k) e made effect = own_came M N (Piece q c f k) q e refl made effect
 came M N (Elem q c) e made effect = own_came M N (Elem q c) q e refl made effect

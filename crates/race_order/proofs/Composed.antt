@@ -10,11 +10,12 @@ use Rattle.cell_base.specs.declared.steps.Step.{Step}
 use Rattle.cell_base.specs.declared.steps.Step.TheVariants.{Exec, Piece, Elem, Retire, Atomic, Host}
 use Rattle.mfc_command.specs.declared.command.Command.{Command}
 use Rattle.cell_machine.specs.declared.effect.Note.{Note}
-use Rattle.cell_machine.specs.declared.effect.Note.TheVariants.{Ack}
+use Rattle.cell_machine.specs.declared.effect.Note.TheVariants.{Ack, Signal}
 use Rattle.mfc_command.specs.Order.{precedes}
 use Rattle.race_order.specs.declared.progress.Progress.{Progress}
 use Rattle.race_order.specs.Trace.{Event, Trace, IsStepOf, is_of}
 use Rattle.race_order.specs.Status.{status, next_status, stepped, begun, elements_done}
+use Rattle.race_order.specs.Lines.{moves_line}
 use Rattle.race_order.specs.Queue.{Has, Before, ReadsElement}
 use Rattle.race_order.specs.declared.roles.Role.{Role}
 use Rattle.race_order.specs.Roles.{write_roles, is_among as is_among_base}
@@ -27,9 +28,9 @@ use Rattle.race_order.specs.declared.roles.QueueRole.{QueueRole}
 use Rattle.race_order.specs.declared.roles.QueueRole.TheVariants.{Base, Waits, Complete, Fixed, Stalled}
 use Rattle.race_order.specs.Premises.{MayStep, QueueMay, IsQueued}
 use Rattle.race_order.specs.Sources.{is_in, IsKept, IsOwn, HaveOwn}
-use Rattle.race_order.proofs.Nexts.{Completes, Stalls, GoesInto, after}
+use Rattle.race_order.proofs.Nexts.{is_delivery, Completes, Stalls, GoesInto, after}
 use Rattle.race_order.proofs.Local.{Touches, WaitsLocal, Stays, Itself, AtIssue, FromEarlier, Own, CompleteLocal, WasComplete, IsNow, FixedLocal, WasFixed, FixedNow, StalledLocal, WasStalled, StalledNow, AreLocal}
-use Rattle.race_order.specs.Lives.{is_touched, goes_in, moves_own_line, own_has, moved, acks, acked_by, reads_of, touch_brings}
+use Rattle.race_order.specs.Lives.{is_touched, goes_in, moves_own_line, delivers, own_has, moved, acks, acked_by, reads_of, touch_brings}
 use Rattle.race_order.proofs.CountedRules.{queued_take}
 use Rattle.race_order.proofs.WholeLines.{own_line, line_own}
 use Rattle.race_order.proofs.LivesNext.{ShowsNear}
@@ -63,6 +64,14 @@ ack_is s _ e = cc
 acks_is : (p : ℕ) (s : Progress) (step : Step) (note : Note) → acks p s step note ≡ true → (step ≡ Exec p) × (s.stalled ≡ true) × (note ≡ Ack s.command.tag)
 acks_is p s (Exec q) note e = let a = and_parts (q == p) (acked_by s note) e in let b = ack_is s note a.1 in (ap Exec (eqb-true q p a.0), b.0, b.1)
 acks_is p s _ note e = cc
+
+delivers_is : (p c : ℕ) (step : Step) (note : Note) → delivers p c step note ≡ true → (is_of p c step ≡ true) × (is_delivery note ≡ true)
+delivers_is p c step (Signal q r) e = (e, refl)
+delivers_is p c step _ e = cc
+
+is_delivers : (p c : ℕ) (step : Step) (note : Note) → is_of p c step ≡ true → is_delivery note ≡ true → delivers p c step note ≡ true
+is_delivers p c step (Signal q r) of e = of
+is_delivers p c step _ of e = cc
 
 acks_from : (p : ℕ) (s : Progress) (step : Step) (note : Note) → step ≡ Exec p → s.stalled ≡ true → note ≡ Ack s.command.tag → acks p s step note ≡ true
 acks_from p s step note f g h =
@@ -118,15 +127,19 @@ module _ (n : ℕ) (trace : Trace) (e : Event) (orderly : IsOrderly n (trace ++ 
   queued_before = subst (λ t. IsQueued t) (take_before trace e) (queued_take T (length trace) (let l : length T ≡ length trace + 1 = longer trace e in omega arith) queued)
 
   goes_of : (l : Live) → InLives l → goes_in l e.step e.effect.note ≡ true → GoesInto trace e l.spe l.cmd
-  goes_of l i x = by (or_cases (reads_of l.spe l.cmd e.step) (acks l.spe l.progress e.step e.effect.note || moves_own_line l e.step) x)
+  goes_of l i x = by (or_cases (reads_of l.spe l.cmd e.step) (acks l.spe l.progress e.step e.effect.note || (moves_own_line l e.step || delivers l.spe l.cmd e.step e.effect.note)) x)
     where
-      beside : (acks l.spe l.progress e.step e.effect.note ≡ true) ⊎ (moves_own_line l e.step ≡ true) → GoesInto trace e l.spe l.cmd
-      beside (inl y) = let a = acks_is l.spe l.progress e.step e.effect.note y in inr (inr (inl record { progress = l.progress; has = (live_has l i).0; stalled = a.1; is = a.0; notes = a.2 }))
-      beside (inr y) = let a = own_line trace queued_before e l (live_has l i).0 y in inr (inr (inr record { is = a.0; moves = a.1 }))
+      moves : (moves_own_line l e.step ≡ true) ⊎ (delivers l.spe l.cmd e.step e.effect.note ≡ true) → GoesInto trace e l.spe l.cmd
+      moves (inl y) = let a = own_line trace queued_before e l (live_has l i).0 y in inr (inr (inr record { is = a.0; moves = or_left _ _ a.1 }))
+      moves (inr y) = let a = delivers_is l.spe l.cmd e.step e.effect.note y in inr (inr (inr record { is = a.0; moves = or_right (moves_line trace e.step) _ a.1 }))
 
-      by : (reads_of l.spe l.cmd e.step ≡ true) ⊎ ((acks l.spe l.progress e.step e.effect.note || moves_own_line l e.step) ≡ true) → GoesInto trace e l.spe l.cmd
+      beside : (acks l.spe l.progress e.step e.effect.note ≡ true) ⊎ ((moves_own_line l e.step || delivers l.spe l.cmd e.step e.effect.note) ≡ true) → GoesInto trace e l.spe l.cmd
+      beside (inl y) = let a = acks_is l.spe l.progress e.step e.effect.note y in inr (inr (inl record { progress = l.progress; has = (live_has l i).0; stalled = a.1; is = a.0; notes = a.2 }))
+      beside (inr y) = moves (or_cases (moves_own_line l e.step) (delivers l.spe l.cmd e.step e.effect.note) y)
+
+      by : (reads_of l.spe l.cmd e.step ≡ true) ⊎ ((acks l.spe l.progress e.step e.effect.note || (moves_own_line l e.step || delivers l.spe l.cmd e.step e.effect.note)) ≡ true) → GoesInto trace e l.spe l.cmd
       by (inl y) = inr (inl (reads_is l.spe l.cmd e.step y))
-      by (inr y) = beside (or_cases (acks l.spe l.progress e.step e.effect.note) (moves_own_line l e.step) y)
+      by (inr y) = beside (or_cases (acks l.spe l.progress e.step e.effect.note) (moves_own_line l e.step || delivers l.spe l.cmd e.step e.effect.note) y)
 
   abbrev completes_of : (l : Live) → InLives l → (next_of l).progress.done ≡ true → Completes trace e l.spe l.cmd
   completes_of l i d =
@@ -375,8 +388,18 @@ module _ (n : ℕ) (trace : Trace) (e : Event) (orderly : IsOrderly n (trace ++ 
   waits_from p d a kept (Itself (inr (inr (inr h))) z) =
       let m : MayStep trace p d e.step e.effect.note = may.step p d h.is in
       let l : Live = record { spe = p; cmd = d; progress = m.progress } in
-      let own : moves_own_line l e.step ≡ true = line_own trace queued_before e p d m.progress m.has h.is h.moves in
+      let own : (moves_own_line l e.step || delivers p d e.step e.effect.note) ≡ true = beyond (or_cases (moves_line trace e.step) (is_delivery e.effect.note) h.moves) in
       up6 (Waits p d) a (touch3 l a (find p d m.progress (of_spe p d e.step h.is) m.has m.live) (or_left _ _ h.is) (inl (or_right (reads_of p d e.step) _ (or_right (acks p m.progress e.step e.effect.note) _ own), z)))
+    where
+      may_own : MayStep trace p d e.step e.effect.note
+      may_own = may.step p d h.is
+
+      live_own : Live
+      live_own = record { spe = p; cmd = d; progress = may_own.progress }
+
+      beyond : (moves_line trace e.step ≡ true) ⊎ (is_delivery e.effect.note ≡ true) → (moves_own_line live_own e.step || delivers p d e.step e.effect.note) ≡ true
+      beyond (inl x) = or_left _ _ (line_own trace queued_before e p d may_own.progress may_own.has h.is x)
+      beyond (inr x) = or_right (moves_own_line live_own e.step) _ (is_delivers p d e.step e.effect.note h.is x)
   waits_from p d a kept (AtIssue command class h g y) =
       up6 (Waits p d) a (up_issue n trace e known lives sets into lists final passed p d command class a h g (up0 n trace e known lives sets into lists final passed (Complete p class) a y))
   waits_from p d a kept (FromEarlier c t x b y) = by (came trace e p d b.second b.second_is)

@@ -7,11 +7,11 @@ use Rattle.cell_machine.specs.declared.effect.Place.{Place}
 use Rattle.cell_machine.specs.declared.effect.Place.TheVariants.{Memory, Local}
 use Rattle.cell_machine.specs.declared.effect.Span.{Span}
 use Rattle.cell_machine.specs.declared.effect.Note.{Note}
-use Rattle.cell_machine.specs.declared.effect.Note.TheVariants.{AtomicIssue, Put, Take, Ended}
+use Rattle.cell_machine.specs.declared.effect.Note.TheVariants.{AtomicIssue, Put, Take, Ended, Signal}
 use Rattle.race_order.specs.Trace.{Event, Trace, is_put, is_take}
 use Rattle.race_order.specs.Lines.{IsLine, moves_line}
 use Rattle.race_order.specs.declared.roles.Role.{Role}
-use Rattle.race_order.specs.declared.roles.Role.TheVariants.{OfExec, OfHost, OfSlot, OfAtomic, OfLine, OfBox, OfEnd}
+use Rattle.race_order.specs.declared.roles.Role.TheVariants.{OfExec, OfHost, OfSlot, OfAtomic, OfLine, OfBox, OfSignal, OfEnd}
 use Rattle.race_order.specs.Roles.{Joins, write_roles, step_writes, note_writes, line_roles, line_of, line_in, slot_of, end_of, put_role, take_role}
 use Rattle.race_order.proofs.Among.{Among, Every, among_left, among_right, every_both}
 
@@ -42,6 +42,7 @@ module _ (before : Trace) (e : Event) where
   by_note s Ended q t = by_end s q t
   by_note s (Put x m) q t = (inl (ap (is_put x m) t ∙ of_itself x m, refl), tt)
   by_note s (Take x m) q t = (inr (ap (is_take x m) t ∙ of_itself x m, refl), tt)
+  by_note s (Signal x r) q t = (t, tt)
   by_note s _ q t = tt
 
   on_line : (x : Place) (b : Bool) (a : ℕ) → (x ≡ Memory → b ≡ true → In (OfLine a)) → Every In (line_in x b a)
@@ -108,6 +109,7 @@ module _ (before : Trace) (e : Event) where
       at (inr x) = among_right (λ w. w ≡ OfLine a) (line_of e.effect.reads) (line_of e.effect.writes) (line_at (OfLine a) e.effect.writes a x refl)
   joins_full (OfBox q m x) (inl h) = in_notes (OfBox q m x) e.step e.effect.note refl refl (put_note (OfBox q m x) q m e.step e.effect.note h.0 (ap (OfBox q m) h.1))
   joins_full (OfBox q m x) (inr h) = in_notes (OfBox q m x) e.step e.effect.note refl refl (take_note (OfBox q m x) q m e.step e.effect.note h.0 (ap (OfBox q m) h.1))
+  joins_full (OfSignal q x) h = in_notes (OfSignal q x) e.step (Signal q x) refl h (inl refl)
   joins_full (OfEnd p) h = at h.1
     where
       at : (e.step ≡ Exec p) ⊎ ((c : ℕ) × (e.step ≡ Elem p c)) → Among (λ w. w ≡ OfEnd p) (write_roles before e)

@@ -1,5 +1,5 @@
 -- After a step the set of what a command's steps wait for is again the past of its sources.
-use Rattle.std.proofs.Common.{◌≡◌, ℕ, zero, suc, ◌+◌, ◌*◌, ◌<◌, ◌≤◌, ◌==◌, Bool, true, false, [], ◌∷◌, ◌++◌, length, take, Option, Some, None, ◌⊎◌, inl, inr, refl, sym, ap, ap₂, ◌∙◌, subst, subst₂, arith}
+use Rattle.std.proofs.Common.{◌≡◌, ℕ, zero, suc, ◌+◌, ◌*◌, ◌<◌, ◌≤◌, ◌==◌, ◌||◌, Bool, true, false, [], ◌∷◌, ◌++◌, length, take, Option, Some, None, ◌⊎◌, inl, inr, refl, sym, ap, ap₂, ◌∙◌, subst, subst₂, arith}
 use Rattle.std.specs.Prelude.{slice_get, if◌then◌else◌}
 use Rattle.std.proofs.lemmas.Bool.{cases_lt, both_ways, eqb-true, eq-eqb, and_from, and_parts}
 use Rattle.std.proofs.lemmas.List.{take_all}
@@ -9,7 +9,7 @@ use Rattle.cell_base.specs.declared.steps.Step.{Step}
 use Rattle.cell_base.specs.declared.steps.Step.TheVariants.{Exec, Piece, Elem, Retire, Atomic, Host}
 use Rattle.mfc_command.specs.declared.command.Command.{Command}
 use Rattle.cell_machine.specs.declared.effect.Note.{Note}
-use Rattle.cell_machine.specs.declared.effect.Note.TheVariants.{Issue, Ack, Put, Take}
+use Rattle.cell_machine.specs.declared.effect.Note.TheVariants.{Issue, Ack, Put, Take, Signal}
 use Rattle.mfc_command.specs.Order.{is_barred, is_barrier, precedes}
 use Rattle.race_order.proofs.Reasons.{GoesBefore, ByFence, ByBarrierAfter, ByBarrierBefore, OverAll, UnderAll, kind_is, barred_is, reasons, goes_first}
 use Rattle.race_order.specs.Trace.{Event, Trace, IsStepOf, is_of}
@@ -41,9 +41,9 @@ use Rattle.race_order.specs.declared.roles.QueueRole.{QueueRole}
 use Rattle.race_order.specs.declared.roles.QueueRole.TheVariants.{Base, Waits, Complete, Fixed, Stalled}
 use Rattle.race_order.specs.Sources.{is_in, QueueSource, WaitSource, Begun, Earlier, Acked, Read, Part, Whole, IsComplete, CompleteSource, IsPartOf, IsOwn, IsKept}
 use Rattle.race_order.specs.Lines.{moves_line}
-use Rattle.race_order.proofs.WholeLines.{IsDone, line_done}
+use Rattle.race_order.proofs.WholeLines.{IsDone, beyond_done}
 use Rattle.race_order.proofs.Sees.{LooksAt}
-use Rattle.race_order.proofs.Nexts.{Completes, IssuesNow, GoesInto, GoesAhead, OfAll, OfTag, OfBarred, OfBarriers, after, WaitsNext, Stays, Itself, AtIssue, FromEarlier, Own, AreNext}
+use Rattle.race_order.proofs.Nexts.{is_delivery, looks_beyond, Completes, IssuesNow, GoesInto, GoesAhead, OfAll, OfTag, OfBarred, OfBarriers, after, WaitsNext, Stays, Itself, AtIssue, FromEarlier, Own, AreNext}
 
 -- the classes that go ahead of a command have exactly the commands that go before it
 ahead_reason : (c d : Command) (class : Class) → GoesAhead d class → is_in class c ≡ true → GoesBefore c d
@@ -82,24 +82,33 @@ of_one p d q c (Piece x y z k) e f = let a = and_parts (x == p) (y == d) e in le
 of_one p d q c (Elem x y) e f = let a = and_parts (x == p) (y == d) e in let b = and_parts (x == q) (y == c) f in (sym (eqb-true x q b.0) ∙ eqb-true x p a.0, sym (eqb-true y c b.1) ∙ eqb-true y d a.1)
 of_one p d q c (Retire x y) e f = let a = and_parts (x == p) (y == d) e in let b = and_parts (x == q) (y == c) f in (sym (eqb-true x q b.0) ∙ eqb-true x p a.0, sym (eqb-true y c b.1) ∙ eqb-true y d a.1)
 
--- a step of a queued command that moves no line whole looks at no plain set
-quiet_reads : (before : Trace) (p d : ℕ) (e : Event) → is_of p d e.step ≡ true → IsQuiet e.effect.note → moves_line before e.step ≡ false → Every (λ (r : Role). ⊥) (read_roles before e)
-quiet_reads before p d e of quiet moves =
-    subst (λ b. Every (λ (r : Role). ⊥) (step_reads e.step ++ (note_reads before e.step e.effect.note ++ line_roles b e.effect))) (sym moves) (at e.step e.effect.note of quiet)
+-- a step of a queued command that moves no line whole and delivers no signal looks at no plain set
+quiet_reads : (before : Trace) (p d : ℕ) (e : Event) → is_of p d e.step ≡ true → IsQuiet e.effect.note → looks_beyond before e ≡ false → Every (λ (r : Role). ⊥) (read_roles before e)
+quiet_reads before p d e of quiet beyond =
+    let none = or_none (moves_line before e.step) (is_delivery e.effect.note) beyond in
+    subst (λ b. Every (λ (r : Role). ⊥) (step_reads e.step ++ (note_reads before e.step e.effect.note ++ line_roles b e.effect))) (sym none.0) (at e.step e.effect.note of quiet none.1)
   where
-    at : (s : Step) (t : Note) → is_of p d s ≡ true → IsQuiet t → Every (λ (r : Role). ⊥) (step_reads s ++ (note_reads before s t ++ line_roles false e.effect))
-    at (Exec x) t o z = cc
-    at (Atomic x) t o z = cc
-    at Host t o z = cc
-    at (Piece x y w k) (Put a b) o z = absurd z
-    at (Piece x y w k) (Take a b) o z = absurd z
-    at (Piece x y w k) _ o z = tt
-    at (Elem x y) (Put a b) o z = absurd z
-    at (Elem x y) (Take a b) o z = absurd z
-    at (Elem x y) _ o z = tt
-    at (Retire x y) (Put a b) o z = absurd z
-    at (Retire x y) (Take a b) o z = absurd z
-    at (Retire x y) _ o z = tt
+    or_none : (a b : Bool) → (a || b) ≡ false → (a ≡ false) × (b ≡ false)
+    or_none false false h = (refl, refl)
+    or_none false true h = cc
+    or_none true b h = cc
+
+    at : (s : Step) (t : Note) → is_of p d s ≡ true → IsQuiet t → is_delivery t ≡ false → Every (λ (r : Role). ⊥) (step_reads s ++ (note_reads before s t ++ line_roles false e.effect))
+    at (Exec x) t o z n = cc
+    at (Atomic x) t o z n = cc
+    at Host t o z n = cc
+    at (Piece x y w k) (Put a b) o z n = absurd z
+    at (Piece x y w k) (Take a b) o z n = absurd z
+    at (Piece x y w k) (Signal a b) o z n = cc
+    at (Piece x y w k) _ o z n = tt
+    at (Elem x y) (Put a b) o z n = absurd z
+    at (Elem x y) (Take a b) o z n = absurd z
+    at (Elem x y) (Signal a b) o z n = cc
+    at (Elem x y) _ o z n = tt
+    at (Retire x y) (Put a b) o z n = absurd z
+    at (Retire x y) (Take a b) o z n = absurd z
+    at (Retire x y) (Signal a b) o z n = cc
+    at (Retire x y) _ o z n = tt
 
 -- an issue changes the progress of no other command
 pub stepped_issue : (p c q d : ℕ) (command : Command) (s : Progress) → stepped p c s (Exec q) (Issue d command) ≡ s
@@ -191,7 +200,7 @@ module _ (n : ℕ) (trace : Trace) (e : Event) (orderly : IsOrderly n (trace ++ 
   goes_source p d (inr (inr (inl h))) = Acked record { progress = h.progress; has = has_front p d h.progress h.has; stalled = h.stalled; acknowledges = record { event = e; at = here; is = h.is; notes = h.notes } }
   goes_source p d (inr (inr (inr h))) =
       let st : IsStepOf T (length trace) p d = record { event = e; at = here; is = h.is } in
-      let x : IsDone (take (suc (length trace)) T) p d = line_done T queued p d (length trace) st (subst (λ t. moves_line t e.step ≡ true) (sym front) h.moves) in
+      let x : IsDone (take (suc (length trace)) T) p d = beyond_done T queued p d (length trace) st (subst (λ t. looks_beyond t e ≡ true) (sym front) h.moves) in
       let whole : take (suc (length trace)) T ≡ T = take_all (suc (length trace)) T (let l : length T ≡ length trace + 1 = long in omega arith) in
       Whole x.progress record { has = subst (λ t. Has t p d x.progress) whole x.has; done = x.done } st
 
@@ -279,8 +288,8 @@ module _ (n : ℕ) (trace : Trace) (e : Event) (orderly : IsOrderly n (trace ++ 
     from_step : (k : ℕ) → k ≡ length trace → GoesInto trace e p d → Below k
     from_step k q g i a st o = Itself g (pointed.full i a st record { source = k; is = q; ordered = o })
 
-    -- what comes directly before a step of d that moves no line whole
-    direct : (k x : ℕ) (h : IsStepOf T k p d) → moves_line (take k T) h.event.step ≡ false → Edge Rule T x k → WaitSource T p d x
+    -- what comes directly before a step of d that moves no line whole and delivers no signal
+    direct : (k x : ℕ) (h : IsStepOf T k p d) → looks_beyond (take k T) h.event ≡ false → Edge Rule T x k → WaitSource T p d x
     direct k x h moves d' = by found
       where
         found : Found (LooksAt (take k T) h.event) (λ r. QueueSource (take k T) r x)
@@ -316,7 +325,7 @@ module _ (n : ℕ) (trace : Trace) (e : Event) (orderly : IsOrderly n (trace ++ 
         by f = by_role f.one f.first f.second
 
     own_plain : (k : ℕ) (h : IsStepOf T k p d) (s : Progress) → Has T p d s → (s.done ≡ true) ⊎ (elem_of h.event.step h.event.effect.note < elements_done s)
-        → ((x : ℕ) → x < k → WaitSource T p d x → Below x) → moves_line (take k T) h.event.step ≡ false → Below k
+        → ((x : ℕ) → x < k → WaitSource T p d x → Below x) → looks_beyond (take k T) h.event ≡ false → Below k
     own_plain k h s has over rest moves i a st (inl same) =
         let q : st.event ≡ h.event = same_get (slice_get T k) st.event h.event (subst (λ x. slice_get T x ≡ Some st.event) same st.at) h.at in
         let w : a ≡ stamp n i h.event = subst (λ v. a ≡ stamp n i v) q st.is in
@@ -336,14 +345,14 @@ module _ (n : ℕ) (trace : Trace) (e : Event) (orderly : IsOrderly n (trace ++ 
     own_plain k h s has over rest moves i a st (inr (One d')) = rest i d'.below (direct k i h moves d') i a st (inl refl)
     own_plain k h s has over rest moves i a st (inr (Then {k = x} o d')) = rest x d'.below (direct k x h moves d') i a st (inr o)
 
-    -- the step that moves the line of d completes it, so that it is the last one
-    own_line : (k : ℕ) (h : IsStepOf T k p d) → moves_line (take k T) h.event.step ≡ true → Below k
+    -- the step that moves the line of d or delivers its signal completes it, so that it is the last one
+    own_line : (k : ℕ) (h : IsStepOf T k p d) → looks_beyond (take k T) h.event ≡ true → Below k
     own_line k h moves = by (place_of trace e k h.event h.at)
       where
         by : ((k < length trace) × (slice_get trace k ≡ Some h.event)) ⊎ ((k ≡ length trace) × (e ≡ h.event)) → Below k
         by (inl q) =
             let low : k < length trace = q.0 in
-            let x : IsDone (take (suc k) T) p d = line_done T queued p d k h moves in
+            let x : IsDone (take (suc k) T) p d = beyond_done T queued p d k h moves in
             let l : Later (take (length trace) T) p d x.progress = later_at T p d (suc k) (length trace) x.progress (omega arith) (let n : length T ≡ length trace + 1 = long in omega arith) x.has in
             absurd (both_ways _ (live_d l.progress (subst (λ t. Has t p d l.progress) front l.has)) (ap (λ (v : Progress). v.done) (l.frozen x.done) ∙ x.done))
         by (inr q) =
@@ -352,14 +361,14 @@ module _ (n : ℕ) (trace : Trace) (e : Event) (orderly : IsOrderly n (trace ++ 
             (inr
             (inr record {
               is = subst (λ (v : Event). is_of p d v.step ≡ true) (sym q.1) h.is;
-              moves = subst₂ (λ t (v : Event). moves_line t v.step ≡ true) (subst (λ x. take x T ≡ trace) (sym q.0) front) (sym q.1) moves;
+              moves = subst₂ (λ t (v : Event). looks_beyond t v ≡ true) (subst (λ x. take x T ≡ trace) (sym q.0) front) (sym q.1) moves;
             })))
 
     own_at : (k : ℕ) (h : IsStepOf T k p d) (s : Progress) → Has T p d s → (s.done ≡ true) ⊎ (elem_of h.event.step h.event.effect.note < elements_done s)
         → ((x : ℕ) → x < k → WaitSource T p d x → Below x) → Below k
-    own_at k h s has over rest = by (moves_line (take k T) h.event.step) refl
+    own_at k h s has over rest = by (looks_beyond (take k T) h.event) refl
       where
-        by : (b : Bool) → moves_line (take k T) h.event.step ≡ b → Below k
+        by : (b : Bool) → looks_beyond (take k T) h.event ≡ b → Below k
         by true q = own_line k h q
         by false q = own_plain k h s has over rest q
 

@@ -9,7 +9,7 @@ use Rattle.cell_machine.specs.declared.effect.Effect.{Effect}
 use Rattle.cell_machine.proofs.Same.{some_same}
 use Rattle.mfc_command.specs.declared.command.Command.{Command}
 use Rattle.cell_machine.specs.declared.effect.Note.{Note}
-use Rattle.cell_machine.specs.declared.effect.Note.TheVariants.{Nothing, Issue, AtomicIssue, TagRead, StallRead, Ack, AtomicRead, Put, Take, Ended, Awaited, Element}
+use Rattle.cell_machine.specs.declared.effect.Note.TheVariants.{Nothing, Issue, AtomicIssue, TagRead, StallRead, Ack, AtomicRead, Put, Take, Ended, Awaited, Element, Signal}
 use Rattle.race_order.specs.declared.progress.Progress.{Progress}
 use Rattle.race_order.specs.Trace.{Event, Trace}
 use Rattle.race_order.specs.Status.{status, next_status, issued_as, stepped, after_ack, after_piece, after_element, begun}
@@ -281,6 +281,7 @@ number_low read (Ack a) w = w
 number_low read AtomicRead w = w
 number_low read (Put a b) w = w
 number_low read (Take a b) w = w
+number_low read (Signal a b) w = w
 number_low read Ended w = w
 number_low read (Awaited a) w = w
 

@@ -16,7 +16,7 @@ use Rattle.race_order.specs.declared.roles.Class.{Class}
 use Rattle.race_order.specs.declared.roles.QueueRole.{QueueRole}
 use Rattle.race_order.specs.declared.roles.QueueRole.TheVariants.{Waits}
 use Rattle.race_order.specs.Sources.{IsKept, HaveOwn}
-use Rattle.race_order.proofs.Nexts.{Completes, Stalls, IssuesNow, AcksNow, WaitsNext, CompleteNext, FixedNext, StalledNext, AreNext}
+use Rattle.race_order.proofs.Nexts.{Completes, Stalls, WaitsNext, CompleteNext, FixedNext, StalledNext, AreNext}
 use Rattle.race_order.proofs.Nexts as Next
 use Rattle.race_order.proofs.Local.{Touches, WaitsLocal, CompleteLocal, FixedLocal, StalledLocal, AreLocal}
 use Rattle.race_order.proofs.Local as Local

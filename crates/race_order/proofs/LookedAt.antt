@@ -10,11 +10,11 @@ use Rattle.cell_machine.specs.declared.effect.Place.{Place}
 use Rattle.cell_machine.specs.declared.effect.Place.TheVariants.{Memory, Local}
 use Rattle.cell_machine.specs.declared.effect.Span.{Span}
 use Rattle.cell_machine.specs.declared.effect.Note.{Note}
-use Rattle.cell_machine.specs.declared.effect.Note.TheVariants.{Issue, AtomicIssue, AtomicRead, Put, Take, Ended, Awaited}
+use Rattle.cell_machine.specs.declared.effect.Note.TheVariants.{Issue, AtomicIssue, AtomicRead, Put, Take, Ended, Awaited, Signal}
 use Rattle.mfc_command.specs.declared.command.Command.{Command}
 use Rattle.race_order.specs.Trace.{Event, Trace, IsStep, Notes, IssuesAt, IsStepOf, is_put, is_take, puts, takes, mailbox_size}
 use Rattle.race_order.specs.Lines.{OnLine, IsLine, moves_line}
-use Rattle.race_order.specs.Rules.{Plain, Program, Script, Issued, AtomicIssued, NextAtomic, AtomicSeen, Line, Passed, PlaceFree, Finished, Edge, Ordered, One, Then}
+use Rattle.race_order.specs.Rules.{Plain, Program, Script, Issued, AtomicIssued, NextAtomic, AtomicSeen, Line, Passed, PlaceFree, Signalled, Finished, Edge, Ordered, One, Then}
 use Rattle.race_order.specs.declared.roles.Role.{Role}
 use Rattle.race_order.specs.declared.roles.Role.TheVariants.{OfLine, OfBox, OfEnd}
 use Rattle.race_order.specs.Roles.{Source, Joins, read_roles, step_reads, note_reads, line_roles, line_of, line_in, atomics_of, end_seen, put_role, take_role}
@@ -177,6 +177,8 @@ module _ (Rule : Trace → ℕ → ℕ → Type 0) (plain : (t : Trace) (i j : �
           let h : Through trace x m (takes x m (take j trace) % mailbox_size m) j =
           Out (takes x m (take j trace)) record { element = e; at = here; passes = ap (is_take x m) t ∙ of_itself x m; number = refl } refl in
           (λ i low g. box_chain Rule plain n trace orderly x m (takes x m (take j trace) % mailbox_size m) i j (through x m _ i g) h low, tt)
+      by_note s (Signal x r) q t =
+          (λ i low h. One (edge_by i low (Signalled x r record { event = h.event; at = get_take trace (j + 1) i (omega arith) ∙ h.at; notes = h.joins } record { event = e; at = now; notes = t })), tt)
       by_note s _ q t = tt
 
       on_line : (x : Place) (b : Bool) (a : ℕ) → (x ≡ Memory → b ≡ true → OnLine (take (j + 1) trace) j a) → Every Earlier (line_in x b a)
@@ -296,6 +298,10 @@ module _ (Rule : Trace → ℕ → ℕ → Type 0) (plain : (t : Trace) (i j : �
                   inr
                   (a.is, ap (λ x. x % mailbox_size m) (sym (ap (takes q m) takes_of) ∙ a.number) ∙ sym (ahead m k) ∙ ap (λ x. x % mailbox_size m) (sym b.number ∙ ap (puts q m) takes_here));
             }))
+        looks_full (Signalled q r a b) =
+            inl
+            (in_notes e.step (Signal q r) refl (ap (λ f. f.effect.note) (same b.event b.at) ∙ b.notes)
+            (inl record { event = a.event; at = before_step a.event a.at; joins = a.notes }))
         looks_full (Finished p a b) =
             inl
             (in_notes Host (Awaited p) (ap (λ f. f.step) (same b.event b.at) ∙ b.is) (ap (λ f. f.effect.note) (same b.event b.at) ∙ b.notes) (inl (from a)))

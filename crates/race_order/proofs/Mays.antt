@@ -1,20 +1,21 @@
 -- An allowed step may come after the steps before it.
-use Rattle.std.proofs.Common.{◌≡◌, ℕ, zero, suc, ◌+◌, ◌*◌, ◌<◌, ◌≤◌, ◌==◌, ◌&&◌, Bool, true, false, List, [], ◌∷◌, length, arith, refl, sym, ◌∙◌, ap, subst, true≢false, ◌⊎◌, inl, inr}
-use Rattle.std.specs.Prelude.{Some, None, slice_get, cond, option_map, nat_lt, if◌then◌else◌}
-use Rattle.std.specs.List.{last_or}
+use Rattle.std.proofs.Common.{◌≡◌, ℕ, zero, suc, ◌+◌, ◌*◌, ◌<◌, ◌≤◌, ◌==◌, ◌&&◌, not, Bool, true, false, List, [], ◌∷◌, length, arith, refl, sym, ◌∙◌, ap, subst, true≢false, ◌⊎◌, inl, inr}
+use Rattle.std.specs.Prelude.{Some, None, slice_get, cond, option_map, nat_lt, filter, if◌then◌else◌}
+use Rattle.std.specs.List.{last_or, range_with_len}
 use Rattle.std.specs.Option.{option_map_or}
 use Rattle.std.proofs.lemmas.Bool.Decides.{nat_tests}
 use Rattle.cell_base.specs.declared.steps.Step.{Step}
 use Rattle.cell_base.specs.declared.steps.Step.TheVariants.{Exec, Piece, Elem, Retire, Atomic, Host}
 use Rattle.mfc_command.specs.declared.command.Command.{Command}
 use Rattle.mfc_command.specs.Order.{is_list, precedes, goes_before}
+use Rattle.mfc_command.specs.Parts.{parts_of}
 use Rattle.mfc_lists.specs.declared.Element.{Element}
 use Rattle.cell_machine.specs.declared.effect.Note.{Note}
-use Rattle.cell_machine.specs.declared.effect.Note.TheVariants.{Nothing, Issue, AtomicIssue, TagRead, StallRead, Ack, AtomicRead, Put, Take, Ended, Awaited, Element as Reading}
+use Rattle.cell_machine.specs.declared.effect.Note.TheVariants.{Nothing, Issue, AtomicIssue, TagRead, StallRead, Ack, AtomicRead, Put, Take, Ended, Awaited, Element as Reading, Signal}
 use Rattle.cell_machine.specs.declared.effect.Effect.{Effect}
-use Rattle.cell_machine.specs.Spe.{Spe, Moves, is_faulted}
+use Rattle.cell_machine.specs.Spe.{Spe, Moves, PartDone, is_faulted}
 use Rattle.cell_machine.specs.EffectLaws.{maker}
-use Rattle.cell_machine.specs.Moves.{is_moved, read_of, whole, elements_of, present, parts_in, may_begin}
+use Rattle.cell_machine.specs.Moves.{is_moved, read_of, whole, elements_of, present, parts_in, is_done, may_begin}
 use Rattle.cell_machine.specs.MovesShown.{AreElements}
 use Rattle.cell_machine.specs.Transfers.{has_part, has_element}
 use Rattle.cell_machine.proofs.Same.{some_same, eq_same, eq_is, complete-at}
@@ -25,13 +26,13 @@ use Rattle.race_order.specs.declared.progress.Progress.{Progress}
 use Rattle.race_order.specs.Trace.{Trace, is_of, is_put, is_take, puts, takes, mailbox_size}
 use Rattle.race_order.specs.Status.{begun as starts, is_transfer, first_status, issued_as}
 use Rattle.race_order.specs.Queue.{Has}
-use Rattle.race_order.specs.Stages.{progress_of}
+use Rattle.race_order.specs.Stages.{parts_left, progress_of}
 use Rattle.race_order.specs.Orderly.{IsNoted, MayCome}
-use Rattle.race_order.specs.Premises.{FitsProgress, IsNumbered, IsQuiet, IsNext, QueueMay, IsOnePiece}
+use Rattle.race_order.specs.Premises.{FitsProgress, IsNumbered, IsQuiet, IsDelivery, IsNext, QueueMay, IsOnePiece}
 use Rattle.race_order.proofs.Moving.{IsFit, transfers, no-transfer, piece-shape, count-shape, retire-shape}
 use Rattle.race_order.proofs.Small.{get-there}
 use Rattle.race_order.proofs.Telling.{BoxStep, one_if}
-use Rattle.race_order.proofs.Turns.{own-command, Works, rests, issues, acks, copies, reads, fails, retires}
+use Rattle.race_order.proofs.Turns.{own-command, Works, TellsPiece, rests, issues, acks, copies, reads, fails, retires}
 use Rattle.race_order.proofs.Comings.{Came}
 use Rattle.race_order.proofs.SpeKeeping.{HoldsBox, SpeKeeps, has-come, issued-next}
 
@@ -51,6 +52,7 @@ named-take n q m (StallRead g) h low = absurd (true≢false (sym h))
 named-take n q m (Ack t) h low = absurd (true≢false (sym h))
 named-take n q m AtomicRead h low = absurd (true≢false (sym h))
 named-take n q m (Put r k) h low = absurd (true≢false (sym h))
+named-take n q m (Signal x r) h low = absurd (true≢false (sym h))
 named-take n q m Ended h low = absurd (true≢false (sym h))
 named-take n q m (Awaited r) h low = absurd (true≢false (sym h))
 named-take n q m (Reading x y z) h low = absurd (true≢false (sym h))
@@ -65,6 +67,7 @@ named-put n q m (StallRead g) h low = absurd (true≢false (sym h))
 named-put n q m (Ack t) h low = absurd (true≢false (sym h))
 named-put n q m AtomicRead h low = absurd (true≢false (sym h))
 named-put n q m (Take r k) h low = absurd (true≢false (sym h))
+named-put n q m (Signal x r) h low = absurd (true≢false (sym h))
 named-put n q m Ended h low = absurd (true≢false (sym h))
 named-put n q m (Awaited r) h low = absurd (true≢false (sym h))
 named-put n q m (Reading x y z) h low = absurd (true≢false (sym h))
@@ -79,6 +82,7 @@ not-both q m (TagRead g i) h = refl
 not-both q m (StallRead g) h = refl
 not-both q m (Ack t) h = refl
 not-both q m AtomicRead h = refl
+not-both q m (Signal x r) h = refl
 not-both q m Ended h = refl
 not-both q m (Awaited r) h = refl
 not-both q m (Reading x y z) h = refl
@@ -147,6 +151,7 @@ record Fitting (m : Moves) (d : ℕ) (s : Step) (note : Note) : Type 0 where
   live : (progress_of m d command).done ≡ false
   fits : FitsProgress (progress_of m d command) s note
   quiet : IsQuiet note
+  delivery : IsDelivery (progress_of m d command) note
 
 part_fits : (p c e k : ℕ) (m : Moves) (d : Command) (note : Note) → IsFit d → AreElements m c d → has_part m c e k d ≡ true → FitsProgress (progress_of m c d) (Piece p c e k) note
 part_fits p c e k m d note fit els has =
@@ -164,6 +169,50 @@ part_fits p c e k m d note fit els has =
         let last = last-number m c d x els there in
         let size : length (elements_of m.read c d) ≡ length (read_of m.read c) = ap length (list-elements m.read c d list) in
         inr (no-transfer d list, (let n : x.number ≡ e = number in omega (arith, n, last, size)) ∙ sym (ap (λ b. if b then length (read_of m.read c) else 0) list))
+
+-- no more is left than there are parts
+few_left : (f : ℕ → Bool) (a n : ℕ) → length (filter f (range_with_len a n)) ≤ n
+few_left f a zero = omega arith
+few_left f a (suc n) = on (f a) (few_left f (a + 1) n)
+  where
+    on : (b : Bool) → length (filter f (range_with_len (a + 1) n)) ≤ n → length (cond b (a ∷ filter f (range_with_len (a + 1) n)) (filter f (range_with_len (a + 1) n))) ≤ suc n
+    on true h = omega (arith, h)
+    on false h = omega (arith, h)
+
+left_few : (done : List PartDone) (c : ℕ) (x : Element) → parts_left done c x ≤ parts_in x
+unfolding parts_left
+left_few done c x = few_left (λ k. not (is_done done c x.number k)) 0 (parts_in x)
+
+-- a piece tells of no mailbox; one that delivers a signal is the last one
+piece_told : (m : Moves) (c e k : ℕ) (d : Command) (note : Note) → IsFit d → AreElements m c d → has_part m c e k d ≡ true → TellsPiece d note → IsQuiet note × IsDelivery (progress_of m c d) note
+piece_told m c e k d note fit els has (inl h) = subst (λ x. IsQuiet x × IsDelivery (progress_of m c d) x) (sym h) (tt, tt)
+piece_told m c e k d note fit els has (inr h) = subst (λ x. IsQuiet x × IsDelivery (progress_of m c d) x) (sym h.1.2) (tt, (one.0, only))
+  where
+    one : (is_transfer d ≡ true) × (parts_of d.ea d.size ≡ 1)
+    one = fit.one_signal h.0
+
+    single : is_list d.kind ≡ false
+    single = on (is_list d.kind) refl
+      where
+        on : (b : Bool) → is_list d.kind ≡ b → is_list d.kind ≡ false
+        on false list = list
+        on true list = absurd (true≢false (sym one.0 ∙ no-transfer d list))
+
+    some : 0 < (progress_of m c d).left
+    some = (piece-shape m c e k d fit els has).left
+
+    there : present m.read c d ≡ Some (whole d)
+    there = present-last m.read c d ∙ ap (λ xs. last_or None xs) (ap (λ b. cond b (read_of m.read c) (whole d ∷ [])) single)
+
+    few : (progress_of m c d).left ≤ 1
+    few = on (is_moved d)
+      where
+        on : (b : Bool) → (if b then option_map_or (parts_left m.done c) (present m.read c d) 0 else 0) ≤ 1
+        on false = omega arith
+        on true = subst (λ o. option_map_or (parts_left m.done c) o 0 ≤ 1) (sym there) (subst (λ n. parts_left m.done c (whole d) ≤ n) one.1 (left_few m.done c (whole d)))
+
+    only : (progress_of m c d).left ≡ 1
+    only = omega (arith, some, few)
 
 few_read : (n size : ℕ) → 8 * n < size → size ≤ 16384 → n < 65534
 few_read n size h k = omega (arith, h, k)
@@ -188,8 +237,8 @@ fitting p d s note P Q before keep works of = on works
     with_step : (t : Step) (k : Note) (c : ℕ) → s ≡ t → note ≡ k → Fitting P.moves c t k → Fitting P.moves c s note
     with_step t k c is told f = subst (λ x. Fitting P.moves c x note) (sym is) (subst (Fitting P.moves c t) (sym told) f)
 
-    counted : (c : ℕ) (y : Command) (k : Note) → s ≡ Elem p c → note ≡ k → slice_get P.moves.issued c ≡ Some y → has_element P.moves c y ≡ true → IsQuiet k → (length (read_of P.moves.read c) < 65534 → IsNumbered (progress_of P.moves c y).read k) → Fitting P.moves d s note
-    counted c y k is told at has quiet numbered =
+    counted : (c : ℕ) (y : Command) (k : Note) → s ≡ Elem p c → note ≡ k → slice_get P.moves.issued c ≡ Some y → has_element P.moves c y ≡ true → IsQuiet k → IsDelivery (progress_of P.moves c y) k → (length (read_of P.moves.read c) < 65534 → IsNumbered (progress_of P.moves c y).read k) → Fitting P.moves d s note
+    counted c y k is told at has quiet delivery numbered =
         let els = keep.order.elements c y at in
         let fit = (keep.fit.fits c y at).0 in
         as_own c (number c (ap (is_of p d) is)) (with_step (Elem p c) k c is told (record {
@@ -198,6 +247,7 @@ fitting p d s note P Q before keep works of = on works
           live = (count-shape P.moves c y fit els has).unfinished;
           fits = count_fits p c P.moves y k fit els has numbered;
           quiet = quiet;
+          delivery = delivery;
         }))
 
     on : Works p s note P.moves Q.moves (is_faulted Q.status) → Fitting P.moves d s note
@@ -207,17 +257,20 @@ fitting p d s note P Q before keep works of = on works
     on (copies c e k y is told at has same) =
         let els = keep.order.elements c y at in
         let fit = (keep.fit.fits c y at).0 in
-        as_own c (number c (ap (is_of p d) is)) (with_step (Piece p c e k) Nothing c is told (record { command = y; at = at; live = (piece-shape P.moves c e k y fit els has).unfinished; fits = part_fits p c e k P.moves y Nothing fit els has; quiet = tt }))
+        let told_it = piece_told P.moves c e k y note fit els has told in
+        as_own c (number c (ap (is_of p d) is))
+        (with_step (Piece p c e k) note c is refl
+        (record { command = y; at = at; live = (piece-shape P.moves c e k y fit els has).unfinished; fits = part_fits p c e k P.moves y note fit els has; quiet = told_it.0; delivery = told_it.1 }))
     on (reads c y x is told at has numbered same) =
-        counted c y (Reading x.number (parts_in x) x.flagged) is told at has tt (λ low.
+        counted c y (Reading x.number (parts_in x) x.flagged) is told at has tt tt (λ low.
         let may = count-shape P.moves c y (keep.fit.fits c y at).0 (keep.order.elements c y at) has in
         (numbered ∙ sym may.number, subst (λ n. n < 65534) (sym may.number) low))
-    on (fails c y is (inl told) at has same off) = counted c y Nothing is told at has tt (λ low. subst (λ n. n < 65534) (sym (count-shape P.moves c y (keep.fit.fits c y at).0 (keep.order.elements c y at) has).number) low)
-    on (fails c y is (inr told) at has same off) = counted c y Ended is told at has tt (λ low. subst (λ n. n < 65534) (sym (count-shape P.moves c y (keep.fit.fits c y at).0 (keep.order.elements c y at) has).number) low)
+    on (fails c y is (inl told) at has same off) = counted c y Nothing is told at has tt tt (λ low. subst (λ n. n < 65534) (sym (count-shape P.moves c y (keep.fit.fits c y at).0 (keep.order.elements c y at) has).number) low)
+    on (fails c y is (inr told) at has same off) = counted c y Ended is told at has tt tt (λ low. subst (λ n. n < 65534) (sym (count-shape P.moves c y (keep.fit.fits c y at).0 (keep.order.elements c y at) has).number) low)
     on (retires c y is told at has same) =
         let els = keep.order.elements c y at in
         let gone = retire-shape P.moves c y els has in
-        as_own c (number c (ap (is_of p d) is)) (with_step (Retire p c) Nothing c is told (record { command = y; at = at; live = gone.unfinished; fits = (gone.left, gone.read); quiet = tt }))
+        as_own c (number c (ap (is_of p d) is)) (with_step (Retire p c) Nothing c is told (record { command = y; at = at; live = gone.unfinished; fits = (gone.left, gone.read); quiet = tt; delivery = tt }))
 
 -- every command that goes before it is complete
 earlier_done : (p d c : ℕ) (before : Trace) (P : Spe) (y : Command) (s : Progress) → SpeKeeps p before P → is_faulted P.status ≡ false → may_begin P.moves d ≡ true → slice_get P.moves.issued d ≡ Some y → c < d → Has before p c s
@@ -288,6 +341,7 @@ queue-may old new before s e keep came = record {
         first = λ c t low has goes. earlier_done p d c before P f.command t k asks.2.whole (asks.2.begun d of) f.at low has goes;
         fits = f.fits;
         quiet = f.quiet;
+        delivery = f.delivery;
       };
   issue = λ p c command is told.
       let asks = came.asks p (ap maker is) in

@@ -7,7 +7,7 @@ use Rattle.std.proofs.lemmas.Bool.Decides.{nat_tests}
 use Rattle.std.proofs.lemmas.List.Folds.{list_any-append}
 use Rattle.mfc_command.specs.declared.command.Command.{Command}
 use Rattle.mfc_command.specs.declared.command.Kind.{Kind}
-use Rattle.mfc_command.specs.declared.command.Kind.TheVariants.{Put, Get, PutList, GetList, Barrier, PutQueued}
+use Rattle.mfc_command.specs.declared.command.Kind.TheVariants.{Put, Get, PutList, GetList, Barrier, PutQueued, Signal}
 use Rattle.mfc_command.specs.Check.{KindFits}
 use Rattle.mfc_command.specs.Order.{is_list, is_barrier}
 use Rattle.mfc_command.specs.Parts.{parts_of}
@@ -16,7 +16,7 @@ use Rattle.mfc_lists.proofs.ReadingLemmas.{last_or-snoc}
 use Rattle.cell_machine.specs.declared.effect.Note.TheVariants.{Ack, Element as Reading}
 use Rattle.cell_machine.specs.Spe.{Moves, Stall}
 use Rattle.cell_machine.specs.Channels.{with_issued, with_resumed}
-use Rattle.cell_machine.specs.Transfers.{with_done, with_read, with_retired, has_part, has_element, is_left}
+use Rattle.cell_machine.specs.Transfers.{with_done, with_read, with_retired, has_part, has_element, is_left, is_signal}
 use Rattle.cell_machine.specs.Moves.{is_moved, read_of, whole, elements_in, elements_of, present, parts_in, is_done, is_finished, is_resumed, is_stalled, stall_of, stall_of_tag, stalls_of_tag, was_retired, is_complete_as}
 use Rattle.cell_machine.specs.MovesShown.{AreElements, IsUntouched}
 use Rattle.cell_machine.proofs.Same.{or_true, some_same, done-more, read-more, empty, eq_same, eq_off, get-within, resumed-elsewhere}
@@ -33,17 +33,21 @@ use Rattle.race_order.proofs.Shapes.{list-kind, suc-zero, one-less, all-left, fi
 
 -- ---- of plain numbers
 
--- a list has a multiple of 8 bytes, and not too many; a PUTQLLUC is one piece
+-- a list has a multiple of 8 bytes, and not too many; a PUTQLLUC and a signal are one piece
 pub record IsFit (d : Command) : Type 0 where
   pub whole_list : is_list d.kind ≡ true → d.size % 8 ≡ 0
   pub small_list : is_list d.kind ≡ true → d.size ≤ 16384
   pub one_piece : IsOnePiece d
+  pub one_signal : is_signal d.kind ≡ true → (is_transfer d ≡ true) × (parts_of d.ea d.size ≡ 1)
 
 one-part : (ea size : ℕ) → size ≡ 128 → ea % 128 ≡ 0 → parts_of ea size ≡ 1
 one-part ea size long begins = subst (λ x. parts_of ea x ≡ 1) (sym long) (let e : (ea + 128 - 1) / 128 - ea / 128 + 1 ≡ 1 = omega arith in e)
 
+one-word : (ea size : ℕ) → size ≡ 4 → ea ≤ 31 → parts_of ea size ≡ 1
+one-word ea size long low = subst (λ x. parts_of ea x ≡ 1) (sym long) (let e : (ea + 4 - 1) / 128 - ea / 128 + 1 ≡ 1 = omega arith in e)
+
 pub fit-of : (lines : ℕ) (d : Command) → KindFits lines d d.kind → IsFit d
-fit-of lines d fits = record { whole_list = λ list. (on d.kind fits list).0; small_list = λ list. (on d.kind fits list).1; one_piece = λ line. one d.kind refl fits line }
+fit-of lines d fits = record { whole_list = λ list. (on d.kind fits list).0; small_list = λ list. (on d.kind fits list).1; one_piece = λ line. one d.kind refl fits line; one_signal = λ signal. word d.kind refl fits signal }
   where
     on : (k : Kind) → KindFits lines d k → is_list k ≡ true → (d.size % 8 ≡ 0) × (d.size ≤ 16384)
     on Put f h = absurd (true≢false (sym h))
@@ -52,6 +56,7 @@ fit-of lines d fits = record { whole_list = λ list. (on d.kind fits list).0; sm
     on GetList f h = (f.whole, f.size)
     on Barrier f h = absurd (true≢false (sym h))
     on PutQueued f h = absurd (true≢false (sym h))
+    on Signal f h = absurd (true≢false (sym h))
 
     one : (k : Kind) → d.kind ≡ k → KindFits lines d k → is_queued_line k ≡ true → (is_transfer d ≡ true) × (parts_of d.ea d.size ≡ 1)
     one PutQueued is f h = (ap (λ (x : Kind). not (is_barrier x) && not (is_list x) && not (d.size == 0)) is ∙ ap (λ x. not (x == 0)) f.size, one-part d.ea d.size f.size f.aligned)
@@ -60,6 +65,16 @@ fit-of lines d fits = record { whole_list = λ list. (on d.kind fits list).0; sm
     one PutList is f h = absurd (true≢false (sym h))
     one GetList is f h = absurd (true≢false (sym h))
     one Barrier is f h = absurd (true≢false (sym h))
+    one Signal is f h = absurd (true≢false (sym h))
+
+    word : (k : Kind) → d.kind ≡ k → KindFits lines d k → is_signal k ≡ true → (is_transfer d ≡ true) × (parts_of d.ea d.size ≡ 1)
+    word Signal is f h = (ap (λ (x : Kind). not (is_barrier x) && not (is_list x) && not (d.size == 0)) is ∙ ap (λ x. not (x == 0)) f.size, one-word d.ea d.size f.size f.register)
+    word Put is f h = absurd (true≢false (sym h))
+    word Get is f h = absurd (true≢false (sym h))
+    word PutList is f h = absurd (true≢false (sym h))
+    word GetList is f h = absurd (true≢false (sym h))
+    word Barrier is f h = absurd (true≢false (sym h))
+    word PutQueued is f h = absurd (true≢false (sym h))
 
 pub transfers : (d : Command) → is_list d.kind ≡ false → is_moved d ≡ true → is_transfer d ≡ true
 transfers d list moved = ap (λ b. not (is_barrier d.kind) && not b && not (d.size == 0)) list ∙ on (not (is_barrier d.kind)) (not (d.size == 0)) moved

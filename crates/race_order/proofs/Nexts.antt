@@ -6,7 +6,8 @@ use Rattle.cell_base.specs.declared.steps.Step.TheVariants.{Exec, Elem}
 use Rattle.mfc_command.specs.declared.command.Kind.TheVariants.{Barrier}
 use Rattle.mfc_command.specs.declared.command.Mark.TheVariants.{Fenced, Barred}
 use Rattle.mfc_command.specs.declared.command.Command.{Command}
-use Rattle.cell_machine.specs.declared.effect.Note.TheVariants.{Issue, Ack}
+use Rattle.cell_machine.specs.declared.effect.Note.{Note}
+use Rattle.cell_machine.specs.declared.effect.Note.TheVariants.{Issue, Ack, Signal}
 use Rattle.race_order.specs.Trace.{Event, Trace, is_of}
 use Rattle.race_order.specs.Lines.{moves_line}
 use Rattle.race_order.specs.declared.progress.Progress.{Progress}
@@ -49,12 +50,20 @@ pub record AcksNow (trace : Trace) (e : Event) (p d : ℕ) : Type 0 where
   pub is : e.step ≡ Exec p
   pub notes : e.effect.note ≡ Ack progress.command.tag
 
--- the step is the piece of d, which moves a line whole
+abbrev pub is_delivery : Note → Bool
+is_delivery (Signal q r) = true
+is_delivery _ = false
+
+-- the step moves a line whole or delivers a signal
+abbrev pub looks_beyond : Trace → Event → Bool
+looks_beyond before e = moves_line before e.step || is_delivery e.effect.note
+
+-- the step is one of d, and moves a line whole or delivers a signal
 pub record MovesNow (trace : Trace) (e : Event) (p d : ℕ) : Type 0 where
   pub is : is_of p d e.step ≡ true
-  pub moves : moves_line trace e.step ≡ true
+  pub moves : looks_beyond trace e ≡ true
 
--- the step goes itself into what waits for d: it issues d, reads an element of d, resumes d or moves the line of d
+-- the step goes itself into what waits for d: it issues d, reads an element of d, resumes d, moves the line of d or delivers the signal of d
 abbrev pub GoesInto : Trace → Event → ℕ → ℕ → Type 0
 GoesInto trace e p d = ((command : Command) × IssuesNow e p d command) ⊎ ((e.step ≡ Elem p d) ⊎ (AcksNow trace e p d ⊎ MovesNow trace e p d))
 

@@ -7,7 +7,7 @@ use Rattle.order_sets.specs.declared.facts.At.{At}
 use Rattle.cell_base.specs.declared.steps.Step.{Step}
 use Rattle.cell_base.specs.declared.steps.Step.TheVariants.{Exec, Piece, Elem, Retire, Atomic, Host}
 use Rattle.cell_machine.specs.declared.effect.Note.{Note}
-use Rattle.cell_machine.specs.declared.effect.Note.TheVariants.{Nothing, Issue, AtomicIssue, TagRead, StallRead, Ack, AtomicRead, Put, Take, Ended, Awaited, Element}
+use Rattle.cell_machine.specs.declared.effect.Note.TheVariants.{Nothing, Issue, AtomicIssue, TagRead, StallRead, Ack, AtomicRead, Put, Take, Ended, Awaited, Element, Signal}
 use Rattle.race_order.specs.Trace.{Event, Trace, is_of}
 use Rattle.race_order.specs.declared.progress.Progress.{Progress}
 use Rattle.race_order.specs.Status.{is_transfer, elements_done}
@@ -86,6 +86,7 @@ module _ (n : ℕ) (trace : Trace) (e : Event) (within : IsWithin n e.step) (may
       by AtomicRead w low = let l : elements_done s ≤ s.read = done_le s in absurd (omega arith)
       by (Put a b) w low = let l : elements_done s ≤ s.read = done_le s in absurd (omega arith)
       by (Take a b) w low = let l : elements_done s ≤ s.read = done_le s in absurd (omega arith)
+      by (Signal a b) w low = let l : elements_done s ≤ s.read = done_le s in absurd (omega arith)
       by Ended w low = let l : elements_done s ≤ s.read = done_le s in absurd (omega arith)
       by (Awaited a) w low = let l : elements_done s ≤ s.read = done_le s in absurd (omega arith)
   not_below p c s (Retire q d) note h f of low = let z : s.read ≡ 0 = f.1 in let l : elements_done s ≤ s.read = done_le s in absurd (omega arith)

@@ -2,7 +2,7 @@
 use Rattle.std.proofs.Common.{◌≡◌, ◌==◌, true, ◌&&◌, ◌||◌, ◌⊎◌, inl, inr, refl, ap}
 use Rattle.std.proofs.lemmas.Bool.{or_cases, or_left, or_right, and_from, and_parts, eqb-true, eq-eqb}
 use Rattle.mfc_command.specs.declared.command.Kind.{Kind}
-use Rattle.mfc_command.specs.declared.command.Kind.TheVariants.{Put as KPut, Get, PutList, GetList, Barrier, PutQueued}
+use Rattle.mfc_command.specs.declared.command.Kind.TheVariants.{Put as KPut, Get, PutList, GetList, Barrier, PutQueued, Signal}
 use Rattle.mfc_command.specs.declared.command.Mark.{Mark}
 use Rattle.mfc_command.specs.declared.command.Mark.TheVariants.{Plain as MPlain, Fenced, Barred}
 use Rattle.mfc_command.specs.declared.command.Command.{Command}
@@ -23,6 +23,7 @@ kind_is PutList e = cc
 kind_is GetList e = cc
 kind_is Barrier e = refl
 kind_is PutQueued e = cc
+kind_is Signal e = cc
 
 pub marked_is : (m : Mark) → is_marked m ≡ true → (m ≡ Fenced) ⊎ (m ≡ Barred)
 marked_is MPlain e = cc

@@ -16,6 +16,7 @@ use Rattle.cell_machine.specs.Opening.{Opening, opening, opening_spe, no_moves}
 use Rattle.cell_machine.specs.Run.{Ran, replay, state_of}
 use Rattle.cell_machine.specs.Effects.{effect_of}
 use Rattle.cell_machine.proofs.Same.{get-cases, get-within, some_same}
+use Rattle.cell_machine.proofs.Alike.{plain, AreAlike, alike-at, alike-length}
 use Rattle.cell_machine.proofs.Bounds.{map-got}
 use Rattle.cell_machine.proofs.ListSteps.{AreInOrder}
 use Rattle.cell_machine.proofs.StepBytes.{of_map, of_then}
@@ -74,11 +75,42 @@ opening-count S = length-map (enumerate_from 0 S.entries) (opening_spe S) ∙ nu
 
 -- ---- one more step
 
-all_next : (M N : State) (before : Trace) (s : Step) (e : Effect) (new : List Spe) → map settled new ≡ N.spes → Came M.spes new s e → AllKeep before M.spes → AllKeep (before ++ record { step = s; effect = e } ∷ []) N.spes
+-- signal registers and events have nothing to do with it
+plain_keeps : (p : ℕ) (trace : Trace) (P : Spe) → SpeKeeps p trace P → SpeKeeps p trace (plain P)
+plain_keeps p trace P k = record {
+  still = ap plain k.still;
+  order = k.order;
+  fit = k.fit;
+  status = record { issued = k.status.issued; come = k.status.come };
+  slot = k.slot;
+  inbound = k.inbound;
+  outbound = k.outbound;
+  interrupt = k.interrupt;
+  tags = k.tags;
+}
+
+keeps_plain : (p : ℕ) (trace : Trace) (P : Spe) → SpeKeeps p trace (plain P) → SpeKeeps p trace P
+keeps_plain p trace P k = record {
+  still = ap (λ (R : Spe). record P { tags = R.tags }) k.still;
+  order = k.order;
+  fit = k.fit;
+  status = record { issued = k.status.issued; come = k.status.come };
+  slot = k.slot;
+  inbound = k.inbound;
+  outbound = k.outbound;
+  interrupt = k.interrupt;
+  tags = k.tags;
+}
+
+keeps_alike : (p : ℕ) (trace : Trace) (P Q : Spe) → plain P ≡ plain Q → SpeKeeps p trace P → SpeKeeps p trace Q
+keeps_alike p trace P Q same k = keeps_plain p trace Q (subst (SpeKeeps p trace) same (plain_keeps p trace P k))
+
+all_next : (M N : State) (before : Trace) (s : Step) (e : Effect) (new : List Spe) → AreAlike (map settled new) N.spes → Came M.spes new s e → AllKeep before M.spes → AllKeep (before ++ record { step = s; effect = e } ∷ []) N.spes
 all_next M N before s e new same c keep = record {
   each = λ p P at.
-      let g = map-got settled new p P (subst (λ xs. slice_get xs p ≡ Some P) (sym same) at) in
-      subst (SpeKeeps p (before ++ record { step = s; effect = e } ∷ [])) g.2 (was p g.0 g.1);
+      let a = alike-at N.spes (map settled new) p P (sym same) at in
+      let g = map-got settled new p a.0 a.1 in
+      keeps_alike p (before ++ record { step = s; effect = e } ∷ []) a.0 P (sym a.2) (subst (SpeKeeps p (before ++ record { step = s; effect = e } ∷ [])) g.2 (was p g.0 g.1));
 }
   where
     was : (p : ℕ) (Q : Spe) → slice_get new p ≡ Some Q → SpeKeeps p (before ++ record { step = s; effect = e } ∷ []) (settled Q)
@@ -90,8 +122,8 @@ all_next M N before s e new same c keep = record {
         let own : to.0 ≡ Q = some_same to.0 Q (sym to.1 ∙ at) in
         subst (λ K. SpeKeeps p (before ++ record { step = s; effect = e } ∷ []) (settled K)) own (spe-next p before old.0 to.0 (record { step = s; effect = e }) (keep.each p old.0 old.1) to.2)
 
-next_count : (M N : State) (s : Step) (e : Effect) (new : List Spe) → map settled new ≡ N.spes → Came M.spes new s e → length N.spes ≡ length M.spes
-next_count M N s e new same c = ap length (sym same) ∙ length-map new settled ∙ c.count
+next_count : (M N : State) (s : Step) (e : Effect) (new : List Spe) → AreAlike (map settled new) N.spes → Came M.spes new s e → length N.spes ≡ length M.spes
+next_count M N s e new same c = sym (alike-length (map settled new) N.spes same) ∙ length-map new settled ∙ c.count
 
 -- what is so of each event after those before it
 abbrev EachAfter : (Trace → Event → Type 0) → Trace → Type 0

@@ -2,7 +2,7 @@
 use Rattle.std.proofs.Common.{◌≡◌, true, false, ◌||◌, ◌&&◌, Bool, refl, ap}
 use Rattle.std.proofs.lemmas.Bool.{and_from, and_parts, eqb-true, eq-eqb}
 use Rattle.race_order.specs.declared.roles.Role.{Role}
-use Rattle.race_order.specs.declared.roles.Role.TheVariants.{OfExec, OfHost, OfSlot, OfAtomic, OfLine, OfBox, OfEnd}
+use Rattle.race_order.specs.declared.roles.Role.TheVariants.{OfExec, OfHost, OfSlot, OfAtomic, OfLine, OfBox, OfSignal, OfEnd}
 use Rattle.race_order.specs.Roles.{same_role}
 
 pub same_role_is : (r w : Role) → same_role w r ≡ true → w ≡ r
@@ -21,6 +21,8 @@ same_role_is r w e = is w r e
     is (OfLine p) _ e = cc
     is (OfBox p m x) (OfBox q l y) e = let a = and_parts _ _ e in let b = and_parts _ _ a.1 in let u : p ≡ q = eqb-true p q a.0 in let v : m ≡ l = eqb-true m l b.0 in let w : x ≡ y = eqb-true x y b.1 in cc
     is (OfBox p m x) _ e = cc
+    is (OfSignal p x) (OfSignal q y) e = let a = and_parts _ _ e in let u : p ≡ q = eqb-true p q a.0 in let v : x ≡ y = eqb-true x y a.1 in cc
+    is (OfSignal p x) _ e = cc
     is (OfEnd p) (OfEnd q) e = ap OfEnd (eqb-true p q e)
     is (OfEnd p) _ e = cc
 
@@ -31,6 +33,7 @@ same_role_itself (OfSlot p) = eq-eqb p p refl
 same_role_itself (OfAtomic p) = eq-eqb p p refl
 same_role_itself (OfLine p) = eq-eqb p p refl
 same_role_itself (OfBox p m x) = and_from _ _ (eq-eqb p p refl) (and_from _ _ (eq-eqb m m refl) (eq-eqb x x refl))
+same_role_itself (OfSignal p x) = and_from _ _ (eq-eqb p p refl) (eq-eqb x x refl)
 same_role_itself (OfEnd p) = eq-eqb p p refl
 
 pub and_or : (b x y : Bool) → (b && (x || y)) ≡ ((b && x) || (b && y))

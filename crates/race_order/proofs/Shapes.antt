@@ -6,7 +6,7 @@ use Rattle.std.specs.Option.{option_map_or}
 use Rattle.std.proofs.lemmas.Bool.Decides.{nat_tests}
 use Rattle.mfc_command.specs.declared.command.Command.{Command}
 use Rattle.mfc_command.specs.declared.command.Kind.{Kind}
-use Rattle.mfc_command.specs.declared.command.Kind.TheVariants.{Put, Get, PutList, GetList, Barrier, PutQueued}
+use Rattle.mfc_command.specs.declared.command.Kind.TheVariants.{Put, Get, PutList, GetList, Barrier, PutQueued, Signal}
 use Rattle.mfc_command.specs.Order.{is_list, is_barrier}
 use Rattle.mfc_lists.specs.declared.Element.{Element}
 use Rattle.cell_machine.specs.Spe.{Moves, PartDone}
@@ -192,6 +192,7 @@ list-kind PutList h = refl
 list-kind GetList h = refl
 list-kind Barrier h = absurd (true≢false (sym h))
 list-kind PutQueued h = refl
+list-kind Signal h = refl
 
 -- and one that isn't moved
 pub retired-shape : (m : Moves) (c : ℕ) (d : Command) → AreElements m c d → is_moved d ≡ false → progress_of m c d ≡ plain d (was_retired m.retired c)
@@ -205,6 +206,7 @@ retired-shape m c d els kept = on (is_list d.kind) refl
     barred GetList h = absurd (true≢false h)
     barred Barrier h = refl
     barred PutQueued h = absurd (true≢false h)
+    barred Signal h = absurd (true≢false h)
 
     size_zero : (b : Bool) (n : ℕ) → b ≡ true → (b && not (n == 0)) ≡ false → n ≡ 0
     size_zero true zero g h = refl

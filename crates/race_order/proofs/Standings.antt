@@ -25,7 +25,7 @@ use Rattle.race_order.specs.declared.lives.Live.{Live}
 use Rattle.race_order.specs.declared.roles.QueueRole.{QueueRole}
 use Rattle.race_order.specs.declared.roles.QueueRole.TheVariants.{Base, Waits, Complete, Fixed, Stalled}
 use Rattle.race_order.specs.Premises.{MayStep, IsQueued, QueueMay}
-use Rattle.race_order.proofs.Nexts.{AreNext, IssuesNow, after}
+use Rattle.race_order.proofs.Nexts.{AreNext, after}
 use Rattle.race_order.proofs.Nexts as Next
 use Rattle.race_order.specs.Sources.{HaveOwn, IsKept, QueueSource}
 use Rattle.race_order.specs.Lives.{ShowsLives, lives_of, near, moved, moves_own_line, moves_line_by}

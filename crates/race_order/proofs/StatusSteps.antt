@@ -7,7 +7,7 @@ use Rattle.cell_base.specs.declared.steps.Step.{Step}
 use Rattle.cell_base.specs.declared.steps.Step.TheVariants.{Exec, Piece, Elem, Retire, Atomic, Host}
 use Rattle.mfc_command.specs.declared.command.Command.{Command}
 use Rattle.cell_machine.specs.declared.effect.Note.{Note}
-use Rattle.cell_machine.specs.declared.effect.Note.TheVariants.{Nothing, Issue, AtomicIssue, TagRead, StallRead, Ack, AtomicRead, Put, Take, Ended, Awaited, Element as Reading}
+use Rattle.cell_machine.specs.declared.effect.Note.TheVariants.{Nothing, Issue, AtomicIssue, TagRead, StallRead, Ack, AtomicRead, Put, Take, Ended, Awaited, Element as Reading, Signal}
 use Rattle.cell_machine.specs.Traces.{Event}
 use Rattle.cell_machine.specs.Spe.{Spe, Moves, is_faulted}
 use Rattle.cell_machine.specs.Moves.{read_of, is_moved, is_finished, is_stalled, elements_of, elements_in, was_retired, is_complete_as}
@@ -56,6 +56,7 @@ element_command s (Ack t) = refl
 element_command s AtomicRead = refl
 element_command s (Put q m) = refl
 element_command s (Take q m) = refl
+element_command s (Signal q r) = refl
 element_command s Ended = refl
 element_command s (Awaited q) = refl
 
@@ -70,6 +71,7 @@ ack_command s (StallRead g) = refl
 ack_command s AtomicRead = refl
 ack_command s (Put q m) = refl
 ack_command s (Take q m) = refl
+ack_command s (Signal q r) = refl
 ack_command s Ended = refl
 ack_command s (Awaited q) = refl
 

@@ -21,11 +21,11 @@ use Rattle.spu_exec.specs.declared.flow.Flow.TheVariants.{Next, Stop, Halt, Chan
 use Rattle.spu_exec.specs.Meaning.{meaning}
 use Rattle.tag_groups.specs.declared.TagStatus.{TagStatus}
 use Rattle.cell_machine.specs.declared.effect.Note.{Note}
-use Rattle.cell_machine.specs.declared.effect.Note.TheVariants.{Nothing, Issue, AtomicIssue, TagRead, StallRead, Ack, AtomicRead, Put, Take, Ended, Awaited, Element as Reading}
+use Rattle.cell_machine.specs.declared.effect.Note.TheVariants.{Nothing, Issue, AtomicIssue, TagRead, StallRead, Ack, AtomicRead, Put, Take, Ended, Awaited, Element as Reading, Signal}
 use Rattle.tag_groups.specs.Settle.{requested}
 use Rattle.cell_machine.specs.Spe.{Spe, Moves, is_running}
 use Rattle.cell_machine.specs.Moves.{stalls_of_tag}
-use Rattle.cell_machine.specs.Channels.{given, went_on, bad_channel, refused, is_read, is_write, count, may_read, may_write, channel, read_by, read_status, read_inbound, read_atomic, read_stalls, issued_by, commanded, acknowledged, parameterized, written, with_issued, with_resumed}
+use Rattle.cell_machine.specs.Channels.{given, went_on, bad_channel, refused, is_read, is_write, count, may_read, may_write, channel, read_by, read_signal, read_status, read_inbound, read_atomic, read_stalls, issued_by, commanded, acknowledged, parameterized, written, with_issued, with_resumed}
 use Rattle.cell_machine.specs.Exec.{exec, exec_instr, followed, asks, asked_by, op_of}
 use Rattle.cell_machine.specs.Effects.{ends, told, told_by}
 use Rattle.cell_machine.proofs.Same.{eq_same, get-last, get-past}
@@ -87,6 +87,7 @@ is_silent Nothing = true
 is_silent (StallRead groups) = true
 is_silent AtomicRead = true
 is_silent Ended = true
+is_silent (Signal q r) = true
 is_silent _ = false
 
 pub same-box : (p k x y : ℕ) (note : Note) → is_put p k note ≡ false → is_take p k note ≡ false → y ≡ x → BoxStep p k note x y
@@ -98,6 +99,7 @@ silent p P Q Nothing h a b s i o t = record { moves = a; slot = b; status = s; i
 silent p P Q (StallRead g) h a b s i o t = record { moves = a; slot = b; status = s; inbound = same-box p 0 _ _ (StallRead g) refl refl (ap length i); outbound = same-box p 1 _ _ (StallRead g) refl refl (ap length o); interrupt = same-box p 2 _ _ (StallRead g) refl refl (ap length t); own = tt; fits = tt }
 silent p P Q AtomicRead h a b s i o t = record { moves = a; slot = b; status = s; inbound = same-box p 0 _ _ AtomicRead refl refl (ap length i); outbound = same-box p 1 _ _ AtomicRead refl refl (ap length o); interrupt = same-box p 2 _ _ AtomicRead refl refl (ap length t); own = tt; fits = tt }
 silent p P Q Ended h a b s i o t = record { moves = a; slot = b; status = s; inbound = same-box p 0 _ _ Ended refl refl (ap length i); outbound = same-box p 1 _ _ Ended refl refl (ap length o); interrupt = same-box p 2 _ _ Ended refl refl (ap length t); own = tt; fits = tt }
+silent p P Q (Signal q r) h a b s i o t = record { moves = a; slot = b; status = s; inbound = same-box p 0 _ _ (Signal q r) refl refl (ap length i); outbound = same-box p 1 _ _ (Signal q r) refl refl (ap length o); interrupt = same-box p 2 _ _ (Signal q r) refl refl (ap length t); own = tt; fits = tt }
 silent p P Q (Issue c d) h a b s i o t = absurd (true≢false (sym h))
 silent p P Q AtomicIssue h a b s i o t = absurd (true≢false (sym h))
 silent p P Q (TagRead g n) h a b s i o t = absurd (true≢false (sym h))
@@ -172,12 +174,16 @@ read_tells : (p : ℕ) (P : Spe) (rt ch : ℕ) → IfSome (read_by P rt ch) (Tel
 unfolding read_by
 read_tells p P rt ch =
     let T : ℕ → Type 0 = λ c. IfSome (read_by P rt c) (Tells p P (Read rt c)) in
-    is_or_not ch 12 (T ch) (λ e. subst T (sym e) (plain_read p P (given P rt P.tags.mask) rt 12 Nothing refl refl refl refl refl refl refl refl refl))
+    is_or_not ch 0 (T ch) (λ e. subst T (sym e) (plain_read p P _ rt 0 Nothing refl refl refl refl refl refl refl refl refl))
+    (λ n0. is_or_not ch 3 (T ch) (λ e. subst T (sym e) (plain_read p P (read_signal P rt 1) rt 3 (Signal p 1) refl refl refl refl refl refl refl refl refl))
+    (λ n3. is_or_not ch 4 (T ch) (λ e. subst T (sym e) (plain_read p P (read_signal P rt 2) rt 4 (Signal p 2) refl refl refl refl refl refl refl refl refl))
+    (λ n4. is_or_not ch 11 (T ch) (λ e. subst T (sym e) (plain_read p P (given P rt P.events.mask) rt 11 Nothing refl refl refl refl refl refl refl refl refl))
+    (λ n11. is_or_not ch 12 (T ch) (λ e. subst T (sym e) (plain_read p P (given P rt P.tags.mask) rt 12 Nothing refl refl refl refl refl refl refl refl refl))
     (λ n12. is_or_not ch 24 (T ch) (λ e. subst T (sym e) (status_tells p P rt P.tags.status refl))
     (λ n24. is_or_not ch 25 (T ch) (λ e. subst T (sym e) (plain_read p P (read_stalls P rt) rt 25 (StallRead P.channels.stalls) refl refl refl refl refl refl refl refl refl))
     (λ n25. is_or_not ch 27 (T ch) (λ e. subst T (sym e) (atomic_tells p P rt P.channels.atomic))
     (λ n27. is_or_not ch 29 (T ch) (λ e. subst T (sym e) (inbound_tells p P rt P.inbound refl))
-    (λ n29. rw (n12, n24, n25, n27, n29) tt)))))
+    (λ n29. rw (n0, n3, n4, n11, n12, n24, n25, n27, n29) tt)))))))))
 
 -- ---- writes
 
@@ -248,16 +254,18 @@ written_tells : (lines p : ℕ) (P : Spe) (ch value : ℕ) → is_running P.stat
 unfolding written
 written_tells lines p P ch value runs may =
     let T : ℕ → Type 0 = λ c. Tells p P (Write c value) (written lines P c value) in
-    is_or_not ch 21 (T ch) (λ e. subst T (sym e) (commanded_tells lines p P value runs))
+    is_or_not ch 1 (T ch) (λ e. subst T (sym e) (plain_write p P (went_on (record P { events = record P.events { mask = value } })) 1 value refl refl refl refl (inl refl) refl refl refl))
+    (λ n1. is_or_not ch 2 (T ch) (λ e. subst T (sym e) (plain_write p P _ 2 value refl refl refl refl (inl refl) refl refl refl))
+    (λ n2. is_or_not ch 21 (T ch) (λ e. subst T (sym e) (commanded_tells lines p P value runs))
     (λ n21. is_or_not ch 22 (T ch) (λ e. subst T (sym e) (plain_write p P (went_on (record P { tags = record P.tags { mask = value } })) 22 value refl refl refl refl (inl refl) refl refl refl))
     (λ n22. is_or_not ch 23 (T ch) (λ e. subst T (sym e) (plain_write p P (went_on (record P { tags = requested P.tags value })) 23 value refl refl refl refl (inr refl) refl refl refl))
     (λ n23. is_or_not ch 26 (T ch) (λ e. subst T (sym e) (acknowledged_tells p P value))
     (λ n26. is_or_not ch 28 (T ch) (λ e. subst T (sym e) (out_tells p P value (room-out P value (subst (λ c. may_write P c value ≡ true) e may))))
     (λ n28. is_or_not ch 30 (T ch) (λ e. subst T (sym e) (intr_tells p P value (room-intr P value (subst (λ c. may_write P c value ≡ true) e may))))
-    (λ n30. subst (Tells p P (Write ch value)) (sym (elsewhere n21 n22 n23 n26 n28 n30)) (plain_write p P (went_on (parameterized P ch value)) ch value (rw (n21, n26, n28, n30) refl) refl refl refl (inl refl) refl refl refl)))))))
+    (λ n30. subst (Tells p P (Write ch value)) (sym (elsewhere n1 n2 n21 n22 n23 n26 n28 n30)) (plain_write p P (went_on (parameterized P ch value)) ch value (rw (n21, n26, n28, n30) refl) refl refl refl (inl refl) refl refl refl)))))))))
   where
-    elsewhere : (ch == 21) ≡ false → (ch == 22) ≡ false → (ch == 23) ≡ false → (ch == 26) ≡ false → (ch == 28) ≡ false → (ch == 30) ≡ false → written lines P ch value ≡ went_on (parameterized P ch value)
-    elsewhere a b c d e f = rw (a, b, c, d, e, f) refl
+    elsewhere : (ch == 1) ≡ false → (ch == 2) ≡ false → (ch == 21) ≡ false → (ch == 22) ≡ false → (ch == 23) ≡ false → (ch == 26) ≡ false → (ch == 28) ≡ false → (ch == 30) ≡ false → written lines P ch value ≡ went_on (parameterized P ch value)
+    elsewhere x y a b c d e f = rw (x, y, a, b, c, d, e, f) refl
 
 -- ---- an instruction
 

@@ -1,27 +1,28 @@
 -- What a step with its effect does to a processor, its own or another.
 use Rattle.std.proofs.Common.{◌≡◌, ℕ, ◌<◌, ◌==◌, ◌&&◌, not, Bool, true, false, length, refl, sym, ◌∙◌, ap, subst, true≢false, ◌⊎◌, inl, inr}
-use Rattle.std.specs.Prelude.{Option, Some, None, is_some, slice_get, cond, Result, Ok, Err, if◌then◌else◌}
+use Rattle.std.specs.Prelude.{Option, Some, None, is_some, slice_get, cond, nat_lt, Result, Ok, Err, if◌then◌else◌}
 use Rattle.cell_base.specs.declared.steps.Step.{Step}
 use Rattle.cell_base.specs.declared.steps.Step.TheVariants.{Exec, Piece, Elem, Retire, Atomic, Host}
 use Rattle.mfc_command.specs.declared.command.AtomicOp.{AtomicOp}
 use Rattle.mfc_command.specs.declared.command.Command.{Command}
 use Rattle.mfc_command.specs.declared.command.DmaFault.{DmaFault as Fault}
+use Rattle.mfc_command.specs.declared.command.Kind.{Kind}
 use Rattle.mfc_command.specs.declared.range.Part.{Part}
 use Rattle.mfc_lists.specs.declared.Element.{Element}
 use Rattle.tag_groups.specs.declared.Tags.{Tags}
 use Rattle.tag_groups.specs.declared.TagStatus.{TagStatus}
 use Rattle.cell_machine.specs.declared.effect.Note.{Note}
-use Rattle.cell_machine.specs.declared.effect.Note.TheVariants.{Nothing, Issue, AtomicIssue, TagRead, StallRead, Ack, AtomicRead, Put, Take, Ended, Awaited, Element as Reading}
+use Rattle.cell_machine.specs.declared.effect.Note.TheVariants.{Nothing, Issue, AtomicIssue, TagRead, StallRead, Ack, AtomicRead, Put, Take, Ended, Awaited, Element as Reading, Signal}
 use Rattle.cell_machine.specs.declared.effect.Effect.{Effect}
 use Rattle.cell_machine.specs.Spe.{Spe, Moves, is_running, is_faulted}
 use Rattle.cell_machine.specs.Memory.{MainMemory, lines_of}
 use Rattle.cell_machine.specs.Moves.{read_of, present, parts_in, is_stalled, stalls_of_tag, may_begin}
 use Rattle.cell_machine.specs.Channels.{with_issued, with_resumed}
 use Rattle.cell_machine.specs.Exec.{exec, asks}
-use Rattle.cell_machine.specs.Transfers.{Left, told as told_stall, may_of, begins, may_piece, may_elem, may_retire, has_part, has_element, is_left, is_put as puts_out, part_in, copied, with_done, with_read, with_retired, after_part, after_element, next_element, piece_of}
+use Rattle.cell_machine.specs.Transfers.{Left, told as told_stall, may_of, begins, may_piece, may_elem, may_retire, has_part, has_element, is_left, is_put as puts_out, is_signal, part_in, copied, sent, moved as moved_piece, with_done, with_read, with_retired, after_part, after_element, next_element, piece_of}
 use Rattle.cell_machine.specs.Atomic.{Fate, fate, answered, moved, after_atomic, may_atomic, line_part}
 use Rattle.cell_machine.specs.Next.{own}
-use Rattle.cell_machine.specs.Effects.{told, ends, fixes, exec_effect, copy_effect, elem_effect, plain_effect, line_effect, told_element}
+use Rattle.cell_machine.specs.Effects.{told, ends, fixes, exec_effect, part_effect, copy_effect, signal_effect, told_delivery, elem_effect, plain_effect, line_effect, told_element}
 use Rattle.cell_machine.specs.EffectLaws.{maker}
 use Rattle.cell_machine.proofs.Same.{some_same, eq_same, eq_is}
 use Rattle.cell_machine.proofs.Staying.{both, not_true}
@@ -43,12 +44,16 @@ pub record IsIdle (p : ℕ) (s : Step) (note : Note) : Type 0 where
   pub fresh : (c : ℕ) → first_status p c s note ≡ None
   pub none : (c : ℕ) → is_of p c s ≡ false
 
+-- a piece tells nothing, or the signal that it delivers
+abbrev pub TellsPiece : Command → Note → Type 0
+TellsPiece d note = (note ≡ Nothing) ⊎ ((is_signal d.kind ≡ true) × ((q : ℕ) × (r : ℕ) × (note ≡ Signal q r)))
+
 -- what becomes of the moves m of processor p, which is at fault after the step where `gone`
 pub data Works (p : ℕ) (s : Step) (note : Note) (m n : Moves) (gone : Bool) : Type 0 where
   rests : n ≡ m → IsIdle p s note → Works p s note m n gone
   issues : (d : Command) → s ≡ Exec p → note ≡ Issue (length m.issued) d → n ≡ with_issued m d → IsFit d → d.tag < 32 → Works p s note m n gone
   acks : (tag : ℕ) → s ≡ Exec p → note ≡ Ack tag → n ≡ with_resumed m (stalls_of_tag m tag) → Works p s note m n gone
-  copies : (c e k : ℕ) (d : Command) → s ≡ Piece p c e k → note ≡ Nothing → slice_get m.issued c ≡ Some d → has_part m c e k d ≡ true → n ≡ with_done m c e k → Works p s note m n gone
+  copies : (c e k : ℕ) (d : Command) → s ≡ Piece p c e k → TellsPiece d note → slice_get m.issued c ≡ Some d → has_part m c e k d ≡ true → n ≡ with_done m c e k → Works p s note m n gone
   reads : (c : ℕ) (d : Command) (x : Element) → s ≡ Elem p c → note ≡ Reading x.number (parts_in x) x.flagged → slice_get m.issued c ≡ Some d → has_element m c d ≡ true
       → x.number ≡ length (read_of m.read c) → n ≡ with_read m c x → Works p s note m n gone
   fails : (c : ℕ) (d : Command) → s ≡ Elem p c → (note ≡ Nothing) ⊎ (note ≡ Ended) → slice_get m.issued c ≡ Some d → has_element m c d ≡ true → n ≡ m → gone ≡ true → Works p s note m n gone
@@ -93,6 +98,7 @@ exec_works p AtomicRead m n gone k h = rests h (idle_exec p AtomicRead (λ t. re
 exec_works p (Put q b) m n gone k h = rests h (idle_exec p (Put q b) (λ t. refl) (λ c. refl))
 exec_works p (Take q b) m n gone k h = rests h (idle_exec p (Take q b) (λ t. refl) (λ c. refl))
 exec_works p Ended m n gone k h = rests h (idle_exec p Ended (λ t. refl) (λ c. refl))
+exec_works p (Signal q r) m n gone k h = rests h (idle_exec p (Signal q r) (λ t. refl) (λ c. refl))
 exec_works p (Awaited q) m n gone k h = absurd k
 exec_works p (Reading a b c) m n gone k h = absurd k
 
@@ -109,6 +115,7 @@ exec_slot p (StallRead x) a b h g = inr (no_atomic p, ap is_some (sym h) ∙ g)
 exec_slot p AtomicRead a b h g = inr (no_atomic p, ap is_some (sym h) ∙ g)
 exec_slot p (Put q c) a b h g = inr (no_atomic p, ap is_some (sym h) ∙ g)
 exec_slot p (Take q c) a b h g = inr (no_atomic p, ap is_some (sym h) ∙ g)
+exec_slot p (Signal q r) a b h g = inr (no_atomic p, ap is_some (sym h) ∙ g)
 exec_slot p Ended a b h g = inr (no_atomic p, ap is_some (sym h) ∙ g)
 exec_slot p (Awaited q) a b h g = inr (no_atomic p, ap is_some (sym h) ∙ g)
 exec_slot p (Reading x y z) a b h g = inr (no_atomic p, ap is_some (sym h) ∙ g)
@@ -123,6 +130,7 @@ exec_status (StallRead x) a b h = h
 exec_status AtomicRead a b h = h
 exec_status (Put q c) a b h = h
 exec_status (Take q c) a b h = h
+exec_status (Signal q r) a b h = h
 exec_status Ended a b h = h
 exec_status (Awaited q) a b h = h
 exec_status (Reading x y z) a b h = h
@@ -200,6 +208,17 @@ unfolding copied
 copied_alike memory P true x = record { moves = refl; status = refl; slot = refl; tags = refl; inbound = refl; outbound = refl; interrupt = refl }
 copied_alike memory P false x = record { moves = refl; status = refl; slot = refl; tags = refl; inbound = refl; outbound = refl; interrupt = refl }
 
+sent_alike : (memory : MainMemory) (P : Spe) (x : Part) → Alike P (sent memory P x).spe
+unfolding sent
+sent_alike memory P x = record { moves = refl; status = refl; slot = refl; tags = refl; inbound = refl; outbound = refl; interrupt = refl }
+
+moved_piece_alike : (memory : MainMemory) (P : Spe) (kind : Kind) (x : Part) → Alike P (moved_piece memory P kind x).spe
+moved_piece_alike memory P kind x = on (is_signal kind)
+  where
+    on : (b : Bool) → Alike P (if b then sent memory P x else copied memory P (puts_out kind) x).spe
+    on true = sent_alike memory P x
+    on false = copied_alike memory P (puts_out kind) x
+
 -- a step of a command of p
 abbrev IsOfQueue : ℕ → Step → Type 0
 IsOfQueue p (Piece q c e k) = q ≡ p
@@ -270,6 +289,33 @@ queue_turn p P Q s e of works whole quiet like fixed begun = record {
 nothing_quiet : (p : ℕ) → IsQuiet p Nothing
 nothing_quiet p = record { put = λ k. refl; take = λ k. refl; names = tt }
 
+signal_quiet : (p q r : ℕ) → IsQuiet p (Signal q r)
+signal_quiet p q r = record { put = λ k. refl; take = λ k. refl; names = tt }
+
+delivery_is : (n : ℕ) (o : _) → (told_delivery n o ≡ Nothing) ⊎ ((q : ℕ) × (r : ℕ) × (told_delivery n o ≡ Signal q r))
+delivery_is n None = inl refl
+delivery_is n (Some d) = on (nat_lt d.spe n)
+  where
+    on : (b : Bool) → ((if b then Signal d.spe d.register else Nothing) ≡ Nothing) ⊎ ((q : ℕ) × (r : ℕ) × ((if b then Signal d.spe d.register else Nothing) ≡ Signal q r))
+    on true = inr (d.spe, d.register, refl)
+    on false = inl refl
+
+piece_tells : (n p : ℕ) (d : Command) (x : Part) (left : Left) → TellsPiece d (part_effect n p d x left).note × ((part_effect n p d x left).fixed ≡ fixes left.spe)
+piece_tells n p d x left = on (is_signal d.kind) refl
+  where
+    on : (b : Bool) → is_signal d.kind ≡ b
+        → TellsPiece d (if b then signal_effect n p x left else copy_effect p (puts_out d.kind) x left.spe).note × ((if b then signal_effect n p x left else copy_effect p (puts_out d.kind) x left.spe).fixed ≡ fixes left.spe)
+    on false is = (inl refl, refl)
+    on true is = (told (delivery_is n left.sent), refl)
+      where
+        told : (told_delivery n left.sent ≡ Nothing) ⊎ ((q : ℕ) × (r : ℕ) × (told_delivery n left.sent ≡ Signal q r)) → TellsPiece d (told_delivery n left.sent)
+        told (inl h) = inl h
+        told (inr h) = inr (is, h)
+
+piece_quiet : (p : ℕ) (d : Command) (note : Note) → TellsPiece d note → IsQuiet p note
+piece_quiet p d note (inl h) = subst (IsQuiet p) (sym h) (nothing_quiet p)
+piece_quiet p d note (inr h) = subst (IsQuiet p) (sym h.1.2) (signal_quiet p h.1.0 h.1.1)
+
 whole_of : (P : Spe) (c : ℕ) (f : Command → Bool) → may_of P c f ≡ true → is_faulted P.status ≡ false
 whole_of P c f h = not_true _ (both (not (is_faulted P.status)) (begins P.moves c f) h).0
 
@@ -277,20 +323,22 @@ whole_of P c f h = not_true _ (both (not (is_faulted P.status)) (begins P.moves 
 pub own-command : (p c d : ℕ) → (p == p && c == d) ≡ true → c ≡ d
 own-command p c d h = eq_is c d (both (p == p) (c == d) h).1
 
-piece_own : (p c e0 k : ℕ) (m : MainMemory) (P : Spe) (d : Command) (z : Element) → may_piece P c e0 k ≡ true → slice_get P.moves.issued c ≡ Some d → present P.moves.read c d ≡ Some z
-    → Own p P (piece_of m P c k d z).spe (Piece p c e0 k) (copy_effect p (puts_out d.kind) (part_in z k) (piece_of m P c k d z).spe)
+piece_own : (n p c e0 k : ℕ) (m : MainMemory) (P : Spe) (d : Command) (z : Element) → may_piece P c e0 k ≡ true → slice_get P.moves.issued c ≡ Some d → present P.moves.read c d ≡ Some z
+    → Own p P (piece_of m P c k d z).spe (Piece p c e0 k) (part_effect n p d (part_in z k) (piece_of m P c k d z))
 unfolding may_piece
-piece_own p c e0 k m P d z may at there =
+piece_own n p c e0 k m P d z may at there =
     let has = passes P c (has_part P.moves c e0 k) d may at in
     let of = part-is P.moves c e0 k d has in
     let same : of.element ≡ z = some_same of.element z (sym of.there ∙ there) in
     let number : z.number ≡ e0 = sym (ap (λ (y : Element). y.number) same) ∙ of.number in
     let K : Spe = record P { moves = with_done P.moves c z.number k } in
     let Q : Spe = (piece_of m P c k d z).spe in
-    let like : Alike K Q = alike_then K (after_part P c z.number k d) Q (told_alike (is_stalled (with_done P.moves c z.number k) c d) K d.tag) (copied_alike m (after_part P c z.number k d) (puts_out d.kind) (part_in z k)) in
-    queue_turn p P Q (Piece p c e0 k) (copy_effect p (puts_out d.kind) (part_in z k) Q) refl
-    (copies c e0 k d refl refl at has (like.moves ∙ ap (λ n. with_done P.moves c n k) number))
-    (whole_of P c (has_part P.moves c e0 k) may) (nothing_quiet p) (beside P K Q (record { slot = refl; tags = refl; inbound = refl; outbound = refl; interrupt = refl }) like) refl
+    let like : Alike K Q = alike_then K (after_part P c z.number k d) Q (told_alike (is_stalled (with_done P.moves c z.number k) c d) K d.tag) (moved_piece_alike m (after_part P c z.number k d) d.kind (part_in z k)) in
+    let e : Effect = part_effect n p d (part_in z k) (piece_of m P c k d z) in
+    let tells = piece_tells n p d (part_in z k) (piece_of m P c k d z) in
+    queue_turn p P Q (Piece p c e0 k) e refl
+    (copies c e0 k d refl tells.0 at has (like.moves ∙ ap (λ n. with_done P.moves c n k) number))
+    (whole_of P c (has_part P.moves c e0 k) may) (piece_quiet p d e.note tells.0) (beside P K Q (record { slot = refl; tags = refl; inbound = refl; outbound = refl; interrupt = refl }) like) tells.1
     (λ b h. subst (λ x. may_begin P.moves x ≡ true) (own-command p c b h) (may-begun P c (has_part P.moves c e0 k) may))
 
 ended_quiet : (p : ℕ) (b : Bool) → IsQuiet p (if b then Ended else Nothing)
@@ -384,20 +432,20 @@ atomic_own p m P a may at =
 
 -- ---- any step of processor p
 
-pub own-turn : (p : ℕ) (m : MainMemory) (s : Step) (P : Spe) (x : Left) (e : Effect) → maker s ≡ Some p → own m s P ≡ Some x → own_effect p m s P ≡ Some e → Own p P x.spe s e
-own-turn p m (Exec q) P x e by is effect =
+pub own-turn : (n p : ℕ) (m : MainMemory) (s : Step) (P : Spe) (x : Left) (e : Effect) → maker s ≡ Some p → own m s P ≡ Some x → own_effect n p m s P ≡ Some e → Own p P x.spe s e
+own-turn n p m (Exec q) P x e by is effect =
     let same : q ≡ p = some_same q p by in
-    subst (λ k. Own p P x.spe (Exec k) e) (sym same) (exec-is p q m P x e (λ y f. Own p P y.spe (Exec p) f) is effect (λ Q made. exec_own p m P Q made))
-own-turn p m (Piece q c e0 k) P x e by is effect =
+    subst (λ k. Own p P x.spe (Exec k) e) (sym same) (exec-is n p q m P x e (λ y f. Own p P y.spe (Exec p) f) is effect (λ Q made. exec_own p m P Q made))
+own-turn n p m (Piece q c e0 k) P x e by is effect =
     let same : q ≡ p = some_same q p by in
-    subst (λ j. Own p P x.spe (Piece j c e0 k) e) (sym same) (piece-is p q c e0 k m P x e (λ y f. Own p P y.spe (Piece p c e0 k) f) is effect (λ d z may at there. piece_own p c e0 k m P d z may at there))
-own-turn p m (Elem q c) P x e by is effect =
+    subst (λ j. Own p P x.spe (Piece j c e0 k) e) (sym same) (piece-is n p q c e0 k m P x e (λ y f. Own p P y.spe (Piece p c e0 k) f) is effect (λ d z may at there. piece_own n p c e0 k m P d z may at there))
+own-turn n p m (Elem q c) P x e by is effect =
     let same : q ≡ p = some_same q p by in
-    subst (λ j. Own p P x.spe (Elem j c) e) (sym same) (elem-is p q c m P x e (λ y f. Own p P y.spe (Elem p c) f) is effect (λ d may at. elem_own p c m P d may at))
-own-turn p m (Retire q c) P x e by is effect =
+    subst (λ j. Own p P x.spe (Elem j c) e) (sym same) (elem-is n p q c m P x e (λ y f. Own p P y.spe (Elem p c) f) is effect (λ d may at. elem_own p c m P d may at))
+own-turn n p m (Retire q c) P x e by is effect =
     let same : q ≡ p = some_same q p by in
-    subst (λ j. Own p P x.spe (Retire j c) e) (sym same) (retire-is p q c m P x e (λ y f. Own p P y.spe (Retire p c) f) is effect (λ may. retire_own p c P may))
-own-turn p m (Atomic q) P x e by is effect =
+    subst (λ j. Own p P x.spe (Retire j c) e) (sym same) (retire-is n p q c m P x e (λ y f. Own p P y.spe (Retire p c) f) is effect (λ may. retire_own p c P may))
+own-turn n p m (Atomic q) P x e by is effect =
     let same : q ≡ p = some_same q p by in
-    subst (λ j. Own p P x.spe (Atomic j) e) (sym same) (atomic-is p q m P x e (λ y f. Own p P y.spe (Atomic p) f) is effect (λ a may at. atomic_own p m P a may at))
-own-turn p m Host P x e by is effect = none_is _ p by
+    subst (λ j. Own p P x.spe (Atomic j) e) (sym same) (atomic-is n p q m P x e (λ y f. Own p P y.spe (Atomic p) f) is effect (λ a may at. atomic_own p m P a may at))
+own-turn n p m Host P x e by is effect = none_is _ p by

@@ -1,22 +1,22 @@
--- A PUTQLLUC has one step, its piece, which completes it.
-use Rattle.std.proofs.Common.{◌≡◌, ℕ, zero, suc, ◌-◌, ◌<◌, ◌≤◌, ◌==◌, ◌&&◌, not, Bool, true, false, length, take, Some, None, refl, sym, ap, ap₂, ◌∙◌, subst, subst₂, arith}
+-- A PUTQLLUC has one step, its piece, which completes it; and so has a command that delivers a signal.
+use Rattle.std.proofs.Common.{◌≡◌, ℕ, zero, suc, ◌-◌, ◌<◌, ◌≤◌, ◌==◌, ◌&&◌, ◌⊎◌, inl, inr, not, Bool, true, false, length, take, Some, None, refl, sym, ap, ap₂, ◌∙◌, subst, subst₂, arith}
 use Rattle.std.specs.Prelude.{slice_get, if◌then◌else◌}
 use Rattle.std.specs.List.{list_any}
-use Rattle.std.proofs.lemmas.Bool.{and_from, and_parts, eqb-true, eq-eqb, both_ways}
+use Rattle.std.proofs.lemmas.Bool.{and_from, and_parts, or_cases, eqb-true, eq-eqb, both_ways}
 use Rattle.std.proofs.lemmas.Option.{slice_get_within}
 use Rattle.cell_base.specs.declared.steps.Step.{Step}
 use Rattle.cell_base.specs.declared.steps.Step.TheVariants.{Exec, Piece, Elem, Retire, Atomic, Host}
 use Rattle.mfc_command.specs.declared.command.Command.{Command}
 use Rattle.mfc_command.specs.Parts.{parts_of}
 use Rattle.cell_machine.specs.declared.effect.Note.{Note}
-use Rattle.cell_machine.specs.declared.effect.Note.TheVariants.{Issue, Ack}
+use Rattle.cell_machine.specs.declared.effect.Note.TheVariants.{Issue, Ack, Signal}
 use Rattle.race_order.specs.Trace.{Event, Trace, IsStepOf, is_of}
 use Rattle.race_order.specs.Lines.{is_queued_line, issues_line, moves_line}
 use Rattle.race_order.specs.declared.progress.Progress.{Progress}
 use Rattle.race_order.specs.Status.{status, next_status, stepped, finished, after_piece, after_element, after_ack, is_transfer, is_last, is_by}
 use Rattle.race_order.specs.Queue.{Has, ReadsElement}
 use Rattle.race_order.specs.Commands.{IsIssued}
-use Rattle.race_order.specs.Premises.{MayStep, IsQueued, IsOnePiece}
+use Rattle.race_order.specs.Premises.{MayStep, FitsProgress, IsDelivery, IsQueued, IsOnePiece}
 use Rattle.race_order.specs.declared.lives.Live.{Live}
 use Rattle.race_order.specs.Lives.{moves_own_line}
 use Rattle.race_order.proofs.Places.{get_there, take_step}
@@ -24,6 +24,7 @@ use Rattle.race_order.proofs.Histories.{status_next, same_progress, issued_there
 use Rattle.race_order.proofs.Elements.{may_at, elem_fits}
 use Rattle.race_order.proofs.CountedRules.{queued_take, Found, found, issued}
 use Rattle.race_order.proofs.Passed.{Picked, picked, pick}
+use Rattle.race_order.proofs.Nexts.{is_delivery, looks_beyond}
 
 -- ---- one step of it
 
@@ -134,49 +135,84 @@ module _ (T : Trace) (queued : IsQueued T) where
               let r : ReadsElement T i p c t.read = record { step = record { event = e; at = here; is = q }; progress = t; has = x; number = refl } in
               both_ways _ (elem_fits T queued i p c t.read r).0 transfer
 
--- a PUTQLLUC is complete after its piece
+-- ---- the steps that look beyond the queues
+
+-- a command is complete after such a step
 pub record IsDone (T : Trace) (p c : ℕ) : Type 0 where
   pub progress : Progress
   pub has : Has T p c progress
   pub done : progress.done ≡ true
 
-pub line_done : (T : Trace) (queued : IsQueued T) (p d k : ℕ) (st : IsStepOf T k p d) → moves_line (take k T) st.event.step ≡ true → IsDone (take (suc k) T) p d
-line_done T queued p d k st moves = by st.event.step refl
-  where
-    inside : k < length T
-    inside = slice_get_within T k st.event st.at
+delivers_last : (s : Progress) (note : Note) → is_delivery note ≡ true → IsDelivery s note → (is_transfer s.command ≡ true) × (s.left ≡ 1)
+delivers_last s (Signal q r) h is = is
+delivers_last s _ h is = cc
 
-    m : MayStep (take k T) p d st.event.step st.event.effect.note
-    m = may_at T queued k p d st
+module _ (T : Trace) (queued : IsQueued T) (p d k : ℕ) (st : IsStepOf T k p d) where
+  inside : k < length T
+  inside = slice_get_within T k st.event st.at
 
-    is_done : (q c e j : ℕ) → st.event.step ≡ Piece q c e j → is_by p d q c ≡ true → IsDone (take (suc k) T) p d
-    is_done q c e j f of =
-        let a = and_parts (q == p) (c == d) of in
-        let low : k < length T = inside in
-        let called : issued_line p d (take k T) ≡ true = subst₂ (λ x y. issued_line x y (take k T) ≡ true) (eqb-true q p a.0) (eqb-true c d a.1) (sym (ap (moves_line (take k T)) f) ∙ moves) in
-        let line : is_queued_line m.progress.command.kind ≡ true = line_kind (take k T) (queued_take T k (omega arith) queued) p d m.progress m.has called in
-        let left : m.progress.left ≡ 1 = line_left T queued p d k m.progress (omega arith) m.has line m.live in
-        let transfer : is_transfer m.progress.command ≡ true = (one_piece T queued p d k m.progress (omega arith) m.has line).0 in
-        record {
-          progress = stepped p d m.progress st.event.step st.event.effect.note;
-          has = record {
-            is =
-                ap (status p d) (take_step T k st.event st.at)
-                ∙ (status_next p d (take k T) st.event
-                ∙ (ap (λ o. next_status p d o st.event) m.has.is ∙ ap (λ (b : Bool). Some (if b then m.progress else stepped p d m.progress st.event.step st.event.effect.note)) m.live));
-          };
-          done =
-              ap (λ s. (stepped p d m.progress s st.event.effect.note).done) f
-              ∙ (ap (λ (b : Bool). (if b then after_piece m.progress else m.progress).done) of ∙ piece_done m.progress left transfer);
-        }
+  m : MayStep (take k T) p d st.event.step st.event.effect.note
+  m = may_at T queued k p d st
 
-    by : (s : Step) → st.event.step ≡ s → IsDone (take (suc k) T) p d
-    by (Piece q c e j) f = is_done q c e j f (sym (ap (is_of p d) f) ∙ st.is)
-    by (Exec q) f = let g : false ≡ true = sym (ap (moves_line (take k T)) f) ∙ moves in absurd cc
-    by (Elem q c) f = let g : false ≡ true = sym (ap (moves_line (take k T)) f) ∙ moves in absurd cc
-    by (Retire q c) f = let g : false ≡ true = sym (ap (moves_line (take k T)) f) ∙ moves in absurd cc
-    by (Atomic q) f = let g : false ≡ true = sym (ap (is_of p d) f) ∙ st.is in absurd cc
-    by Host f = let g : false ≡ true = sym (ap (moves_line (take k T)) f) ∙ moves in absurd cc
+  -- the one piece that is left of a transfer
+  last_piece : (q c e j : ℕ) → st.event.step ≡ Piece q c e j → is_by p d q c ≡ true → m.progress.left ≡ 1 → is_transfer m.progress.command ≡ true → IsDone (take (suc k) T) p d
+  last_piece q c e j f of left transfer =
+      record {
+        progress = stepped p d m.progress st.event.step st.event.effect.note;
+        has = record {
+          is =
+              ap (status p d) (take_step T k st.event st.at)
+              ∙ (status_next p d (take k T) st.event
+              ∙ (ap (λ o. next_status p d o st.event) m.has.is ∙ ap (λ (b : Bool). Some (if b then m.progress else stepped p d m.progress st.event.step st.event.effect.note)) m.live));
+        };
+        done =
+            ap (λ s. (stepped p d m.progress s st.event.effect.note).done) f
+            ∙ (ap (λ (b : Bool). (if b then after_piece m.progress else m.progress).done) of ∙ piece_done m.progress left transfer);
+      }
+
+  line_done : moves_line (take k T) st.event.step ≡ true → IsDone (take (suc k) T) p d
+  line_done moves = by st.event.step refl
+    where
+      is_done : (q c e j : ℕ) → st.event.step ≡ Piece q c e j → is_by p d q c ≡ true → IsDone (take (suc k) T) p d
+      is_done q c e j f of =
+          let a = and_parts (q == p) (c == d) of in
+          let low : k < length T = inside in
+          let called : issued_line p d (take k T) ≡ true = subst₂ (λ x y. issued_line x y (take k T) ≡ true) (eqb-true q p a.0) (eqb-true c d a.1) (sym (ap (moves_line (take k T)) f) ∙ moves) in
+          let line : is_queued_line m.progress.command.kind ≡ true = line_kind (take k T) (queued_take T k (omega arith) queued) p d m.progress m.has called in
+          let left : m.progress.left ≡ 1 = line_left T queued p d k m.progress (omega arith) m.has line m.live in
+          last_piece q c e j f of left (one_piece T queued p d k m.progress (omega arith) m.has line).0
+
+      by : (s : Step) → st.event.step ≡ s → IsDone (take (suc k) T) p d
+      by (Piece q c e j) f = is_done q c e j f (sym (ap (is_of p d) f) ∙ st.is)
+      by (Exec q) f = let g : false ≡ true = sym (ap (moves_line (take k T)) f) ∙ moves in absurd cc
+      by (Elem q c) f = let g : false ≡ true = sym (ap (moves_line (take k T)) f) ∙ moves in absurd cc
+      by (Retire q c) f = let g : false ≡ true = sym (ap (moves_line (take k T)) f) ∙ moves in absurd cc
+      by (Atomic q) f = let g : false ≡ true = sym (ap (is_of p d) f) ∙ st.is in absurd cc
+      by Host f = let g : false ≡ true = sym (ap (moves_line (take k T)) f) ∙ moves in absurd cc
+
+  signal_done : is_delivery st.event.effect.note ≡ true → IsDone (take (suc k) T) p d
+  signal_done delivers = by st.event.step refl
+    where
+      last : (is_transfer m.progress.command ≡ true) × (m.progress.left ≡ 1)
+      last = delivers_last m.progress st.event.effect.note delivers m.delivery
+
+      fits : (s : Step) → st.event.step ≡ s → FitsProgress m.progress s st.event.effect.note
+      fits s f = subst (λ x. FitsProgress m.progress x st.event.effect.note) f m.fits
+
+      by : (s : Step) → st.event.step ≡ s → IsDone (take (suc k) T) p d
+      by (Piece q c e j) f = last_piece q c e j f (sym (ap (is_of p d) f) ∙ st.is) last.1 last.0
+      by (Elem q c) f = absurd (both_ways _ (fits (Elem q c) f).0 last.0)
+      by (Retire q c) f = let none : m.progress.left ≡ 0 = (fits (Retire q c) f).0 in let one : m.progress.left ≡ 1 = last.1 in absurd (omega arith)
+      by (Exec q) f = let g : false ≡ true = sym (ap (is_of p d) f) ∙ st.is in absurd cc
+      by (Atomic q) f = let g : false ≡ true = sym (ap (is_of p d) f) ∙ st.is in absurd cc
+      by Host f = let g : false ≡ true = sym (ap (is_of p d) f) ∙ st.is in absurd cc
+
+  pub beyond_done : looks_beyond (take k T) st.event ≡ true → IsDone (take (suc k) T) p d
+  beyond_done h = by (or_cases (moves_line (take k T) st.event.step) (is_delivery st.event.effect.note) h)
+    where
+      by : (moves_line (take k T) st.event.step ≡ true) ⊎ (is_delivery st.event.effect.note ≡ true) → IsDone (take (suc k) T) p d
+      by (inl x) = line_done x
+      by (inr x) = signal_done x
 
 -- ---- the outstanding command that moves its line
 

@@ -4,7 +4,7 @@ use Rattle.std.specs.List.{list_any}
 use Rattle.cell_base.specs.declared.steps.Step.{Step}
 use Rattle.cell_base.specs.declared.steps.Step.TheVariants.{Exec, Piece, Elem, Retire, Atomic, Host}
 use Rattle.mfc_command.specs.declared.command.Kind.{Kind}
-use Rattle.mfc_command.specs.declared.command.Kind.TheVariants.{Put, Get, PutList, GetList, Barrier, PutQueued}
+use Rattle.mfc_command.specs.declared.command.Kind.TheVariants.{Put, Get, PutList, GetList, Barrier, PutQueued, Signal}
 use Rattle.cell_machine.specs.declared.effect.Note.{Note}
 use Rattle.cell_machine.specs.declared.effect.Note.TheVariants.{Issue}
 use Rattle.cell_machine.specs.declared.effect.Place.TheVariants.{Memory}
@@ -25,6 +25,7 @@ is_queued_line Get = false
 is_queued_line PutList = false
 is_queued_line GetList = false
 is_queued_line Barrier = false
+is_queued_line Signal = false
 
 -- a step with this note issues the PUTQLLUC c of processor p
 abbrev pub issues_line : ℕ → ℕ → Step → Note → Bool

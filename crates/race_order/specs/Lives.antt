@@ -8,7 +8,7 @@ use Rattle.order_sets.specs.Facts.{covers}
 use Rattle.cell_base.specs.declared.steps.Step.{Step}
 use Rattle.cell_base.specs.declared.steps.Step.TheVariants.{Exec, Piece, Elem, Retire, Atomic, Host}
 use Rattle.cell_machine.specs.declared.effect.Note.{Note}
-use Rattle.cell_machine.specs.declared.effect.Note.TheVariants.{Ack}
+use Rattle.cell_machine.specs.declared.effect.Note.TheVariants.{Ack, Signal}
 use Rattle.race_order.specs.declared.progress.Progress.{Progress}
 use Rattle.race_order.specs.Trace.{Trace, is_of}
 use Rattle.race_order.specs.Status.{stepped, is_by, elements_done}
@@ -36,9 +36,14 @@ abbrev pub moves_own_line : Live → Step → Bool
 moves_own_line l (Piece q d e k) = is_by l.spe l.cmd q d && is_queued_line l.progress.command.kind
 moves_own_line l _ = false
 
+-- the step is one of the command, and delivers a signal: it looks at the set of its register, which isn't kept for queues
+abbrev pub delivers : ℕ → ℕ → Step → Note → Bool
+delivers p c step (Signal q r) = is_of p c step
+delivers p c step _ = false
+
 -- the step goes itself into what waits for the command
 abbrev pub goes_in : Live → Step → Note → Bool
-goes_in l step note = reads_of l.spe l.cmd step || (acks l.spe l.progress step note || moves_own_line l step)
+goes_in l step note = reads_of l.spe l.cmd step || (acks l.spe l.progress step note || (moves_own_line l step || delivers l.spe l.cmd step note))
 
 -- whether a step moves a line whole, where these are the outstanding commands of its processor
 abbrev pub moves_line_by : List Live → Step → Bool

@@ -6,7 +6,7 @@ use Rattle.mfc_command.specs.declared.command.Command.{Command}
 use Rattle.mfc_command.specs.Order.{precedes}
 use Rattle.mfc_command.specs.Parts.{parts_of}
 use Rattle.cell_machine.specs.declared.effect.Note.{Note}
-use Rattle.cell_machine.specs.declared.effect.Note.TheVariants.{Issue, TagRead, Element, Put, Take}
+use Rattle.cell_machine.specs.declared.effect.Note.TheVariants.{Issue, TagRead, Element, Put, Take, Signal}
 use Rattle.race_order.specs.Trace.{Event, Trace, is_of}
 use Rattle.race_order.specs.declared.progress.Progress.{Progress}
 use Rattle.race_order.specs.Status.{status, is_transfer}
@@ -34,6 +34,11 @@ IsQuiet (Put q m) = ⊥
 IsQuiet (Take q m) = ⊥
 IsQuiet _ = ⊤
 
+-- a signal is delivered by the one piece that is left of a transfer
+abbrev pub IsDelivery : Progress → Note → Type 0
+IsDelivery s (Signal q r) = (is_transfer s.command ≡ true) × (s.left ≡ 1)
+IsDelivery s _ = ⊤
+
 -- a step of the command d: it was issued and isn't complete, and every command that goes before it is complete
 pub record MayStep (before : Trace) (p d : ℕ) (step : Step) (note : Note) : Type 0 where
   pub progress : Progress
@@ -42,6 +47,7 @@ pub record MayStep (before : Trace) (p d : ℕ) (step : Step) (note : Note) : Ty
   pub first : (c : ℕ) (s : Progress) → c < d → Has before p c s → precedes s.command progress.command ≡ true → s.done ≡ true
   pub fits : FitsProgress progress step note
   pub quiet : IsQuiet note
+  pub delivery : IsDelivery progress note
 
 -- a PUTQLLUC has one piece
 abbrev pub IsOnePiece : Command → Type 0

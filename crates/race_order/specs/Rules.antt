@@ -4,7 +4,7 @@ use Rattle.cell_base.specs.declared.steps.Step.TheVariants.{Exec, Piece, Atomic,
 use Rattle.mfc_command.specs.declared.command.Command.{Command}
 use Rattle.cell_machine.specs.declared.effect.Note.TheVariants.{AtomicIssue, TagRead, StallRead, AtomicRead, Ended, Awaited}
 use Rattle.race_order.specs.Commands.{IsIssued, Before, ReadsElement, IsStepOfElement, IsFlagDone, Resumes}
-use Rattle.race_order.specs.Trace.{Trace, IsStep, Notes, IssuesAt, IsStepOf, PutsNth, TakesNth, mailbox_size}
+use Rattle.race_order.specs.Trace.{Trace, IsStep, Notes, IssuesAt, IsStepOf, PutsNth, TakesNth, mailbox_size, OnSignal}
 use Rattle.race_order.specs.Lines.{OnLine}
 
 -- the step at i is ordered before the later one at j by a rule that looks at no queue
@@ -27,6 +27,8 @@ pub data Plain (trace : Trace) (i j : ℕ) : Type 0 where
   Passed : (q m k : ℕ) → PutsNth trace i q m k → TakesNth trace j q m k → Plain trace i j
   -- and is taken before another one is put into its place
   PlaceFree : (q m k : ℕ) → TakesNth trace i q m k → PutsNth trace j q m (k + mailbox_size m) → Plain trace i j
+  -- the deliveries to a signal register and the reads of it, in their order
+  Signalled : (q r : ℕ) → OnSignal trace i q r → OnSignal trace j q r → Plain trace i j
   -- the step with which a processor ceases to run before the host finds that it doesn't
   Finished : (p : ℕ) → Notes trace i (Exec p) Ended ⊎ ((c : ℕ) × Notes trace i (Elem p c) Ended) → Notes trace j Host (Awaited p) → Plain trace i j
 

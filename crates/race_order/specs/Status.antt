@@ -12,7 +12,7 @@ use Rattle.cell_machine.specs.declared.effect.Note.{Note}
 use Rattle.cell_machine.specs.declared.effect.Note.TheVariants.{Issue, Ack, Element}
 use Rattle.race_order.specs.Trace.{Event, Trace}
 
--- a PUT or a GET
+-- neither BARRIER nor a list
 abbrev pub is_single : Kind → Bool
 is_single kind = not (is_barrier kind) && not (is_list kind)
 

@@ -7,7 +7,7 @@ use Rattle.order_sets.specs.declared.facts.Fact.TheVariants.{Upto}
 use Rattle.order_sets.specs.Stands.{has_at}
 use Rattle.race_order.specs.Roles.{same_role as same_base}
 use Rattle.race_order.specs.declared.roles.Role.{Role}
-use Rattle.race_order.specs.declared.roles.Role.TheVariants.{OfExec, OfHost, OfSlot, OfAtomic, OfLine, OfBox, OfEnd}
+use Rattle.race_order.specs.declared.roles.Role.TheVariants.{OfExec, OfHost, OfSlot, OfAtomic, OfLine, OfBox, OfSignal, OfEnd}
 use Rattle.race_order.specs.declared.roles.Class.{Class}
 use Rattle.race_order.specs.declared.roles.Class.TheVariants.{All, Tag, BarredTag, Barriers}
 use Rattle.race_order.specs.declared.roles.QueueRole.{QueueRole}
@@ -60,6 +60,7 @@ base_number (OfSlot p) = 256 * p + 1
 base_number (OfAtomic p) = 256 * p + 2
 base_number (OfEnd p) = 256 * p + 3
 base_number (OfBox q m r) = 256 * q + 4 + 4 * m + r
+base_number (OfSignal q r) = 256 * q + 18 + r
 base_number OfHost = 18
 base_number (OfLine a) = 256 * (a / 128 / 32 % 16) + 224 + a / 128 % 32
 

@@ -1,6 +1,6 @@
 //! All that a step does to the sets and to the outstanding commands.
 
-ghost use Rattle.std.specs.Prelude.{Some, ◌≡◌, ◌≢◌, ℕ, ◌+◌, ◌*◌, ◌<◌, ◌≤◌, [], IfOk, OnOk, length, filter, not, false};
+ghost use Rattle.std.specs.Prelude.{Some, ◌≡◌, ◌≢◌, ℕ, ◌+◌, ◌*◌, ◌<◌, [], IfOk, OnOk, length, filter, not, false};
 ghost use Rattle.std.specs.List.{list_any};
 ghost use Rattle.order_sets.specs.declared.facts.At.{At};
 ghost use Rattle.race_order.specs.declared.roles.QueueRole.{QueueRole as ARole};

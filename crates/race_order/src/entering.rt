@@ -1,6 +1,6 @@
 //! The sets that a step goes into.
 
-ghost use Rattle.std.specs.Prelude.{◌≡◌, ℕ, ◌+◌, ◌*◌, ◌||◌, ◌&&◌, ◌++◌, map, OnOk};
+ghost use Rattle.std.specs.Prelude.{◌≡◌, ◌+◌, ◌*◌, ◌||◌, ◌&&◌, map, OnOk};
 ghost use Rattle.order_sets.specs.declared.facts.At.{At};
 ghost use Rattle.race_order.specs.Stamps.{event_of};
 ghost use Rattle.race_order.specs.Counted.{Fits};

@@ -1,6 +1,6 @@
 //! How the outstanding commands go on by a step.
 
-ghost use Rattle.std.specs.Prelude.{◌≡◌, ◌+◌, ◌<◌, ◌^◌, ◌&&◌, IfOk, OnOk, length, map, not, false};
+ghost use Rattle.std.specs.Prelude.{◌≡◌, ◌+◌, ◌<◌, ◌^◌, ◌&&◌, IfOk, OnOk, map, not, false};
 ghost use Rattle.std.specs.List.{list_any};
 ghost use Rattle.race_order.specs.Lives.{moved, HaveRoom, AreOutstanding};
 ghost use Rattle.race_order.specs.Passes.{AreMoved, into_stalled, stall_any};

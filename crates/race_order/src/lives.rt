@@ -14,7 +14,7 @@ ghost use Rattle.race_order.specs.declared.roles.QueueRole.TheVariants.{Waits};
 ghost use Rattle.race_order.specs.Bringing.{has_brought, IsOfChains};
 ghost use Rattle.race_order.specs.Lines.{is_queued_line};
 ghost use Rattle.race_order.specs.Ordering.{spe_in};
-ghost use Rattle.race_order.specs.Lives.{acked_by, acks, reads_of, goes_in, moves_own_line, moves_line_by, near, is_touched, moved, own_has, HaveRoom, AreWithin, AreOutstanding, touch_brings, lives_of};
+ghost use Rattle.race_order.specs.Lives.{acked_by, acks, reads_of, delivers, goes_in, moves_own_line, moves_line_by, near, is_touched, moved, own_has, HaveRoom, AreWithin, AreOutstanding, touch_brings, lives_of};
 ghost use Rattle.race_order.specs.Tables.{same_role, sets_have, AreOf};
 
 use crate::brought::Brought;
@@ -103,6 +103,7 @@ fn is_queued_line(kind: Kind) -> bool
         Kind::PutList => false,
         Kind::GetList => false,
         Kind::Barrier => false,
+        Kind::Signal => false,
     }
 }
 
@@ -118,6 +119,15 @@ fn moves_own_line(live: &Live, step: &Step) -> bool
 {
     match *step {
         Step::Piece { spe, cmd, .. } => is_line_of(live, spe, cmd),
+        _ => false,
+    }
+}
+
+fn delivers(live: &Live, step: &Step, note: &Note) -> bool
+    ensures { result ≡ delivers live.now.spe live.now.cmd step.now note.now }
+{
+    match note {
+        Note::Signal { .. } => steps(live, step),
         _ => false,
     }
 }
@@ -144,7 +154,8 @@ pub(crate) fn moves_line(lives: &Vec<Vec<Live>>, step: Step) -> bool
 fn goes_into(live: &Live, step: &Step, note: &Note) -> bool
     ensures { result ≡ goes_in live.now step.now note.now }
 {
-    reads(live, step) || (resumes(live, step, note) || moves_own_line(live, step))
+    reads(live, step)
+        || (resumes(live, step, note) || (moves_own_line(live, step) || delivers(live, step, note)))
 }
 
 /// The command after the step.

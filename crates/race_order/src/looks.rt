@@ -1,11 +1,9 @@
 //! Which plain sets a step looks at, and which it goes into.
 
-ghost use Rattle.std.specs.Prelude.{◌≡◌, ℕ, ◌+◌, ◌*◌, ◌<◌, ◌++◌, IfOk, OnOk, length};
-ghost use Rattle.race_order.specs.Trace.{Trace};
-ghost use Rattle.race_order.specs.Stamps.{event_of};
-ghost use Rattle.race_order.specs.Counted.{Fits, Shows};
-ghost use Rattle.race_order.specs.Roles.{step_reads, step_writes, note_reads, note_writes, line_of, line_roles, atomics_of, end_seen, slot_of, end_of, read_roles, write_roles};
-ghost use Rattle.race_order.specs.Listed.{listed, IsBoxOf, note_reads_by, note_writes_by, read_roles_by, write_roles_by};
+ghost use Rattle.std.specs.Prelude.{◌≡◌, ◌+◌, ◌*◌, ◌<◌, ◌++◌, length};
+ghost use Rattle.race_order.specs.Counted.{Fits};
+ghost use Rattle.race_order.specs.Roles.{step_reads, step_writes, line_of, line_roles, atomics_of, end_seen, slot_of, end_of};
+ghost use Rattle.race_order.specs.Listed.{listed, IsBoxOf, note_reads_by, note_writes_by};
 
 use crate::boxes::{Boxes, place};
 use crate::roles::Role;
@@ -107,6 +105,7 @@ pub(crate) fn note_read(boxes: &Boxes, step: Step, note: Note) -> Option<Role>
         Note::AtomicRead => atomics(step),
         Note::Put { spe, mailbox } => Some(put_box(boxes, spe, mailbox)),
         Note::Take { spe, mailbox } => Some(take_box(boxes, spe, mailbox)),
+        Note::Signal { spe, register } => Some(Role::OfSignal { spe, register }),
         Note::Awaited { spe } => seen_end(spe, step),
         _ => None,
     }
@@ -121,6 +120,7 @@ pub(crate) fn note_write(boxes: &Boxes, step: Step, note: Note) -> Option<Role>
         Note::AtomicIssue => slot(step),
         Note::Put { spe, mailbox } => Some(put_box(boxes, spe, mailbox)),
         Note::Take { spe, mailbox } => Some(take_box(boxes, spe, mailbox)),
+        Note::Signal { spe, register } => Some(Role::OfSignal { spe, register }),
         Note::Ended => own_end(step),
         _ => None,
     }

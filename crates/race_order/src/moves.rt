@@ -1,6 +1,6 @@
 //! Sets that go into other sets.
 
-ghost use Rattle.std.specs.Prelude.{◌≡◌, ◌||◌, OnOk, length};
+ghost use Rattle.std.specs.Prelude.{◌≡◌, ◌||◌, OnOk};
 ghost use Rattle.order_sets.specs.declared.facts.At.{At};
 ghost use Rattle.race_order.specs.declared.roles.QueueRole.{QueueRole as ARole};
 ghost use Rattle.race_order.specs.Tables.{sets_have, AreOf, moves_to};

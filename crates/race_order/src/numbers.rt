@@ -4,7 +4,7 @@
 //! whose numbers differ by a multiple of 512. The lines take what the roles of the processors leave of each 256 numbers: there are as many
 //! buckets as the highest number says, and they are made anew for each run.
 
-ghost use Rattle.std.specs.Prelude.{◌≡◌, ℕ, ◌+◌, ◌*◌, ◌/◌, ◌%◌, ◌<◌, ◌^◌};
+ghost use Rattle.std.specs.Prelude.{◌≡◌, ◌+◌, ◌*◌, ◌/◌, ◌%◌, ◌<◌, ◌^◌};
 ghost use Rattle.race_order.specs.Tables.{class_number, base_number, number};
 
 use crate::roles::{Class, QueueRole, Role};
@@ -36,6 +36,7 @@ fn base_number(role: Role) -> u64
             place,
         } => 256 * u64::from(spe) + 4 + 4 * u64::from(mailbox) + u64::from(place),
         Role::OfHost => 18,
+        Role::OfSignal { spe, register } => 256 * u64::from(spe) + 18 + u64::from(register),
         Role::OfLine { address } => {
             let line = u64::from(address) / 128;
             256 * (line / 32 % 16) + 224 + line % 32

@@ -1,6 +1,6 @@
 //! Which sets go into which others at a step.
 
-ghost use Rattle.std.specs.Prelude.{Some, ◌≡◌, ℕ, ◌||◌, ◌&&◌, map, OnOk, length};
+ghost use Rattle.std.specs.Prelude.{Some, ◌≡◌, ◌||◌, ◌&&◌, map, OnOk};
 ghost use Rattle.std.specs.List.{list_any};
 ghost use Rattle.order_sets.specs.declared.facts.At.{At};
 ghost use Rattle.order_sets.specs.Stands.{has_at};
@@ -51,6 +51,7 @@ fn barrier(kind: Kind) -> bool
         Kind::GetList => false,
         Kind::Barrier => true,
         Kind::PutQueued => false,
+        Kind::Signal => false,
     }
 }
 

@@ -1,8 +1,8 @@
 //! How far a command has come.
 
-ghost use Rattle.std.specs.Prelude.{◌≡◌, ℕ, ◌+◌, ◌*◌, ◌<◌, ◌^◌, ◌==◌, ◌&&◌, Bool};
+ghost use Rattle.std.specs.Prelude.{◌≡◌, ◌+◌, ◌*◌, ◌<◌, ◌^◌, ◌==◌, ◌&&◌};
 ghost use Rattle.mfc_command.specs.Parts.{parts_of};
-ghost use Rattle.race_order.specs.Status.{is_single, is_transfer, begun, is_last, finished, after_piece, with_element, after_element, after_ack, is_by, stepped, elements_done};
+ghost use Rattle.race_order.specs.Status.{is_single, is_transfer, begun, is_last, finished, after_piece, with_element, after_element, after_ack, stepped, elements_done};
 
 use cell_base::Step;
 use cell_machine::Note;
@@ -30,6 +30,7 @@ fn single(kind: Kind) -> bool
         Kind::GetList => false,
         Kind::Barrier => false,
         Kind::PutQueued => true,
+        Kind::Signal => true,
     }
 }
 

@@ -19,6 +19,8 @@ pub(crate) enum Role {
     OfLine { address: u32 },
     /// what went through one place of a mailbox
     OfBox { spe: u8, mailbox: u8, place: u32 },
+    /// the deliveries to a signal register and the reads of it
+    OfSignal { spe: u8, register: u8 },
     /// the end of a processor
     OfEnd { spe: u8 },
 }
@@ -69,6 +71,16 @@ fn is_same(a: Role, b: Role) -> bool
                 place: s,
             },
         ) => p == q && m == l && r == s,
+        (
+            Role::OfSignal {
+                spe: p,
+                register: r,
+            },
+            Role::OfSignal {
+                spe: q,
+                register: s,
+            },
+        ) => p == q && r == s,
         (Role::OfEnd { spe: p }, Role::OfEnd { spe: q }) => p == q,
         _ => false,
     }

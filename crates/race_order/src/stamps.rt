@@ -1,6 +1,6 @@
 //! How steps are named.
 
-ghost use Rattle.std.specs.Prelude.{◌≡◌, ℕ, ◌+◌, ◌*◌, ◌<◌, ◌≤◌, ◌^◌};
+ghost use Rattle.std.specs.Prelude.{◌≡◌, ◌+◌, ◌*◌, ◌≤◌};
 ghost use Rattle.race_order.specs.Stamps.{chain_of, cmd_of, elem_noted, elem_of, stamp, event_of};
 ghost use Rattle.race_order.specs.Roles.{fact_by};
 ghost use Rattle.race_order.specs.Orderly.{IsWithin};

@@ -1,9 +1,14 @@
 //! What a flow controller and its channels hold, as the steps of a run tell it.
 
+use crate::events::{Events, Standing, TAG_STATUS, raised};
 use crate::outstanding::Outstanding;
+use crate::signals::Signals;
 use crate::watching::{Made, spe_of};
 use cell_base::{ChannelOp, Step};
-use cell_channels::{Channels, MFC_LSA, MFC_TAG_ID, MFC_WR_TAG_MASK, MFC_WR_TAG_UPDATE};
+use cell_channels::{
+    Channels, MFC_LSA, MFC_TAG_ID, MFC_WR_TAG_MASK, MFC_WR_TAG_UPDATE, SPU_WR_EVENT_ACK,
+    SPU_WR_EVENT_MASK,
+};
 use cell_machine::Note;
 use mfc_command::{AtomicKind, AtomicOp, Command, Order, check};
 use std::alloc::Global;
@@ -21,6 +26,9 @@ const PUTLLC_LOST: u32 = 1;
 const PUTLLUC_DONE: u32 = 2;
 
 const GETLLAR_DONE: u32 = 4;
+
+/// How many places the queue of commands has.
+const QUEUE_PLACES: usize = 16;
 
 /// So many lines have all addresses of 32 bits: a command that the machine has issued lies in its memory.
 const ALL_LINES: u32 = 0x200_0000;
@@ -61,7 +69,7 @@ pub struct Controller {
     pub request: Option<Request>,
     pub fixed: Option<Fixed>,
     pub reserved: Option<Reservation>,
-    /// The atomic command that was done by its latest step.
+    /// The atomic command that was done by the latest step.
     pub done: Option<AtomicOp>,
     /// How many commands were issued.
     issued: u32,
@@ -70,6 +78,8 @@ pub struct Controller {
     pub inbound: Vec<u32>,
     pub outbound: Vec<u32>,
     pub interrupt: Vec<u32>,
+    pub signals: Signals,
+    pub events: Events,
     /// Whether memory lacked for what a step brought.
     pub lacks_memory: bool,
 }
@@ -90,18 +100,45 @@ impl Controller {
             inbound: Vec::new(alloc),
             outbound: Vec::new(alloc),
             interrupt: Vec::new(alloc),
+            signals: Signals::new(),
+            events: Events::new(),
             lacks_memory: false,
         }
     }
 
-    /// Takes in a step of the run, which stores to these lines of main memory.
+    /// Takes in a step of the run, which stores to these lines of main memory, with the events of that.
     pub fn follow(&mut self, made: &Made, stored: Option<(u32, u32)>) {
+        let before = self.standing();
+        self.take_in(made, stored);
+        let is_own_atomic = self.done.is_some();
+        let now = self.standing();
+        self.events.raise(raised(before, now, is_own_atomic));
+    }
+
+    /// Takes in a step of the run but for what is an event by what stood before it.
+    fn take_in(&mut self, made: &Made, stored: Option<(u32, u32)>) {
+        self.done = None;
         if let Some((first, last)) = stored {
             self.touch(first, last);
         }
         self.pass(made.effect.note, made.value);
+        self.signals.follow(self.spe, made);
         if spe_of(made.step) == Some(self.spe) {
             self.follow_own(made);
+        }
+    }
+
+    /// What stands that may be an event where it changes.
+    fn standing(&self) -> Standing {
+        Standing {
+            holds_line: matches!(self.reserved, Some(Reservation { is_lost: false, .. })),
+            has_first_signal: self.signals.first.is_some(),
+            has_second_signal: self.signals.second.is_some(),
+            has_outbound: !self.outbound.is_empty(),
+            has_interrupt: !self.interrupt.is_empty(),
+            has_inbound: !self.inbound.is_empty(),
+            is_queue_full: self.queue.len() == QUEUE_PLACES,
+            has_stall: self.channels.has_stall(),
         }
     }
 
@@ -162,6 +199,8 @@ impl Controller {
                 self.request = Some(Request { how: value, mask });
                 self.fixed = None;
             }
+            SPU_WR_EVENT_MASK => self.events.mask = value,
+            SPU_WR_EVENT_ACK => self.events.acknowledge(value),
             _ => {}
         }
     }
@@ -211,7 +250,6 @@ impl Controller {
 
     /// Ends the atomic command in the slot, where the step is that: it reserves its line, or gives up the reservation.
     fn end_atomic(&mut self, made: &Made) {
-        self.done = None;
         if let Step::Atomic { .. } = made.step {
             self.done = self.channels.slot();
         }
@@ -246,6 +284,7 @@ impl Controller {
             let groups = request.mask & !self.busy();
             let issued = self.issued;
             self.fixed = Some(Fixed { groups, issued });
+            self.events.raise(TAG_STATUS);
         }
         self.request = None;
     }

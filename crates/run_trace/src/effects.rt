@@ -8,6 +8,7 @@
 //! - `issue COMMAND KIND MARK TAG LSA EAH EAL SIZE`: a command for the queue; `atomic KIND LSA LINE`: one for the slot, or that is done, and then `status STATUS`.
 //! - `tags GROUPS ISSUED`: a tag status is read, and how many commands were issued when it was fixed; `stalls GROUPS`, `ack TAG` and `atomicread`.
 //! - `put SPE BOX VALUE` and `take SPE BOX VALUE`: a value of the mailbox `in`, `out` or `intr` of a processor.
+//! - `signal SPE REGISTER`: a signal register of a processor is read, or a value comes to it, and then `deliver VALUE`.
 //! - `element NUMBER PARTS FLAG EAL SIZE`: an element is read; `ended`: the processor runs no more; `awaited SPE`; `fixed`: a tag status is fixed behind the step.
 //!
 //! Of an instruction that ends its processor the value of a channel says nothing.
@@ -94,6 +95,17 @@ fn put_note(out: &mut Text, note: Note, value: u32) {
     }
 }
 
+/// A field of the signal register that is read, or to which a value comes, and then of that value.
+fn put_signal(out: &mut Text, made: &Made) {
+    let Note::Signal { spe, register } = made.effect.note else {
+        return;
+    };
+    out.field("signal", &[u32::from(spe), u32::from(register)]);
+    if made.channel.is_none() {
+        out.field("deliver", &[made.value]);
+    }
+}
+
 /// The line of a step, of a processor or a flow controller that stands so after it, or of the host.
 pub fn put_line(out: &mut Text, made: &Made, own: Option<&Controller>) {
     out.step(made.step);
@@ -104,6 +116,7 @@ pub fn put_line(out: &mut Text, made: &Made, own: Option<&Controller>) {
         put_own(out, made, own);
     }
     put_note(out, made.effect.note, made.value);
+    put_signal(out, made);
     put_element(out, made.element);
     if made.effect.fixed {
         out.field("fixed", &[]);

@@ -2,13 +2,16 @@
 //!
 //! Of each processor stands a line `flow SPE` with `params LSA EAH EAL SIZE TAG`, `mask GROUPS`, and where there is such a thing `request HOW GROUPS` (pending),
 //! `fixed GROUPS ISSUED` (a tag status that wasn't read), `stalls GROUPS` (unread), `atomic KIND LSA LINE` (in the slot), `status STATUS` (of an atomic command, unread),
-//! `reserved LINE` with `held` or `lost`, and the values of the mailboxes `in`, `out` and `intr`, the oldest first. Behind it stand its outstanding commands by their
-//! numbers: `command SPE COMMAND KIND MARK TAG LSA EAH EAL SIZE`, with `left PARTS ALL` of a transfer, and of a list `read ELEMENTS ALL`, the element in progress as
-//! `element NUMBER PARTS FLAG EAL SIZE` and `left PARTS ALL`, and `stalled`. The last line is `script DONE ACTIONS`, of the host.
+//! `reserved LINE` with `held` or `lost`, `events MASK PENDING`, `sig1 LAST ALL` and `sig2 LAST ALL` of a signal register that is ready (of the values that were
+//! delivered since it was read, the last, which it holds in overwrite mode, and the bits of all, which it holds in OR mode), and the values of the mailboxes `in`, `out`
+//! and `intr`, the oldest first. Behind it stand its outstanding commands by their numbers: `command SPE COMMAND KIND MARK TAG LSA EAH EAL SIZE`, with
+//! `left PARTS ALL` of a transfer or a signal, and of a list `read ELEMENTS ALL`, the element in progress as `element NUMBER PARTS FLAG EAL SIZE` and
+//! `left PARTS ALL`, and `stalled`. The last line is `script DONE ACTIONS`, of the host.
 
 use crate::controller::Controller;
 use crate::lines::Text;
 use crate::outstanding::{Outstanding, is_list};
+use crate::signals::Delivered;
 use crate::telling::{put_atomic, put_command, put_element};
 use cell_machine::Machine;
 
@@ -43,6 +46,23 @@ fn put_slot(out: &mut Text, it: &Controller) {
     }
 }
 
+/// The mask of the events and those that are pending, where there are such, and what was delivered to the signal registers that are ready.
+fn put_events(out: &mut Text, it: &Controller) {
+    let events = it.events;
+    if events.mask != 0 || events.pending != 0 {
+        out.field("events", &[events.mask, events.pending]);
+    }
+    put_signal(out, "sig1", it.signals.first);
+    put_signal(out, "sig2", it.signals.second);
+}
+
+/// What was delivered to a signal register, where it is ready.
+fn put_signal(out: &mut Text, name: &str, delivered: Option<Delivered>) {
+    if let Some(Delivered { last, all }) = delivered {
+        out.field(name, &[last, all]);
+    }
+}
+
 /// The values of a mailbox, where it has some.
 fn put_values(out: &mut Text, name: &str, values: &[u32]) {
     if !values.is_empty() {
@@ -56,6 +76,7 @@ fn put_flow(out: &mut Text, it: &Controller) {
     out.number(u32::from(it.spe));
     put_tags(out, it);
     put_slot(out, it);
+    put_events(out, it);
     put_values(out, "in", it.inbound.as_slice());
     put_values(out, "out", it.outbound.as_slice());
     put_values(out, "intr", it.interrupt.as_slice());

@@ -13,6 +13,7 @@ pub fn put_command(out: &mut Text, number: u32, command: Command, high: u32) {
         Kind::GetList => "getl",
         Kind::Barrier => "barrier",
         Kind::PutQueued => "putqlluc",
+        Kind::Signal => "sndsig",
     };
     let mark = match command.mark {
         Mark::Plain => "-",

@@ -24,7 +24,7 @@ pub struct Made {
     pub effect: Effect,
     /// What it asked of a channel.
     pub channel: Option<ChannelOp>,
-    /// What was read or counted, written, sent or taken, where it did such a thing.
+    /// What was read or counted, written, sent, delivered or taken, where it did such a thing.
     pub value: u32,
     /// The element of a list that it read.
     pub element: Option<Element>,
@@ -51,17 +51,21 @@ fn register_of(machine: &Machine, spe: u8, r: u8) -> u32 {
     }
 }
 
+/// The word at an address of a processor's store.
+fn word_at(machine: &Machine, spe: u8, at: u32) -> Option<u32> {
+    if spe < machine.setup().spes() && at % 4 == 0 && at < STORE_BYTES {
+        Some(machine.local(spe).word(at))
+    } else {
+        None
+    }
+}
+
 /// The word at which a processor is.
 pub fn next_word(machine: &Machine, spe: u8) -> Option<u32> {
     if spe >= machine.setup().spes() {
         return None;
     }
-    let at = machine.pc(spe);
-    if at % 4 == 0 && at < STORE_BYTES {
-        Some(machine.local(spe).word(at))
-    } else {
-        None
-    }
+    word_at(machine, spe, machine.pc(spe))
 }
 
 /// What the next instruction of a processor asks of a channel.
@@ -87,11 +91,12 @@ fn value_taken(machine: &Machine) -> u32 {
     }
 }
 
-/// What the action that the host did last sent or took.
+/// What the action that the host did last sent, delivered or took.
 fn value_of_host(machine: &Machine) -> u32 {
     let done = machine.host().place() as usize;
     match machine.setup().actions().get(done.saturating_sub(1)) {
         Some(HostAction::Send { value, .. }) => *value,
+        Some(HostAction::Signal { value, .. }) => *value,
         _ => value_taken(machine),
     }
 }
@@ -103,6 +108,14 @@ fn value_of(machine: &Machine, spe: u8, channel: Option<ChannelOp>) -> u32 {
         Some(ChannelOp::Count { rt, .. }) => register_of(machine, spe, rt),
         Some(ChannelOp::Write { value, .. }) => value,
         None => 0,
+    }
+}
+
+/// What a piece delivered to a signal register.
+fn value_of_piece(machine: &Machine, spe: u8, effect: &Effect) -> u32 {
+    match effect.note {
+        Note::Signal { .. } => word_at(machine, spe, effect.reads.at).unwrap_or(0),
+        _ => 0,
     }
 }
 
@@ -145,6 +158,7 @@ pub fn watch(machine: &mut Machine, step: Step) -> Result<Made, Failed> {
     let effect = make(machine, step)?;
     let (value, element) = match step {
         Step::Exec { spe } => (value_of(machine, spe, channel), None),
+        Step::Piece { spe, .. } => (value_of_piece(machine, spe, &effect), None),
         Step::Elem { spe, .. } => (0, element_of(machine, spe, &effect)),
         Step::Host => (value_of_host(machine), None),
         _ => (0, None),

@@ -1,5 +1,5 @@
 	rdch	$3,$MFC_RdAtomicStat
-	rdch	$3,$SPU_RdEventStat
+	rdch	$3,$SPU_RdDec
 	br	1b
 	.comm	x,4,3
 	.comm	y,4,4

@@ -35,7 +35,7 @@ f:
 	.align	13
 	.text	1
 	a	$3,$4,$128
-	rdch	$3,$SPU_RdEventStat
+	rdch	$3,$SPU_RdDec
 	lqd	$3,0($x)
 	.end
 	nonsense

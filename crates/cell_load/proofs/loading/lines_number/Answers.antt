@@ -19,6 +19,7 @@ other (line.Bytes at bytes) differs = refl
 other (line.Source name) differs = refl
 other (line.MemoryBytes at bytes) differs = refl
 other (line.Host action) differs = refl
+other (line.OrMode spe register) differs = refl
 other (line.ShowLocal spe at len) differs = refl
 other (line.ShowMemory at len) differs = refl
 

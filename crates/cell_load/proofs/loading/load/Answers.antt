@@ -7,7 +7,7 @@ use Rattle.cell_load.proofs.SetupLemmas.{starts-length}
 use Rattle.cell_load.specs.Entries.{entry_of}
 use Rattle.cell_load.specs.LoadViews.{load_of}
 use Rattle.cell_load.proofs.Admitted.{few_spes}
-use Rattle.cell_load.proofs.MachineFits.{is_opening, some_spes}
+use Rattle.cell_load.proofs.MachineFits.{is_opening, registers_fit, some_spes}
 use Rattle.cell_load.proofs.loading.load.Goals as goal
 
 pub loads_in-requires : goal.loads_in-requires
@@ -20,6 +20,11 @@ pub setup_in-requires-clause-limits : goal.setup_in-requires-clause-limits
 setup_in-requires-clause-limits c =
     rw (c.deref-3.ensures.value, c.deref-4.ensures.value, c.in_ok-loads.ensures.all, c.deref.ensures.value)
     (is_opening (map entry_of c.plan.inside.lines.items) c.args.images.now c.plan.invariant.0 (rw c.deref.ensures.value at c.in_ok-loads.ensures.fits))
+
+pub setup_in-requires-clause-modes : goal.setup_in-requires-clause-modes
+setup_in-requires-clause-modes c =
+    rw (c.deref-3.ensures.value, c.spes_in-spes.ensures, c.deref-2.ensures.value)
+    (registers_fit (map entry_of c.plan.inside.lines.items) c.plan.invariant.0)
 
 pub returns-in_err-check_processors-clause-exact : goal.returns-in_err-check_processors-clause-exact
 returns-in_err-check_processors-clause-exact c =

@@ -2,6 +2,7 @@ use Rattle.std.proofs.Common.{refl, ◌∙◌}
 use Rattle.cell_machine.proofs.MemoryShown.{got-shows}
 use Rattle.cell_machine.proofs.AtomicSteps.{got-store, got-memory, line-store, line-memory, cond-status, cond-store, cond-memory}
 use Rattle.cell_machine.specs.Atomic.{holds}
+use Rattle.cell_machine.proofs.Losing.{others-lose, got-loses, line-loses, cond-loses}
 use Rattle.cell_machine.proofs.atomics.move_line.Goals as goal
 
 pub returns-in-GetLine-clause-store : goal.returns-in-GetLine-clause-store
@@ -26,3 +27,15 @@ returns-in-PutLine-clause-store c = λ P Q m reserved shows at was. line-store m
 pub returns-in-PutLine-clause-memory : goal.returns-in-PutLine-clause-memory
 returns-in-PutLine-clause-memory c = λ P Q m reserved shows at was.
     line-memory _ m P Q c.args.a _ reserved c.args.spe c.in-PutLine.is was at (rw c.line_part-in-PutLine.ensures at (c.put_part.ensures.stores m reserved shows))
+
+pub returns-in-GetLine-clause-losers : goal.returns-in-GetLine-clause-losers
+returns-in-GetLine-clause-losers c = λ P Q m reserved shows at was. got-loses c.args.spe m reserved P Q c.args.a c.in-GetLine.is
+
+pub returns-in-PutCond-clause-losers : goal.returns-in-PutCond-clause-losers
+returns-in-PutCond-clause-losers c = λ P Q m reserved shows at was.
+    cond-loses c.args.spe c.put_conditional.result.losers m reserved P Q c.args.a _ c.in-PutCond.is was (c.put_conditional.ensures.losers P m reserved shows at)
+
+pub returns-in-PutLine-clause-losers : goal.returns-in-PutLine-clause-losers
+returns-in-PutLine-clause-losers c = λ P Q m reserved shows at was.
+    line-loses c.args.spe c.other_holders-losers.result m reserved P Q c.args.a _ c.in-PutLine.is was
+    (others-lose c.args.memory.now m reserved c.args.spe c.args.a.line c.other_holders-losers.result _ c.other_holders-losers.ensures.versions c.requires.fits.1 shows)

@@ -3,9 +3,10 @@ use Rattle.std.specs.Option.{option_map, option_and_then}
 use Rattle.std.specs.Prelude.{Some}
 use Rattle.lock_lines.specs.Stands.{line_count}
 use Rattle.cell_machine.specs.Exec.{exec}
-use Rattle.cell_machine.specs.Transfers.{elem}
-use Rattle.cell_machine.specs.Effects.{effect_of, exec_effect, elem_effect, of_command}
-use Rattle.cell_machine.specs.Shows.{reservations}
+use Rattle.cell_machine.specs.Transfers.{elem, piece}
+use Rattle.cell_machine.specs.Effects.{effect_of, exec_effect, piece_effect, elem_effect, of_command}
+use Rattle.cell_machine.specs.Shows.{ShowsSpe, reservations}
+use Rattle.cell_machine.proofs.AllTwo.{two_length}
 use Rattle.cell_machine.proofs.Steps.{reserved-at, lines-is}
 use Rattle.cell_machine.proofs.Controllers.{kept-of, issue-of, can-lines}
 use Rattle.cell_machine.proofs.StepEffects.{effect-at, effect-absent}
@@ -39,7 +40,8 @@ piece_effect-requires c =
 pub returns-else-spe-processors-2 : goal.returns-else-spe-processors-2
 unfolding effect_of
 returns-else-spe-processors-2 c = λ M shows. rw c.in-Piece.is
-    (effect-at _ M c.in-Piece.spe _ _ _ shows (omega arith) c.index-processors-spe-in-Piece.is (λ P at seen. c.piece_effect.ensures P M.memory seen))
+    (effect-at _ M c.in-Piece.spe _ _ _ shows (omega arith) c.index-processors-spe-in-Piece.is (λ P at seen. c.piece_effect.ensures P M.memory seen
+    ∙ ap (λ n. option_and_then (λ x. of_command P c.in-Piece.cmd (piece_effect n c.in-Piece.spe c.in-Piece.cmd c.in-Piece.part P x)) (piece M.memory P c.in-Piece.cmd c.in-Piece.elem c.in-Piece.part)) (sym (two_length ShowsSpe _ M.spes shows.spes))))
 
 pub returns-then-spe-processors-3 : goal.returns-then-spe-processors-3
 unfolding effect_of

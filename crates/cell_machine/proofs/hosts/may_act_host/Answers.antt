@@ -1,7 +1,7 @@
 use Rattle.std.proofs.Common.{sym, ap, ◌∙◌}
 use Rattle.std.specs.Prelude.{is_some}
 use Rattle.cell_machine.proofs.Execs.{none_there}
-use Rattle.cell_machine.proofs.HostSteps.{host-over, host-allowed, acted-send, acted-take, acted-take_intr, acted-await, acted-store}
+use Rattle.cell_machine.proofs.HostSteps.{host-over, host-allowed, acted-signal, acted-send, acted-take, acted-take_intr, acted-await, acted-store}
 use Rattle.cell_machine.proofs.hosts.may_act_host.Goals as goal
 
 pub returns-in_default : goal.returns-in_default
@@ -31,3 +31,8 @@ pub returns-in-Store : goal.returns-in-Store
 returns-in-Store c = λ memory M shows.
     host-allowed M _ c.in-Some.action _ shows.host_is (sym c.next.ensures ∙ c.in-Some.is)
     (sym (rw c.in-Store.is (acted-store M _ _ _)))
+
+pub returns-in-Signal : goal.returns-in-Signal
+returns-in-Signal c = λ memory M shows.
+    host-allowed M _ c.in-Some.action _ shows.host_is (sym c.next.ensures ∙ c.in-Some.is)
+    (c.lets_at-in-Signal.ensures memory _ M shows ∙ ap is_some (sym (rw c.in-Signal.is (acted-signal M c.in-Signal.spe _ _))))

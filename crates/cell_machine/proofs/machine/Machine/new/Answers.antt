@@ -19,6 +19,7 @@ invariant_of-result c =
     machine-new c.args.setup _ _ _ _ _ (subst IsOpening c.setup.view_is c.setup.invariant) c.requires
     (c.in_ok-processors.ensures c.args.setup
     (ap (λ (S : Opening). S.entries) (sym c.setup.view_is) ∙ sym c.deref.ensures.value)
+    (ap (λ (S : Opening). S.or_modes) (sym c.setup.view_is))
     (ap (λ (S : Opening). S.placed) (sym c.setup.view_is) ∙ ap shown (sym c.deref-2.ensures.value)))
     (memory-new c.args.setup _ c.setup.inside.lines c.len-spes.result c.deref-3.result.now lines
     (ap (λ (S : Opening). S.memory) (sym c.setup.view_is) ∙ ap shown_memory (sym c.deref-3.ensures.value)) spes c.in_ok-memory.ensures.shows)

@@ -28,6 +28,8 @@ returns-in-Ok-Queued c = λ P shows.
       interrupt = shows.interrupt;
       channels = shows.channels;
       tags = shows.tags;
+      signals = shows.signals;
+      events = shows.events;
       queue = c.issue.ensures P.moves shows.queue;
     }))
 

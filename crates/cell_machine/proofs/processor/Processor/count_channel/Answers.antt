@@ -7,7 +7,7 @@ use Rattle.cell_machine.proofs.processor.Processor.count_channel.Goals as goal
 
 pub returns-in-None : goal.returns-in-None
 returns-in-None c = λ lines P shows. rw (count-bad lines P c.args.rt c.args.ch (ap is_some (sym c.way.ensures ∙ c.in-None.is)))
-    (record { status = refl; pc = shows.pc; registers = shows.registers; store = shows.store; inbound = shows.inbound; outbound = shows.outbound; interrupt = shows.interrupt; channels = shows.channels; tags = shows.tags; queue = shows.queue })
+    (record { status = refl; pc = shows.pc; registers = shows.registers; store = shows.store; inbound = shows.inbound; outbound = shows.outbound; interrupt = shows.interrupt; channels = shows.channels; tags = shows.tags; signals = shows.signals; events = shows.events; queue = shows.queue })
 
 pub returns-in-Some : goal.returns-in-Some
 returns-in-Some c = λ lines P shows.

@@ -40,7 +40,7 @@ returns-in-Ok-clause-made c = λ P shows.
     (subst (ShowsSpe c.tell.new.self) (told-moves P (with_read P.moves c.args.cmd c.in-Ok.x) c.args.cmd d c.begin-stalls.result begins.1)
     (subst (λ n. ShowsSpe c.tell.new.self (if c.begin-stalls.result then told (record P { moves = with_read P.moves c.args.cmd c.in-Ok.x }) n else record P { moves = with_read P.moves c.args.cmd c.in-Ok.x }))
     (ap (λ (y : Command). y.tag) (command-is q.calls P.moves c.args.cmd c.command-tag.result d q.moves (c.command-tag.ensures.command q.calls q.stands) f.1))
-    (c.tell.ensures (record P { moves = with_read P.moves c.args.cmd c.in-Ok.x }) (record { status = shows.status; pc = shows.pc; registers = shows.registers; store = shows.store; inbound = shows.inbound; outbound = shows.outbound; interrupt = shows.interrupt; channels = shows.channels; tags = shows.tags; queue = begins.0 }))))
+    (c.tell.ensures (record P { moves = with_read P.moves c.args.cmd c.in-Ok.x }) (record { status = shows.status; pc = shows.pc; registers = shows.registers; store = shows.store; inbound = shows.inbound; outbound = shows.outbound; interrupt = shows.interrupt; channels = shows.channels; tags = shows.tags; signals = shows.signals; events = shows.events; queue = begins.0 }))))
 
 pub returns-in-Err-clause-made : goal.returns-in-Err-clause-made
 returns-in-Err-clause-made c = λ P shows.
@@ -53,4 +53,4 @@ returns-in-Err-clause-made c = λ P shows.
     let read : next_element c.args.lines P c.args.cmd d ≡ Err c.in-Err.kind = sym words ∙ sym (c.read_element.ensures.element _ stands) ∙ c.in-Err.is in
     let may = elem-may P c.args.cmd (ap is_faulted shows.status ∙ sym c.is_faulted.ensures ∙ c.if-is_faulted.false) ∙ begun in
     rw (elem-on c.args.lines P c.args.cmd d may f.1 ∙ ap (λ r. Some (after_element P c.args.cmd d r)) read)
-    (record { status = refl; pc = shows.pc; registers = shows.registers; store = shows.store; inbound = shows.inbound; outbound = shows.outbound; interrupt = shows.interrupt; channels = shows.channels; tags = shows.tags; queue = q })
+    (record { status = refl; pc = shows.pc; registers = shows.registers; store = shows.store; inbound = shows.inbound; outbound = shows.outbound; interrupt = shows.interrupt; channels = shows.channels; tags = shows.tags; signals = shows.signals; events = shows.events; queue = q })

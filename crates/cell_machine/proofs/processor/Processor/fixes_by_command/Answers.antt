@@ -13,7 +13,7 @@ use Rattle.cell_machine.proofs.processor.Processor.fixes_by_command.Goals as goa
 pub returns-then-not-may_command : goal.returns-then-not-may_command
 returns-then-not-may_command c = λ P Q registers store shows made.
     absurd (never-made c.args.lines _ Q c.args.op
-    (sym (c.may_command.ensures.may _ (record { channels = shows.channels; tags = shows.tags; queue = shows.queue; inbound = shows.inbound; outbound = shows.outbound; interrupt = shows.interrupt })) ∙ c.if-not-may_command.true) made)
+    (sym (c.may_command.ensures.may _ (record { channels = shows.channels; tags = shows.tags; signals = shows.signals; events = shows.events; queue = shows.queue; inbound = shows.inbound; outbound = shows.outbound; interrupt = shows.interrupt })) ∙ c.if-not-may_command.true) made)
 
 pub fixes_by_issue-requires-clause-free : goal.fixes_by_issue-requires-clause-free
 fixes_by_issue-requires-clause-free c = (rw c.if-not-may_command.false at c.may_command.ensures.free) (checked-slot c.params.result c.args.op c.args.lines (Queued c.in-Ok-Queued.command) (sym c.check.ensures.checked ∙ c.in-Ok-Queued.is ∙ ap Ok c.in-Ok-Queued.field-0-is))

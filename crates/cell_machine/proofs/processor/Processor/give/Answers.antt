@@ -14,5 +14,7 @@ returns c = λ P shows.
       interrupt = shows.interrupt;
       channels = shows.channels;
       tags = shows.tags;
+      signals = shows.signals;
+      events = shows.events;
       queue = shows.queue;
     })

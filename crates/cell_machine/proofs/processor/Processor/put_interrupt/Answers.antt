@@ -16,6 +16,8 @@ returns-clause-made c = λ P shows.
         interrupt = sym first.1;
         channels = shows.channels;
         tags = shows.tags;
+        signals = shows.signals;
+        events = shows.events;
         queue = shows.queue;
       }),
     )

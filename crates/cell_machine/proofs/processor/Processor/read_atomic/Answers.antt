@@ -24,5 +24,7 @@ returns-clause-made c = λ P shows.
       interrupt = shows.interrupt;
       channels = ap (λ (k : Channels). record k { atomic = None }) shows.channels ∙ sym c.read_atomic.ensures.taken;
       tags = shows.tags;
+      signals = shows.signals;
+      events = shows.events;
       queue = shows.queue;
     }))

@@ -11,4 +11,4 @@ pub returns-clause-made : goal.returns-clause-made
 returns-clause-made c = λ P shows.
     let oldest = rw c.in-Some.is at c.take.ensures.some in
     rw (shows.inbound ∙ oldest)
-    (c.give.ensures (record P { inbound = c.take.new.self }) (record { status = shows.status; pc = shows.pc; registers = shows.registers; store = shows.store; inbound = refl; outbound = shows.outbound; interrupt = shows.interrupt; channels = shows.channels; tags = shows.tags; queue = shows.queue }))
+    (c.give.ensures (record P { inbound = c.take.new.self }) (record { status = shows.status; pc = shows.pc; registers = shows.registers; store = shows.store; inbound = refl; outbound = shows.outbound; interrupt = shows.interrupt; channels = shows.channels; tags = shows.tags; signals = shows.signals; events = shows.events; queue = shows.queue }))

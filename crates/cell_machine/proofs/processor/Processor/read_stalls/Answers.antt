@@ -27,6 +27,8 @@ returns-clause-made c = λ P shows.
             interrupt = shows.interrupt;
             channels = ap (λ (s : Channels). record s { stalls = 0 }) shows.channels ∙ sym c.read_stall.ensures.taken;
             tags = shows.tags;
+            signals = shows.signals;
+            events = shows.events;
             queue = shows.queue;
           })),
     )

@@ -14,4 +14,4 @@ pub returns-clause-made : goal.returns-clause-made
 returns-clause-made c = λ P shows.
     let status = rw c.in-Ok.is at c.read.ensures.ok in
     rw (ap (λ (t : Tags). t.status) shows.tags ∙ status)
-    (c.give.ensures (record P { tags = record P.tags { status = None } }) (record { status = shows.status; pc = shows.pc; registers = shows.registers; store = shows.store; inbound = shows.inbound; outbound = shows.outbound; interrupt = shows.interrupt; channels = shows.channels; tags = ap (λ (t : Tags). record t { status = None }) shows.tags ∙ sym c.read.ensures.taken; queue = shows.queue }))
+    (c.give.ensures (record P { tags = record P.tags { status = None } }) (record { status = shows.status; pc = shows.pc; registers = shows.registers; store = shows.store; inbound = shows.inbound; outbound = shows.outbound; interrupt = shows.interrupt; channels = shows.channels; tags = ap (λ (t : Tags). record t { status = None }) shows.tags ∙ sym c.read.ensures.taken; signals = shows.signals; events = shows.events; queue = shows.queue }))

@@ -19,5 +19,7 @@ returns-clause-made c = λ P shows.
       interrupt = shows.interrupt;
       channels = shows.channels;
       tags = shows.tags;
+      signals = shows.signals;
+      events = shows.events;
       queue = c.retire.ensures P.moves f.0 shows.queue f.1 f.2;
     })

@@ -1,8 +1,14 @@
 use Rattle.std.proofs.Common.{sym}
 use Rattle.std.specs.Prelude.{Some}
 use Rattle.cell_base.specs.declared.steps.ChannelOp.TheVariants.{Write}
-use Rattle.cell_machine.proofs.Telling.{told-on, write-22, write-23, write-26, write-28, write-30}
+use Rattle.cell_machine.proofs.Telling.{told-on, write-1, write-2, write-22, write-23, write-26, write-28, write-30}
 use Rattle.cell_machine.proofs.processor.Processor.write_tells.Goals as goal
+
+pub returns-in-1 : goal.returns-in-1
+returns-in-1 c = λ P Q registers store shows on made. rw c.in-1.is (sym (told-on c.args.spe P Q (Some (Write 1 c.args.value)) (write-1 c.args.lines _ Q c.args.value (rw c.in-1.is at made)).status))
+
+pub returns-in-2 : goal.returns-in-2
+returns-in-2 c = λ P Q registers store shows on made. rw c.in-2.is (sym (told-on c.args.spe P Q (Some (Write 2 c.args.value)) (write-2 c.args.lines _ Q c.args.value (rw c.in-2.is at made)).status))
 
 pub returns-in-21 : goal.returns-in-21
 returns-in-21 c = λ P Q registers store shows on made. rw c.in-21.is (c.command_tells.ensures c.args.spe P Q registers store shows on (rw c.in-21.is at made))

@@ -1,4 +1,3 @@
-use Rattle.std.proofs.Common.{rules, inr}
 use Rattle.cell_turn.proofs.Tells.{had_rested}
 use Rattle.cell_turn.proofs.shared.Shared.step_as.Goals as goal
 

@@ -1,0 +1,73 @@
+//! What a step of a processor does to other processors.
+
+ghost use Rattle.std.specs.Prelude.{◌≡◌, ◌<◌, ◌≤◌, List, length, map};
+ghost use Rattle.std.specs.List.{enumerate_from};
+ghost use Rattle.cell_base.specs.Bits.{has_bit};
+ghost use Rattle.cell_machine.specs.Spe.{Spe};
+ghost use Rattle.cell_machine.specs.Shows.{AllTwo, ShowsSpe, IsDelivery, informed_by, lost_by};
+
+use crate::processor::Processor;
+
+/// A value on its way to register 1 or 2 of a processor.
+#[derive(Clone, Copy)]
+pub(crate) struct Delivery {
+    pub(crate) spe: u8,
+    pub(crate) register: u8,
+    pub(crate) value: u32,
+}
+
+/// What a step sends to a signal register, and the processors whose reservation its store ends, as bits.
+#[derive(Clone, Copy)]
+pub(crate) struct Reach {
+    pub(crate) sent: Option<Delivery>,
+    pub(crate) losers: u16,
+}
+
+/// Delivers what was sent, if something was; a register of a processor that isn't there takes nothing.
+fn deliver(processors: &mut [Processor], sent: Option<Delivery>)
+    requires { IsDelivery sent }
+    ensures { (spes : List Spe) → AllTwo ShowsSpe processors.old spes → AllTwo ShowsSpe processors.new (informed_by spes sent) }
+{
+    let Some(sent) = sent else {
+        return;
+    };
+    if sent.spe as usize >= processors.len() {
+        return;
+    }
+    processors[sent.spe as usize].deliver(sent.register, sent.value);
+}
+
+/// Whether the processor is one of these.
+fn is_loser(losers: u16, spe: usize) -> bool
+    requires { spe < 16 }
+    ensures { result ≡ has_bit losers spe }
+{
+    (losers >> spe) & 1 == 1
+}
+
+/// Raises at these processors that their reservation is lost.
+pub(crate) fn lose(processors: &mut [Processor], losers: u16)
+    requires { length processors.old ≤ 16 }
+    ensures { (spes : List Spe) → AllTwo ShowsSpe processors.old spes → AllTwo ShowsSpe processors.new (map (lost_by losers) (enumerate_from 0 spes)) }
+{
+    // nearly no store ends a reservation
+    if losers == 0 {
+        return;
+    }
+    for spe in 0..processors.len() {
+        if !is_loser(losers, spe) {
+            continue;
+        }
+        processors[spe].lose();
+    }
+}
+
+/// Does to the processors what a step does beyond its own one.
+pub(crate) fn spread(processors: &mut [Processor], reach: Reach)
+    requires many { length processors.old ≤ 16 }
+    requires sent { IsDelivery reach.sent }
+    ensures { (spes : List Spe) → AllTwo ShowsSpe processors.old spes → AllTwo ShowsSpe processors.new (map (lost_by reach.losers) (enumerate_from 0 (informed_by spes reach.sent))) }
+{
+    deliver(processors, reach.sent);
+    lose(processors, reach.losers);
+}

@@ -1,0 +1,103 @@
+"""A headless browser that is launched once and asked by its own protocol, over two pipes: it opens pages, one after the other, and answers what a script finds."""
+import fcntl
+import json
+import os
+import select
+import shutil
+import signal
+import time
+
+PROGRAMS = ("chromium", "chromium-browser", "google-chrome", "chrome")
+WORDS = ("--headless=new", "--no-sandbox", "--disable-gpu", "--hide-scrollbars", "--remote-debugging-pipe")
+HEIGHT = 900
+TO_BROWSER, FROM_BROWSER = 3, 4  # the files by which it is asked and answers
+
+
+class Silent(Exception):
+    """The browser doesn't answer, as on a machine with too little room for it."""
+
+
+def program():
+    """The browser that there is; None where there is none."""
+    return next(filter(None, map(shutil.which, PROGRAMS)), None)
+
+
+def pipe():
+    """The two ends of a pipe, with numbers that are none of the browser's."""
+    ends = os.pipe()
+    high = [fcntl.fcntl(end, fcntl.F_DUPFD_CLOEXEC, FROM_BROWSER + 1) for end in ends]
+    for end in ends:
+        os.close(end)
+    return high
+
+
+class Browser:
+    """A browser with one page, which is opened anew for each look."""
+
+    def __init__(self, name, folder, seconds):
+        self.seconds, self.number, self.kept = seconds, 0, b""
+        theirs_in, self.asking = pipe()
+        self.answering, theirs_out = pipe()
+        quiet = [(os.POSIX_SPAWN_OPEN, number, os.devnull, os.O_WRONLY, 0) for number in (1, 2)]
+        files = [(os.POSIX_SPAWN_DUP2, theirs_in, TO_BROWSER), (os.POSIX_SPAWN_DUP2, theirs_out, FROM_BROWSER)]
+        words = [name, *WORDS, f"--user-data-dir={folder}", "about:blank"]
+        self.process = os.posix_spawn(name, words, os.environ, file_actions=quiet + files)
+        os.close(theirs_in)
+        os.close(theirs_out)
+        self.session = None
+
+    def end(self):
+        os.close(self.asking)
+        os.close(self.answering)
+        os.kill(self.process, signal.SIGKILL)
+        os.waitpid(self.process, 0)
+
+    def open(self, address, width):
+        """Opens a page in a window of that width."""
+        if self.session is None:
+            pages = self.call("Target.getTargets")["targetInfos"]
+            page = next(found["targetId"] for found in pages if found["type"] == "page")
+            self.session = self.call("Target.attachToTarget", targetId=page, flatten=True)["sessionId"]
+        self.call("Emulation.setDeviceMetricsOverride", width=width, height=HEIGHT, deviceScaleFactor=1, mobile=False)
+        self.call("Page.navigate", url=address)
+
+    def answer(self, script):
+        """What a script answers, at once or by a promise."""
+        answer = self.call("Runtime.evaluate", expression=script, awaitPromise=True, returnByValue=True)
+        if "exceptionDetails" in answer:
+            raise Silent(str(answer["exceptionDetails"]))
+        return answer["result"].get("value")
+
+    def call(self, method, **words):
+        """The answer to one request."""
+        self.number += 1
+        asked = {"id": self.number, "method": method, "params": words}
+        if self.session:
+            asked["sessionId"] = self.session
+        end = time.monotonic() + self.seconds
+        self.write(json.dumps(asked).encode() + b"\0")
+        while True:
+            told = json.loads(self.message(end))
+            if told.get("id") == self.number:
+                if "error" in told:
+                    raise Silent(f"{method}: {told['error']}")
+                return told["result"]
+
+    def write(self, said):
+        try:
+            while said:
+                said = said[os.write(self.asking, said):]
+        except BrokenPipeError as why:
+            raise Silent("it ended") from why
+
+    def message(self, end):
+        """What the browser says next, as long as the time isn't over."""
+        while b"\0" not in self.kept:
+            if not select.select([self.answering], [], [], max(0, end - time.monotonic()))[0]:
+                raise Silent("it doesn't answer")
+            got = os.read(self.answering, 1 << 16)
+            if not got:
+                raise Silent("it ended")
+            self.kept += got
+        message, self.kept = self.kept.split(b"\0", 1)
+        return message
