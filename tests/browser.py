@@ -54,9 +54,8 @@ class Browser:
 
     def open(self, address, width):
         """Opens a page in a window of that width."""
-        if self.session is None:
-            pages = self.call("Target.getTargets")["targetInfos"]
-            page = next(found["targetId"] for found in pages if found["type"] == "page")
+        if self.session is None:  # in the background, where nothing is painted
+            page = self.call("Target.createTarget", url="about:blank", background=True)["targetId"]
             self.session = self.call("Target.attachToTarget", targetId=page, flatten=True)["sessionId"]
         self.call("Emulation.setDeviceMetricsOverride", width=width, height=HEIGHT, deviceScaleFactor=1, mobile=False)
         self.call("Page.navigate", url=address)

@@ -62,12 +62,12 @@ function unnamed() {
 
 function told() {
   const boxes = allBoxes(), cut = boxes.filter(box => box.is_cut && !box.node.parentElement.closest('#side')).map(nameOf);
-  const is_ready = document.body.dataset.ready === 'yes', has_missing = document.getElementById('missing') !== null;
-  return { is_ready, has_missing, overlaps: overlaps(boxes), cut, crossings: crossings(boxes), unnamed: unnamed() };
+  const has_missing = document.getElementById('missing') !== null;
+  return { has_missing, overlaps: overlaps(boxes), cut, crossings: crossings(boxes), unnamed: unnamed() };
 }
-// Waits until the page is ready, as long as that may take.
+// Waits until the page is ready. A page in the background has no clock to speak of, so that its body is watched instead.
 new Promise(done => {
-  const end = Date.now() + 20000;
-  const look = () => document.body && document.body.dataset.ready === 'yes' || Date.now() > end ? done(told()) : setTimeout(look, 10);
-  look();
+  const isDone = () => document.body && document.body.dataset.ready === 'yes' && (done(told()), true);
+  const watch = new MutationObserver(() => isDone() && watch.disconnect());
+  if (!isDone()) watch.observe(document, { attributes: true, childList: true, subtree: true });
 });

@@ -25,8 +25,9 @@ function show(a, b) {
   const body = byId('body'), shift = state.printed ? a * ROW : 0, list = rows.slice(a, b);
   body.style.height = `${(state.printed ? b - a : rows.length) * ROW + 8}px`;
   body.style.width = `${width}px`;
-  const svg = (name, inner) => `<svg class="${name}" aria-hidden="true" style="top:${a * ROW}px" width="${width}" height="${(b - a) * ROW + 8}" viewBox="0 ${a * ROW} ${width} ${(b - a) * ROW + 8}">${inner}</svg>`;
-  body.innerHTML = `<div id="sheet" style="top:${-shift}px">${list.map((row, k) => backHtml(row, a + k)).join('')}${svg('under', '')}${list.map((row, k) => rowHtml(row, a + k)).join('')}${svg('over', '')}</div>`;
+  const top = a * ROW, height = (b - a) * ROW + 8, htmlOf = make => list.map((row, k) => make(row, a + k)).join('');
+  const svg = name => `<svg class="${name}" aria-hidden="true" style="top:${top}px" width="${width}" height="${height}" viewBox="0 ${top} ${width} ${height}"></svg>`;
+  body.innerHTML = `<div id="sheet" role="presentation" style="top:${-shift}px">${htmlOf(backHtml)}${svg('under')}${htmlOf(rowHtml)}${svg('over')}</div>`;
   occupyRows(body, shift);
   occupyDots(a, b);
   const [under, over] = drawing(a, b);
@@ -35,13 +36,17 @@ function show(a, b) {
   markOverview(a + 12, b - 14);
   const selected = state.selected === null ? null : rowOf(state.selected);
   if (selected !== null && selected >= a && selected < b) byId('scroll').setAttribute('aria-activedescendant', `row${selected}`);
+  else byId('scroll').removeAttribute('aria-activedescendant');
 }
 
 function heads() {
   const cells = lanes.filter(lane => lane.w).map(lane => lane.number === MEMORY_COLUMN && !lane.fold ? memoryHead(lane) : laneHead(lane));
+  const focused = document.activeElement, kept = focused.dataset.lane === undefined ? `#${focused.id}` : `[data-lane="${focused.dataset.lane}"]`;
+  const is_kept = byId('heads').contains(focused);
   byId('heads').style.width = `${width}px`;
   byId('heads').innerHTML = `<div class="head" role="columnheader" style="left:0;width:${GUTTER}px">step</div>${cells.join('')}`;
   if (byId('place')) byId('place').onchange = event => { state.memory = +event.target.value; refresh(); };
+  if (is_kept) (document.querySelector(kept) || byId('scroll')).focus({ preventScroll: true });
 }
 function laneHead(lane) {
   const files = lane.number >= HOST ? '' : [...new Set(Object.values(facts.code[lane.spe]).map(at => base(facts.sources[at][0])))].filter(Boolean).join(', ');
@@ -94,6 +99,11 @@ async function go(place) {
   centre(rowOf(place));
   await refresh(place);
 }
+// Goes to a step that was asked for by its number, so that the keys go on from there.
+async function goThere(place) {
+  await go(place);
+  byId('scroll').focus({ preventScroll: true });
+}
 function centre(row) {
   const scroll = byId('scroll');
   byId('body').style.height = `${rows.length * ROW + 8}px`;
@@ -116,7 +126,8 @@ function setOnly(is_only) {
 
 // ---- the overview
 function drawOverview() {
-  const { rows: parts, size } = facts.overview, shown = parts.map((row, lane) => [row, lane]).filter(([row]) => row.some(Boolean)), n = parts[0].length, most = Math.max(1, ...parts.flat());
+  const { rows: parts, size } = facts.overview, n = parts[0].length, most = Math.max(1, ...parts.flat());
+  const shown = parts.map((row, lane) => [row, lane]).filter(([row]) => row.some(Boolean));
   const height = shown.length * 5 + 2, shade = value => Math.ceil(4 * Math.sqrt(value / most));
   const color = lane => lane === HOST ? 'var(--mail)' : lane % 2 ? 'var(--get)' : 'var(--ink)';
   const part = (value, at, k, lane) => `<rect x="${at}" y="${k * 5 + 1}" width="1.05" height="4" fill="${color(lane)}" opacity="${.25 + .75 * shade(value) / 4}"/>`;
@@ -192,7 +203,8 @@ function toggleGroup(group, button) {
 }
 
 const KEY_ACTIONS = {
-  j: () => move(1), ArrowDown: () => move(1), k: () => move(-1), ArrowUp: () => move(-1), J: () => move(1, true), K: () => move(-1, true), r: toRace, o: toggleOnly, f: fold, c: allColumns,
+  j: () => move(1), ArrowDown: () => move(1), k: () => move(-1), ArrowUp: () => move(-1), J: () => move(1, true), K: () => move(-1, true),
+  r: toRace, o: toggleOnly, f: fold, c: allColumns,
   n: toggleNames, s: togglePanel, t: toggleTheme, g: () => byId('jump').focus(), Enter: event => openNear(event.shiftKey),
 };
 // Enter opens the gap behind the step that is chosen; with Shift, the one before it, from its end.
@@ -210,12 +222,12 @@ function onKey(event) {
 }
 function onJump(event) {
   const digits = event.target.value.replace(/[ ,.]/g, '');
-  if (event.key === 'Enter' && /^\d+$/.test(digits)) go(Math.min(facts.count - 1, +digits));
+  if (event.key === 'Enter' && /^\d+$/.test(digits)) goThere(Math.min(facts.count - 1, +digits));
   if (event.key === 'Escape') byId('scroll').focus();
 }
 function onClick(event) {
   const to = event.target.closest('[data-go]'), lane = event.target.closest('[data-lane]'), row = event.target.closest('[data-n]');
-  if (to) go(+to.dataset.go);
+  if (to) goThere(+to.dataset.go);
   else if (lane) toggleLane(+lane.dataset.lane);
   else if (row) onRow(+row.dataset.n, event.shiftKey);
 }
@@ -232,7 +244,8 @@ function afterPrint() {
 function listen() {
   const on = { 'to-race': toRace, only: toggleOnly, fold, columns: allColumns, names: toggleNames, panel: togglePanel, theme: toggleTheme };
   for (const [id, action] of Object.entries(on)) byId(id).onclick = action;
-  byId('groups').innerHTML = GROUPS.map(([group, name]) => `<button data-group="${group}" aria-pressed="true"><span class="swatch" style="background:${SHADES[group]}"></span>${name}</button>`).join('');
+  const swatch = group => `<span class="swatch" style="background:${SHADES[group]}"></span>`;
+  byId('groups').innerHTML = GROUPS.map(([group, name]) => `<button data-group="${group}" aria-pressed="true">${swatch(group)}${name}</button>`).join('');
   for (const button of document.querySelectorAll('[data-group]')) button.onclick = () => toggleGroup(button.dataset.group, button);
   byId('jump').onkeydown = onJump;
   byId('scroll').addEventListener('scroll', () => requestAnimationFrame(() => paint(false)));

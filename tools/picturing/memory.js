@@ -30,7 +30,8 @@ function onRanges(low, high, draw) {
 function memoryArt(a, b) {
   const lane = lanes[MEMORY_COLUMN];
   if (lane.fold) return '';
-  const out = ranges.flatMap(range => [range.x, range.x + range.w].map(x => `<line x1="${x}" x2="${x}" y1="${a * ROW}" y2="${b * ROW}" stroke="var(--line)" stroke-dasharray="1 3"/>`));
+  const edge = x => `<line x1="${x}" x2="${x}" y1="${a * ROW}" y2="${b * ROW}" stroke="var(--line)" stroke-dasharray="1 3"/>`;
+  const out = ranges.flatMap(range => [edge(range.x), edge(range.x + range.w)]);
   for (const [place, low, high] of story ? story.shared : []) {
     if (place === state.memory) onRanges(low, high, (x, w) => out.push(`<rect x="${x}" y="${a * ROW}" width="${w}" height="${(b - a) * ROW}" fill="var(--race)" opacity=".13"/>`));
   }
@@ -44,8 +45,10 @@ function memoryOfRow(n, out) {
   const title = (way, bytes) => `<title>step ${step.place} ${way} ${hex(bytes.low)} to ${hex(bytes.high - 1)}</title>`;
   const hollow = (way, bytes, dashes) => onRanges(bytes.low, bytes.high, (x, w) => out.push(`<rect x="${x + .75}" y="${y + 5}" width="${Math.max(1.5, w - 1.5)}" height="10" `
     + `fill="none" stroke="${color}" stroke-width="1.5"${dashes}>${title(way, bytes)}</rect>`));
+  const full = (way, bytes) => onRanges(bytes.low, bytes.high, (x, w) =>
+    out.push(`<rect x="${x}" y="${y + 4}" width="${w}" height="12" fill="${color}">${title(way, bytes)}</rect>`));
   if (isTouched(step.read)) hollow('reads', step.read, '');
-  if (isTouched(step.write)) onRanges(step.write.low, step.write.high, (x, w) => out.push(`<rect x="${x}" y="${y + 4}" width="${w}" height="12" fill="${color}">${title('writes', step.write)}</rect>`));
+  if (isTouched(step.write)) full('writes', step.write);
   if (isRacing(step.place) && isTouched(step.fetch)) hollow('fetches', step.fetch, ' stroke-dasharray="3 2"');
 }
 const isTouched = bytes => bytes && bytes.place === state.memory;

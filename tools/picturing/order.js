@@ -44,7 +44,8 @@ function pastOf(step) {
 function futureOf(step) {
   const firsts = new Map(), seen = new Set([step.place]), sets = new Map(), chain = chainOfStep(step);
   if (chain !== null) firsts.set(chain, step.place);
-  const isBehind = node => node >= 0 ? seen.has(node) || chains.has(node) && node >= (firsts.has(chains.get(node)) ? firsts.get(chains.get(node)) : Infinity) : setIsBehind(node, isBehind, sets);
+  const firstOf = node => firsts.has(chains.get(node)) ? firsts.get(chains.get(node)) : Infinity;
+  const isBehind = node => node >= 0 ? seen.has(node) || chains.has(node) && node >= firstOf(node) : setIsBehind(node, isBehind, sets);
   for (const place of flow_order) {
     if (place <= step.place || !nodesBefore(place).some(isBehind)) continue;
     if (!chains.has(place)) seen.add(place);

@@ -44,7 +44,7 @@ function flowText(step) {
   const bar = barOfStep(step), name = `#${step.command}`;
   if (step.letter === 'r') return `${name} retires`;
   if (step.letter === 'e') return `${name} element${step.fields.element ? ` ${step.fields.element[0]}${step.fields.element[2] === '1' ? ', flag' : ''}` : ': a fault'}`;
-  if (bar.kind === 'SNDSIG') return step.fields.signal ? `${name} delivers` : `${name} reaches no one`;
+  if (bar.kind === 'SNDSIG') return step.fields.signal ? `${name} to SPE ${step.fields.signal[0]} sig ${step.fields.signal[1]}` : `${name} to no one`;
   return bar.kind.endsWith('L') ? `${name} el. ${step.element} piece ${step.part}` : `${name} piece ${step.part}`;
 }
 function atomicText(step) {
@@ -69,7 +69,7 @@ const CODE_FONT = '11.5px ui-monospace, "DejaVu Sans Mono", monospace', CHIP_FON
 const CHIP_EDGES = 12, CELL_GAP = 8, RACE_MARK = 38, LINE_NUMBER = 46;
 const chip = (color, text) => `<span class="chip ${color} t">${escaped(text)}</span>`;
 const box = (left, right, inner, title = '') =>
-  `<div class="cell" style="left:${left}px;width:${Math.max(0, right - left)}px"${title ? ` title="${escaped(title)}"` : ''}>${inner}</div>`;
+  `<div class="cell" role="gridcell" style="left:${left}px;width:${Math.max(0, right - left)}px"${title ? ` title="${escaped(title)}"` : ''}>${inner}</div>`;
 const raceMark = place => !isRacing(place) ? '' : chip('race', place === story.first ? '1st' : '2nd');
 
 function stepCell(step) {
@@ -83,7 +83,8 @@ function stepCell(step) {
 // The line of the source, what it does, and the line's number: as much of it as there is room for.
 function instructionCell(step, lane, flag) {
   const [, line, text] = sourceOf(step), told = toldOf(step) || (flag ? { color: 'tag', text: '' } : null), said = told ? told.text + flag : '';
-  const room = textEnd(lane) - textOf(lane) - (isRacing(step.place) ? RACE_MARK : 0), chip_width = told ? widthOf(said, CHIP_FONT) + CHIP_EDGES : 0, code_width = widthOf(text, CODE_FONT) + CELL_GAP;
+  const room = textEnd(lane) - textOf(lane) - (isRacing(step.place) ? RACE_MARK : 0);
+  const chip_width = told ? widthOf(said, CHIP_FONT) + CHIP_EDGES : 0, code_width = widthOf(text, CODE_FONT) + CELL_GAP;
   const has_code = !told || code_width + chip_width <= room, has_line = has_code && line && code_width + chip_width + LINE_NUMBER <= room;
   return (has_code ? `<code class="t">${escaped(text)}</code>` : '') + (told ? chip(told.color, said) : '') + (has_line ? `<span class="at t">:${line}</span>` : '');
 }
@@ -97,14 +98,16 @@ function gapCells(row) {
     per.set(step.lane, (per.get(step.lane) || 0) + 1);
   }
   if (!per.size) return wideGap(size);
-  return [...per].filter(([lane]) => !lanes[lane].fold && lanes[lane].w).map(([lane, number]) => box(textOf(lanes[lane]), textEnd(lanes[lane]), `<span class="t">⋮ ${count(number)}</span>`)).join('');
+  const seen = [...per].map(([lane, number]) => [lanes[lane], number]).filter(([lane]) => !lane.fold && lane.w);
+  return seen.map(([lane, number]) => box(textOf(lane), textEnd(lane), `<span class="t">⋮ ${count(number)}</span>`)).join('');
 }
 function wideGap(size) {
   const lane = lanes.find(one => one.w > FOLDED && !one.fold) || lanes[0];
   return box(textOf(lane), textEnd(lane), `<span class="t">⋮ ${count(size)} steps</span>`);
 }
 function endCells() {
-  const found = facts.states.map(([text], spe) => [lanes[2 * spe], text === 'running' && facts.end === 'Stuck' ? 'waits here' : text, text === 'running' || text.startsWith('dma')]);
+  const told = text => text === 'running' && facts.end === 'Stuck' ? 'waits here' : text, isBad = text => text === 'running' || text.startsWith('dma');
+  const found = facts.states.map(([text], spe) => [lanes[2 * spe], told(text), isBad(text)]);
   if (hasScript() && facts.host[0] < facts.host[1]) found.push([lanes[HOST], facts.script[facts.host[0]].replace(/^host /, ''), true]);
   return found.filter(([lane]) => !lane.fold).map(([lane, text, is_bad]) => box(textOf(lane), textEnd(lane), chip(is_bad ? 'race' : 'end', text), text)).join('');
 }
@@ -113,13 +116,14 @@ function rowHtml(row, n) {
   const id = `id="row${n}" data-n="${n}" role="row" aria-rowindex="${n + 1}" style="top:${n * ROW}px;width:${width}px"`;
   if (row.is_end) return `<div class="row end" ${id}><span class="number t" role="rowheader">end</span>${endCells()}</div>`;
   if (!row.is_step) {
-    const size = count(row.b - row.a + 1), title = `${size} steps, ${count(row.a)} to ${count(row.b)}: a click opens them`;
-    return `<div class="row gap" ${id} title="${title}"><span class="number t" role="rowheader">⋯ ${size}</span>${gapCells(row)}</div>`;
+    const size = count(row.b - row.a + 1), name = `${size} steps, ${count(row.a)} to ${count(row.b)}`;
+    return `<div class="row gap" ${id} aria-label="${name}, folded" title="${name}: a click opens them"><span class="number t" role="rowheader">⋯ ${size}</span>${gapCells(row)}</div>`;
   }
   const step = stepAt(row.a);
   const racing = isRacing(row.a) ? ' race' : '';
   const label = step ? ` aria-label="${escaped(`step ${row.a}, ${stepText(step)}`)}"` : '';
-  return `<div class="row${racing}" ${id} aria-selected="${row.a === state.selected}"${label}><span class="number t" role="rowheader">${count(row.a)}</span>${step ? stepCell(step) : ''}</div>`;
+  const number = `<span class="number t" role="rowheader">${count(row.a)}</span>`;
+  return `<div class="row${racing}" ${id} aria-selected="${row.a === state.selected}"${label}>${number}${step ? stepCell(step) : ''}</div>`;
 }
 function backHtml(row, n) {
   const step = row.is_step && !row.is_end ? stepAt(row.a) : null, lane = step && lanes[step.lane];

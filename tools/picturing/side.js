@@ -9,12 +9,14 @@ function storyHtml() {
   const head = `<h2>Why steps ${goButton(story.first)} and ${goButton(story.second)} race</h2>`;
   return head + wordsHtml() + `<p class="dim">${escaped(story.behind)}</p>` + othersHtml();
 }
-const wordsHtml = () => story.words.map(([title, found], k) => `<section class="${k < 2 ? 'card' : k === 5 ? 'remedy' : ''}"><h3>${escaped(title)}</h3>${lines(found)}</section>`).join('');
+const classOf = part => part < 2 ? 'card' : part === 5 ? 'remedy' : '';
+const wordsHtml = () => story.words.map(([title, found], k) => `<section class="${classOf(k)}"><h3>${escaped(title)}</h3>${lines(found)}</section>`).join('');
 function othersHtml() {
   if (story.others === null) return '<p class="dim">Other races are not looked for in so long a record; --race I J draws two steps that you name.</p>';
   if (!story.others.length) return '';
   const found = story.others.map(([first, second, text]) => `<li>${goButton(first)} and ${goButton(second)}: ${escaped(text)}</li>`).join('');
-  return `<details><summary>Other steps that race (${story.others.length})</summary><ul>${found}</ul><p class="dim">One for each two lines of sources. --race I J draws one of them.</p></details>`;
+  const more = '<p class="dim">One for each two lines of sources. --race I J draws one of them.</p>';
+  return `<details><summary>Other steps that race (${story.others.length})</summary><ul>${found}</ul>${more}</details>`;
 }
 const waitsHtml = () => facts.waits.length ? `<h2>Why nothing goes on</h2><ul>${facts.waits.map(([, text]) => `<li>${linked(text)}</li>`).join('')}</ul>` : '';
 
@@ -23,7 +25,9 @@ function selectedHtml() {
   if (!step) return '';
   const call = facts.sources[tables.calls[step.place]], bar = step.lane % 2 && step.lane !== HOST ? barOfStep(step) : null;
   const said = [stepText(step), ...(call ? [`called from ${call[0]}:${call[1]}: ${call[2]}`] : []), ...(bar && bar.number !== null ? [commandText(bar)] : [])];
-  for (const [way, bytes] of [['reads', step.read], ['writes', step.write]]) if (bytes) said.push(`${way} ${hex(bytes.low)} to ${hex(bytes.high - 1)} of ${placeName(bytes.place)}`);
+  for (const [way, bytes] of [['reads', step.read], ['writes', step.write]]) {
+    if (bytes) said.push(`${way} ${hex(bytes.low)} to ${hex(bytes.high - 1)} of ${placeName(bytes.place)}`);
+  }
   if (step.fields.fixed) said.push('⚑ a tag status is fixed at the end of this step');
   return `<h2>Step ${count(step.place)}</h2>${said.map(text => `<p>${escaped(text)}</p>`).join('')}${directHtml(step)}${relationHtml(step)}`;
 }
@@ -41,12 +45,14 @@ function relationHtml() {
 function commandsHtml() {
   const found = bars.filter(bar => bar.number !== null);
   if (!found.length) return '';
-  return `<details><summary>Commands (${count(found.length)})</summary><label>those with <input id="filter" value="${escaped(state.filter)}" placeholder="PUT, tag 3, 0x80"></label><ul id="commands"></ul></details>`;
+  const field = `<label>those with <input id="filter" value="${escaped(state.filter)}" placeholder="PUT, tag 3, 0x80"></label>`;
+  return `<details><summary>Commands (${count(found.length)})</summary>${field}<ul id="commands"></ul></details>`;
 }
 function listCommands() {
   if (!byId('commands')) return;
-  const words = state.filter.toLowerCase(), found = bars.filter(bar => bar.number !== null && `mfc ${bar.spe} ${commandText(bar)}`.toLowerCase().includes(words));
-  byId('commands').innerHTML = found.slice(0, 100).map(bar => `<li>MFC ${bar.spe} ${escaped(commandText(bar))}: ${goButton(bar.issue)} to ${bar.end === NEVER ? '<b>never done</b>' : goButton(bar.end)}</li>`).join('')
+  const wanted = state.filter.toLowerCase(), isWanted = bar => bar.number !== null && `mfc ${bar.spe} ${commandText(bar)}`.toLowerCase().includes(wanted);
+  const found = bars.filter(isWanted), endText = bar => bar.end === NEVER ? '<b>never done</b>' : goButton(bar.end);
+  byId('commands').innerHTML = found.slice(0, 100).map(bar => `<li>MFC ${bar.spe} ${escaped(commandText(bar))}: ${goButton(bar.issue)} to ${endText(bar)}</li>`).join('')
     + (found.length > 100 ? `<li>and ${count(found.length - 100)} more</li>` : '');
 }
 
@@ -54,31 +60,44 @@ const sample = (inner, height = 16) => `<svg width="34" height="${height}" aria-
 function legendHtml() {
   const arrows = GROUPS.map(([group, name]) => [sample(`<path d="M2 8H30" stroke="${SHADES[group]}" stroke-width="1.6" marker-end="url(#m-${group})"/>`), `ordered: ${name}`]);
   const entries = [
-    [sample('<line x1="17" x2="17" y1="0" y2="16" stroke="var(--lane)" stroke-width="1.5"/><circle cx="17" cy="8" r="3.5" fill="var(--ink)"/>'), 'an instruction; the line is Program, the host’s is Script'],
-    [sample('<line x1="17" x2="17" y1="0" y2="6" stroke="var(--put)" stroke-width="2" stroke-dasharray="2 2"/><rect x="13" y="6" width="8" height="9" rx="2" fill="var(--put)"/>'), 'a command: dotted from its issue to its first step, then to its end; full a PUT, hollow a GET; a tick for each step'],
+    [sample('<line x1="17" x2="17" y1="0" y2="16" stroke="var(--lane)" stroke-width="1.5"/><circle cx="17" cy="8" r="3.5" fill="var(--ink)"/>'),
+      'an instruction; the line is Program, the host’s is Script'],
+    [sample('<line x1="17" x2="17" y1="0" y2="6" stroke="var(--put)" stroke-width="2" stroke-dasharray="2 2"/>'
+      + '<rect x="13" y="6" width="8" height="9" rx="2" fill="var(--put)"/>'),
+      'a command: dotted from its issue to its first step, then to its end; full a PUT, hollow a GET; a tick for each step'],
     [sample('<rect x="13" y="1" width="8" height="14" fill="url(#stall)" stroke="var(--get)"/>'), 'a list that is stalled'],
     [sample('<path d="M13 4l8 8m0-8l-8 8" stroke="var(--race)" stroke-width="2.4"/>'), 'a command that is never done'],
     ...arrows,
     [sample('<path d="M2 8H30" stroke="var(--race)" stroke-width="2.4" stroke-dasharray="6 4" marker-end="url(#m-race)"/>'), 'the arrow that is missing'],
-    [sample('<rect x="3" y="3" width="12" height="10" fill="none" stroke="var(--ink)" stroke-width="1.5"/><rect x="19" y="3" width="12" height="10" fill="var(--ink)"/>'), 'memory: read, written; widths aren’t to scale between ranges'],
+    [sample('<rect x="3" y="3" width="12" height="10" fill="none" stroke="var(--ink)" stroke-width="1.5"/>'
+      + '<rect x="19" y="3" width="12" height="10" fill="var(--ink)"/>'),
+      'memory: read, written; widths aren’t to scale between ranges'],
   ];
   return `<details${story ? '' : ' open'}><summary>What the marks mean</summary><div class="legend">${entries.map(([mark, text]) => `${mark}<span>${text}</span>`).join('')}</div>`
     + '<p class="dim">An arrow from a bar’s end, or to its first step, stands for all steps of the command. Arrows that follow from others aren’t drawn. '
     + 'Thick: how far the order comes towards the second step. ⚑ a tag status is fixed. Plain instructions are folded: ⋯ opens them.</p></details>';
 }
 const KEYS = [['j, k, ↓, ↑', 'the next step, the one before'], ['J, K', 'those of the same column'], ['Enter', 'opens what is folded; Shift and Enter from its end'],
-  ['r', 'to the race'], ['o', 'only the race’s steps'], ['g', 'to a step by its number'], ['f', 'fold again'], ['c', 'all columns'], ['n', 'names of rules'], ['s', 'the words beside'], ['t', 'dark or light']];
+  ['r', 'to the race'], ['o', 'only the race’s steps'], ['g', 'to a step by its number'], ['f', 'fold again'], ['c', 'all columns'], ['n', 'names of rules'],
+  ['s', 'the words beside'], ['t', 'dark or light']];
 const keysHtml = () => `<details><summary>Keys</summary><dl>${KEYS.map(([key, text]) => `<dt><kbd>${key}</kbd></dt><dd>${text}</dd>`).join('')}</dl></details>`;
 
 function side() {
   const kept = byId('side').scrollTop, open = [...byId('side').querySelectorAll('details')].map(node => node.open);
+  const is_focused = byId('side').contains(document.activeElement);
   byId('side').innerHTML = selectedFirst() + commandsHtml() + legendHtml() + keysHtml();
   [...byId('side').querySelectorAll('details')].forEach((node, k) => { if (k in open) node.open = open[k]; });
   listCommands();
   byId('side').scrollTop = kept;
+  if (is_focused) byId('side').focus({ preventScroll: true });
 }
 // A step that isn't of the race stands in front of its story.
-const selectedFirst = () => state.selected !== null && !isRacing(state.selected) ? selectedHtml() + storyHtml() + waitsHtml() : storyHtml() + waitsHtml() + selectedHtml();
+function selectedFirst() {
+  const told = storyHtml() + waitsHtml();
+  return state.selected !== null && !isRacing(state.selected) ? selectedHtml() + told : told + selectedHtml();
+}
+// What a reader's ear is told of the step that is chosen.
 function say(step) {
-  byId('said').textContent = step ? `step ${step.place}, ${stepText(step)}. ${direct(step, 4).slice(0, 3).map(([place, rule]) => `after step ${place} by ${rule}`).join(', ')}` : '';
+  const before = step ? direct(step, 4).slice(0, 3).map(([place, rule]) => `after step ${place} by ${rule}`) : [];
+  byId('said').textContent = step ? `step ${step.place}, ${stepText(step)}. ${before.join(', ')}` : '';
 }
