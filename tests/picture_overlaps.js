@@ -60,14 +60,15 @@ function unnamed() {
   return wanted.filter(node => !node.closest('[hidden]') && !hasName(node)).map(node => node.outerHTML.slice(0, 80));
 }
 
+const isReady = () => document.body !== null && document.body.dataset.ready === 'yes';
 function told() {
   const boxes = allBoxes(), cut = boxes.filter(box => box.is_cut && !box.node.parentElement.closest('#side')).map(nameOf);
-  const has_missing = document.getElementById('missing') !== null;
-  return { has_missing, overlaps: overlaps(boxes), cut, crossings: crossings(boxes), unnamed: unnamed() };
+  return { is_ready: isReady(), has_missing: document.getElementById('missing') !== null, overlaps: overlaps(boxes), cut, crossings: crossings(boxes), unnamed: unnamed() };
 }
-// Waits until the page is ready. A page in the background has no clock to speak of, so that its body is watched instead.
+// Waits until the page is ready, or for so long that it won't be. In the background a clock goes by seconds, so that the page is watched instead.
 new Promise(done => {
-  const isDone = () => document.body && document.body.dataset.ready === 'yes' && (done(told()), true);
-  const watch = new MutationObserver(() => isDone() && watch.disconnect());
-  if (!isDone()) watch.observe(document, { attributes: true, childList: true, subtree: true });
+  const end = () => { watch.disconnect(); done(told()); }, watch = new MutationObserver(() => isReady() && end());
+  watch.observe(document, { attributes: true, childList: true, subtree: true });
+  setTimeout(end, 20000);
+  if (isReady()) end();
 });
