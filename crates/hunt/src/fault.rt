@@ -1,6 +1,7 @@
 //! What the program answers.
 
 use cell_hunt::HuntError;
+use settled::PermuteError;
 use std::io;
 use thiserror::Error;
 
@@ -31,6 +32,12 @@ impl Fault {
 
 impl From<HuntError> for Fault {
     fn from(_: HuntError) -> Fault {
+        Fault::Memory
+    }
+}
+
+impl From<PermuteError> for Fault {
+    fn from(_: PermuteError) -> Fault {
         Fault::Memory
     }
 }

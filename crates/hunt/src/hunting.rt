@@ -8,6 +8,7 @@ use crate::printing::{print_hunted, print_outcome, print_run};
 use crate::progress::Progress;
 use cell_hunt::{Hunted, outcome_of, run_of_seed};
 use cell_machine::Setup;
+use settled::is_settled;
 
 /// Makes the first runs of a seed.
 fn make_runs(
@@ -42,17 +43,19 @@ pub fn hunt(rt: &HostRuntime, setup: &Setup, runs: u32, seed: u64) -> Result<boo
     Ok(hunted.racy > 0)
 }
 
-/// Makes a run, and tells how it has ended and its race. Whether there is one.
+/// Makes a run, and tells how it has ended and its race, or whether it is settled. Whether it has a race.
 fn tell_run(rt: &HostRuntime, setup: &Setup, seed: u64, run: u32) -> Result<bool, Fault>
     requires { 0 < length setup.now.entries }
 {
     let searched = run_of_seed(rt.alloc(), setup, seed, run)?;
     let outcome = outcome_of(&searched);
-    print_outcome(rt, run, outcome)?;
-    Ok(outcome.race.is_some())
+    let is_racy = outcome.race.is_some();
+    let is_settled = !is_racy && is_settled(rt.alloc(), searched.machine())?;
+    print_outcome(rt, run, outcome, is_settled)?;
+    Ok(is_racy)
 }
 
-/// Makes the first runs of a seed, and tells of each how it has ended and its race. Whether one has a race.
+/// Makes the first runs of a seed, and tells of each how it has ended and its race, or whether it is settled. Whether one has a race.
 pub fn tell_each(rt: &HostRuntime, setup: &Setup, runs: u32, seed: u64) -> Result<bool, Fault>
     requires { 0 < length setup.now.entries }
 {

@@ -1,7 +1,8 @@
 //! `hunt`: makes many runs of a machine, in orders that a seed chooses, and searches each for races.
 //!
-//! `hunt MACHINE RUNS` tells the different races of that many runs, `hunt MACHINE each RUNS` tells of each run how it ends and its race, and
-//! `hunt MACHINE record K` prints run K as `cell run` would. Each may have a seed behind it. The status is 0 where no run has a race, and 1 where one has.
+//! `hunt MACHINE RUNS` tells the different races of that many runs, `hunt MACHINE each RUNS` tells of each run how it ends and its race, or whether
+//! it is settled, and `hunt MACHINE record K` prints run K as `cell run` would. Each may have a seed behind it. The status is 0 where no run has a
+//! race, and 1 where one has.
 #![tactic(auto)]
 
 mod fault;

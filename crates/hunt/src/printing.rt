@@ -60,12 +60,18 @@ fn end_word(end: End) -> &'static str {
     }
 }
 
-/// How a run has ended, and its race.
-pub fn print_outcome(rt: &HostRuntime, run: u32, outcome: Outcome) -> io::Result<()> {
+/// How a run has ended, and its race, or whether it is settled.
+pub fn print_outcome(
+    rt: &HostRuntime,
+    run: u32,
+    outcome: Outcome,
+    is_settled: bool,
+) -> io::Result<()> {
     print!(rt; "run {run} {}", end_word(outcome.end))?;
     match outcome.race {
         Some(sites) => print_sites(rt, sites),
-        None => println!(rt;),
+        None if is_settled => println!(rt; ", settled"),
+        None => println!(rt; ", not settled"),
     }
 }
 

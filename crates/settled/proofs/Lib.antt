@@ -1,0 +1,16 @@
+pub mod Flags
+pub mod Changes
+pub mod Apart
+pub mod Entries
+pub mod Sweeps
+pub mod Takes
+pub mod Stalls
+pub mod Judges
+pub mod Here
+pub mod Walking
+pub mod Executed
+pub mod Begun
+pub mod Following
+pub mod Onlines
+pub mod Coming
+pub mod Offline
