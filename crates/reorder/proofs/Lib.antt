@@ -1,0 +1,14 @@
+pub mod Entries
+pub mod Ordered
+pub mod Rising
+pub mod Changes
+pub mod Frees
+pub mod Using
+pub mod Nths
+pub mod Stages
+pub mod Walking
+pub mod Ends
+pub mod Added
+pub mod Needing
+pub mod Zeros
+pub mod Making

@@ -1,0 +1,33 @@
+-- What each step of a run needs, step by step.
+use Rattle.std.proofs.Common.{◌≡◌, ℕ, ◌+◌, ◌<◌, ◌≤◌, List, [], ◌∷◌, ◌++◌, length, refl, sym, ap, ◌∙◌, subst, arith, ◌⊎◌, inl, inr}
+use Rattle.std.specs.Prelude.{Vec}
+use Rattle.std.specs.declared.alloc.Global.{Global}
+use Rattle.std.proofs.lemmas.Bool.{cases_lt}
+use Rattle.std.proofs.lemmas.List.{length_push}
+use Rattle.cell_machine.specs.Opening.{Opening}
+use Rattle.cell_machine.specs.Run.{Ran, IsRun}
+use Rattle.reorder.specs.Lists.{list_at}
+use Rattle.reorder.specs.Needs.{AreNeedsOf, AreNeeds}
+use Rattle.reorder.specs.Walks.{IsAt}
+use Rattle.reorder.specs.declared.walk.Walk.{Walk}
+use Rattle.reorder.proofs.Entries.{list-push, list-front}
+
+pub begun-walk : (m : Ran) (setup : Opening) (w : Walk) → setup ≡ m.setup → IsRun m.setup m.steps → IsAt w (record { setup = setup; steps = [] }) 0 → IsAt w m 0
+begun-walk m setup w same run at =
+    let begun = λ (s : Opening). let r : Ran = record { setup = s; steps = [] } in r in
+    record { run = run; stands = at.stands; made = at.made ∙ ap begun same; within = omega arith }
+
+pub needs-none : (Before : ℕ → ℕ → Type 0) → AreNeeds Before 0 []
+needs-none Before = record { all = refl; each = λ j low. absurd (omega arith) }
+
+pub needs-more : (Before : ℕ → ℕ → Type 0) (n : ℕ) (needs : List (Vec ℕ Global)) (v : Vec ℕ Global) → AreNeeds Before n needs → AreNeedsOf Before n v.items → AreNeeds Before (n + 1) (needs ++ v ∷ [])
+needs-more Before n needs v are one = record { all = length_push needs v ∙ ap (λ k. k + 1) are.all; each = λ j low. on j (cases_lt j n) low }
+  where
+    size : length needs ≡ n
+    size = are.all
+
+    on : (j : ℕ) → (j < n) ⊎ (n ≤ j) → j < n + 1 → AreNeedsOf Before j (list_at (needs ++ v ∷ []) j)
+    on j (inl below) low = subst (AreNeedsOf Before j) (sym (list-front needs v j (omega arith))) (are.each j below)
+    on j (inr above) low =
+        let e : n ≡ j = omega arith in
+        subst (λ k. AreNeedsOf Before k (list_at (needs ++ v ∷ []) k)) e (subst (AreNeedsOf Before n) (sym (list-push needs v) ∙ ap (list_at (needs ++ v ∷ [])) size) one)

@@ -1,0 +1,7 @@
+use Rattle.reorder.proofs.track.Track.gather.Given as goal
+
+abbrev pub ghost-gather_chain : goal.ghost-gather_chain
+ghost-gather_chain g a = g.here
+
+abbrev pub ghost-gather_loose : goal.ghost-gather_loose
+ghost-gather_loose g a = g.here

@@ -1,0 +1,17 @@
+use Rattle.std.proofs.Common.{ℕ, ◌<◌}
+use Rattle.std.specs.Prelude.{slice_index_or}
+use Rattle.run_frames.specs.OrderedLaws.{IsOrdered}
+use Rattle.reorder.specs.Lists.{IsIn}
+use Rattle.reorder.specs.Tracks.{CoversTrack}
+use Rattle.reorder.specs.declared.track.Track.{Track}
+use Rattle.reorder.proofs.tracks.gather.Given as goal
+
+abbrev pub ghost-gather : goal.ghost-gather
+ghost-gather g a = g.here
+
+abbrev pub invariant-loop-track : goal.invariant-loop-track
+invariant-loop-track g l =
+    record {
+      sound : (k : ℕ) → IsIn k l.needs.items → IsOrdered g.here.run k g.here.place;
+      covers : (k : ℕ) (d : Track) → k < l.track-index → CoversTrack g.here.run g.here.place (slice_index_or l.tracks k d) l.needs.items;
+    }

@@ -1,0 +1,8 @@
+use Rattle.std.proofs.Common.{◌≡◌, length}
+use Rattle.reorder.specs.Lists.{Each}
+use Rattle.reorder.specs.Walks.{Here}
+use Rattle.reorder.specs.Tracks.{IsTrack}
+use Rattle.reorder.proofs.tracks.no_tracks.Given as goal
+
+abbrev pub invariant-loop : goal.invariant-loop
+invariant-loop l = record { many : length l.tracks.items ≡ l.counter; each : (h : Here) → Each (IsTrack h.run h.place) l.tracks.items }

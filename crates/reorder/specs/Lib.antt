@@ -1,0 +1,7 @@
+pub mod Lists
+pub mod Nth
+pub mod Laws
+pub mod Needs
+pub mod Choices
+pub mod Walks
+pub mod Tracks

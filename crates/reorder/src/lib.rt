@@ -1,0 +1,20 @@
+//! The reorderings of a run, each of which has a number: where the run is settled and has no race, each of them is a run again.
+//!
+//! A step is free where every step that is ordered before it is taken. The reordering of a number takes the steps one by one, each time
+//! the free one that the number chooses.
+#![tactic(auto)]
+
+mod choosing;
+mod error;
+mod laws;
+mod needs;
+mod order;
+mod permuting;
+mod track;
+mod tracks;
+mod users;
+mod walk;
+
+pub use error::PermuteError;
+pub use laws::numbers_name_reorderings;
+pub use permuting::permute;

@@ -1,0 +1,59 @@
+//! The run of the reordering of a number.
+
+ghost use Rattle.std.specs.Prelude.{◌≡◌, ℕ, ◌<◌, IfOk, length};
+ghost use Rattle.cell_machine.specs.Limits.{IsOpening};
+ghost use Rattle.cell_machine.specs.Run.{IsRun};
+ghost use Rattle.race_check.specs.Races.{IsVerdict};
+ghost use Rattle.race_check.specs.Reorderings.{at_places};
+ghost use Rattle.race_check.specs.declared.check.Verdict.TheVariants.{Accepted};
+ghost use Rattle.run_permute.specs.Settled.{IsSettled};
+ghost use Rattle.reorder.specs.Lists.{IsIn};
+ghost use Rattle.reorder.specs.Nth.{IsReordered};
+
+use crate::choosing::order_of_number;
+use crate::error::PermuteError;
+use crate::needs::needs_of;
+use cell_base::Step;
+use cell_machine::{Machine, Setup};
+use std::alloc::Global;
+
+/// Makes the steps at the places of the order, which are a run from the setup.
+fn make(
+    alloc: Global,
+    setup: &Setup,
+    steps: &[Step],
+    order: &[u32],
+) -> Result<Machine, PermuteError>
+    requires some { 0 < length setup.now.entries }
+    requires inside { (i : ℕ) → IsIn i order.now → i < length steps.now }
+    requires run { IsRun setup.now (at_places steps.now order.now) }
+    ensures { IfOk result (λ x. x ≡ record { setup = setup.now; steps = at_places steps.now order.now }) }
+{
+    let copy = setup.copy(alloc)?;
+    let mut machine = Machine::new(alloc, copy)?;
+    for place in order {
+        let Ok(_) = machine.step(steps[*place as usize]) else {
+            unreachable!()
+        };
+    }
+    Ok(machine)
+}
+
+/// The machine whose run has the steps of this one in the order of the number, from the same setup. There is one reordering of each
+/// number; that of 0 is the order of the run itself.
+///
+/// The steps are a run again where the run is settled and has no race, and every register, store and byte of memory is then what it was.
+/// Want of memory is the only refusal.
+pub fn permute(alloc: Global, m: &Machine, number: u32) -> Result<Machine, PermuteError>
+    requires opening { IsOpening m.now.setup }
+    requires accepted { IsVerdict m.now Accepted }
+    requires settled { IsSettled m.now }
+    ensures { IfOk result (IsReordered m.now number) }
+{
+    let setup = m.setup();
+    let steps = m.steps();
+    let needs = needs_of(alloc, m)?;
+    let order = order_of_number(alloc, m, &needs, number)?;
+    let permuted = make(alloc, setup, steps, &order)?;
+    Ok(permuted)
+}

@@ -1,0 +1,89 @@
+//! The steps of all actors so far: a track for each processor, and one for the host.
+
+ghost use Rattle.std.specs.Prelude.{◌≡◌, ℕ, ◌+◌, ◌<◌, ◌≤◌, IfOk, length};
+ghost use Rattle.run_frames.specs.OrderedLaws.{IsOrdered};
+ghost use Rattle.race_order.specs.Orderly.{IsWithin};
+ghost use Rattle.reorder.specs.Needs.{AreNeedsOf};
+ghost use Rattle.reorder.specs.Walks.{Here, IsAt};
+ghost use Rattle.reorder.specs.Tracks.{AreTracks};
+
+use crate::error::PermuteError;
+use crate::track::Track;
+use crate::walk::Walk;
+use cell_base::Step;
+use std::alloc::Global;
+
+/// The number of the track to which a step goes.
+fn track_of(step: Step, spes: u8) -> usize
+    requires { IsWithin spes step }
+    ensures { result ≤ spes }
+{
+    match step {
+        Step::Exec { spe } => usize::from(spe),
+        Step::Piece { spe, .. } => usize::from(spe),
+        Step::Elem { spe, .. } => usize::from(spe),
+        Step::Retire { spe, .. } => usize::from(spe),
+        Step::Atomic { spe } => usize::from(spe),
+        Step::Host => usize::from(spes),
+    }
+}
+
+/// Whether the step may go to the chain of its track, as instructions and actions of the host do.
+fn links(step: Step) -> bool {
+    match step {
+        Step::Exec { .. } => true,
+        Step::Host => true,
+        Step::Piece { .. } => false,
+        Step::Elem { .. } => false,
+        Step::Retire { .. } => false,
+        Step::Atomic { .. } => false,
+    }
+}
+
+/// The tracks of so many processors and the host before the first step.
+pub fn no_tracks(alloc: Global, spes: u8) -> Result<Vec<Track>, PermuteError>
+    ensures long { IfOk result (λ tracks. length tracks.items ≡ spes + 1) }
+    ensures tracks { IfOk result (λ tracks. (h : Here) → AreTracks h.run 0 tracks.items) }
+{
+    let mut tracks = Vec::new(alloc);
+    for _ in 0..usize::from(spes) + 1 {
+        tracks.push(Track::new(alloc))?;
+    }
+    Ok(tracks)
+}
+
+/// What the last step of the walk needs.
+pub fn gather(alloc: Global, tracks: &[Track], walk: &Walk) -> Result<Vec<u32>, PermuteError>
+    ghost here: { Here }
+    requires at { IsAt walk.now here.run (here.place + 1) }
+    requires tracks { AreTracks here.run here.place tracks.now }
+    ensures { IfOk result (λ needs. AreNeedsOf (IsOrdered here.run) here.place needs.items) }
+{
+    let mut needs = Vec::new(alloc);
+    for track in tracks {
+        track.gather(walk, &mut needs)?;
+    }
+    Ok(needs)
+}
+
+/// Adds the last step of the walk to its track.
+pub fn add(
+    tracks: &mut [Track],
+    walk: &Walk,
+    place: u32,
+    step: Step,
+    spes: u8,
+) -> Result<(), PermuteError>
+    ghost here: { Here }
+    requires at { IsAt walk.now here.run (here.place + 1) }
+    requires place { place ≡ here.place }
+    requires within { IsWithin spes step }
+    requires long { length tracks.old ≡ spes + 1 }
+    requires tracks { AreTracks here.run here.place tracks.old }
+    ensures long { length tracks.new ≡ length tracks.old }
+    ensures tracks { IfOk result (λ _. AreTracks here.run (here.place + 1) tracks.new) }
+{
+    let own = track_of(step, spes);
+    tracks[own].add(walk, place, links(step))?;
+    Ok(())
+}
