@@ -63,7 +63,8 @@ function unnamed() {
 const isReady = () => document.body !== null && document.body.dataset.ready === 'yes';
 function told() {
   const boxes = allBoxes(), cut = boxes.filter(box => box.is_cut && !box.node.parentElement.closest('#side')).map(nameOf);
-  return { is_ready: isReady(), has_missing: document.getElementById('missing') !== null, overlaps: overlaps(boxes), cut, crossings: crossings(boxes), unnamed: unnamed() };
+  const columns = document.getElementById('heads'), is_wide = columns.offsetWidth > columns.parentElement.clientWidth;
+  return { is_ready: isReady(), is_wide, has_missing: document.getElementById('missing') !== null, overlaps: overlaps(boxes), cut, crossings: crossings(boxes), unnamed: unnamed() };
 }
 // Waits until the page is ready, or for so long that it won't be. In the background a clock goes by seconds, so that the page is watched instead.
 new Promise(done => {

@@ -3,7 +3,7 @@ const GROUP = {
   Issued: 'issue', AtomicIssued: 'atomic', NextAtomic: 'atomic', AtomicSeen: 'atomic', Line: 'atomic', Passed: 'mail', PlaceFree: 'mail', Signalled: 'mail', Finished: 'mail',
   Queue: 'queue', ElementPiece: 'queue', NextElement: 'queue', StallSeen: 'tag', Resumed: 'tag', ResumedEarlier: 'tag', TagSeen: 'tag', Program: 'lane', Script: 'lane',
 };
-const GROUPS = [['issue', 'issue'], ['tag', 'tag and stall status'], ['queue', 'fences, barriers, elements'], ['atomic', 'atomic'], ['mail', 'mailboxes, signals, host']];
+const GROUPS = [['issue', 'issue'], ['tag', 'tag and stall status'], ['queue', 'fences, elements'], ['atomic', 'atomic'], ['mail', 'mailboxes, signals, host']];
 const SHADES = {
   issue: 'var(--issue)', atomic: 'var(--atomic)', mail: 'var(--mail)', queue: 'var(--queue)', tag: 'var(--tag)', lane: 'var(--ink)', race: 'var(--race)',
 };
@@ -48,10 +48,10 @@ function arrowArt({ ends, group, pieces, is_strong, title }) {
   return `<path d="${broken(pieces)}" fill="none" stroke="${SHADES[group]}" stroke-width="${is_strong ? 2.4 : 1.3}" `
     + `opacity="${is_strong ? 1 : .75}" marker-end="url(#m-${group})">${title}</path>`;
 }
-function arrowLabel({ ends, name, group, pieces, is_strong }, bar_boxes, line_boxes) {
+function arrowLabel({ ends, name, group, pieces, is_strong }, solid, line_boxes) {
   const is_far = Math.abs(ends.y1 - ends.y2) > NAMED_WITHIN * ROW;
   if (!state.names || group === 'lane' || group === 'issue' && !is_strong || !is_strong && is_far) return '';
-  return ruleLabel(isIssue(name) ? [straightTo([ends.x2, ends.y1], [ends.x2, ends.y2])] : pieces, name, SHADES[group], bar_boxes, line_boxes);
+  return ruleLabel(isIssue(name) ? [straightTo([ends.x2, ends.y1], [ends.x2, ends.y2])] : pieces, name, SHADES[group], solid, line_boxes);
 }
 
 const strongArrows = () => story ? story.pairs : [];

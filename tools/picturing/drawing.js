@@ -53,7 +53,8 @@ function drawing(a, b) {
   const named = seen.filter(bar => bar.number !== null && bar.top >= a - 1 && isShown(bar.issue) && !lanes[2 * bar.spe + 1].fold);
   const names = named.map(bar => barLabel(bar, lanes[2 * bar.spe + 1])).join('');
   const missing = missingLine(bar_boxes), line_boxes = lineBoxes(seen, a, b, missing);
-  const over = names + (missing.length ? missingLabel(missing, bar_boxes) : '') + [...strong, ...weak].map(arrow => arrowLabel(arrow, bar_boxes, line_boxes)).join('');
+  const solid = [...bar_boxes, ...edgeBoxes()], labels = [...strong, ...weak];
+  const over = names + (missing.length ? missingLabel(missing, bar_boxes) : '') + labels.map(arrow => arrowLabel(arrow, solid, line_boxes)).join('');
   const steps = rows.slice(a, b).map((row, k) => row.is_step ? stepArt(a + k) : '').join('');
   const under = DEFINITIONS + laneLines(a * ROW, b * ROW) + seen.map(barArt).join('') + steps + [...weak, ...strong].map(arrowArt).join('') + missingArt(missing) + memoryArt(a, b);
   return [under, over];

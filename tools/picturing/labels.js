@@ -40,7 +40,12 @@ function placeFor(points, w, h, boxes = []) {
   return null;
 }
 
-// What words shouldn't cover: bars not at all, and lines where there is room elsewhere.
+// What words shouldn't cover: bars and the edges of the row that is chosen not at all, and lines where there is room elsewhere.
+function edgeBoxes() {
+  if (state.selected === null) return [];
+  const top = rowOf(state.selected) * ROW;
+  return [top, top + ROW].map(y => ({ x: 0, y: y - 2, w: width, h: 4 }));
+}
 function barBoxes(seen) {
   return seen.filter(bar => bar.first !== NEVER).map(bar => {
     const top = rowOf(bar.first) * ROW, bottom = (bar.end === NEVER ? rowOf(bar.last) : bar.bottom) * ROW + ROW;
@@ -63,20 +68,21 @@ function pointsOn(at, beside) {
 }
 
 // The name of a rule at its arrow, where there is room.
-function ruleLabel(pieces, text, color, bar_boxes, line_boxes) {
+function ruleLabel(pieces, text, color, solid, line_boxes) {
   const w = widthOf(text, LABEL_FONT), [low, high] = [0, 1].map(part => pointAlong(pieces, part)[0]).sort((one, other) => one - other);
   const near = pointsOn(part => pointAlong(pieces, part), [w / 2 + 4, -w / 2 - 4, w / 2 + 18]);
   if (high - low < SHORT_ARROW) near.push(...pointsOn(part => pointAlong(pieces, part), []).flatMap(([, y]) => [[high + w / 2 + 12, y], [low - w / 2 - 12, y]]));
-  const place = placeFor(near, w + 2, 12, [...bar_boxes, ...line_boxes]) || placeFor(near, w + 2, 12, bar_boxes);
+  const place = placeFor(near, w + 2, 12, [...solid, ...line_boxes]) || placeFor(near, w + 2, 12, solid);
   return place ? `<text class="halo" x="${place[0]}" y="${place[1] + 3.5}" text-anchor="middle" fill="${color}">${text}</text>` : '';
 }
 
-// The words at the arrow that is missing: on it, beside it, above or below it, where that is free.
+// The words at the arrow that is missing: on it, where it is long, or beside it, above or below it, where that is free.
 function missingLabel(pieces, bar_boxes) {
   const text = 'no rule orders them', w = widthOf(text, STRONG_FONT) + 16, longest = pieces.reduce((one, other) => lengthOf(other) > lengthOf(one) ? other : one);
   const near = [0, 10, -10, 20, -20, 30, -30, 40, -40, 60, -60, 80, -80, 120, -120]
     .flatMap(by => pointsOn(part => pointAlong(pieces, part), [w / 2 + 12, -w / 2 - 12, w, -w]).map(([x, y]) => [x, y + by]));
-  near.unshift(...[.5, .4, .6, .3, .7].map(part => pointOf(longest, part)));
+  if (lengthOf(longest) > 1.5 * w) near.unshift(...[.5, .4, .6, .3, .7].map(part => pointOf(longest, part)));
+  else near.unshift(...near.filter(([x, y]) => !pieces.some(piece => boxesNear(piece, [{ x: x - w / 2 - 4, y: y - 9, w: w + 8, h: 18 }]).length)));
   const place = placeFor(near, w, 18, bar_boxes) || placeFor(near, w, 18);
   if (!place) return '';
   const [x, y] = place;

@@ -1,7 +1,7 @@
 // ---- the columns, and which rows there are
 const ROW = 20, GUTTER = 64, HEAD = 42, FOLDED = 24, SLOT = 13;
 const MEMORY_COLUMN = HOST + 1;
-const NARROW_PROGRAM = 124, NARROW_FLOW = 118; // the least widths of text
+const NARROW_PROGRAM = 124, NARROW_FLOW = 118, NARROW_MEMORY = 88; // the least widths of text
 const OPENED_AT_ONCE = 200, OPENED_AROUND = 30;
 const state = { folded: new Set(), off: new Set(), opened: new Set(), selected: null, memory: MEMORY, names: true, only: false, printed: null, filter: '' };
 let lanes = [], width = 0, to_bars = 42, rows = [], row_starts = [];
@@ -43,9 +43,11 @@ const barsWidth = spe => slots(spe) * SLOT + to_bars;
 function layout() {
   const open = [...Array(HOST).keys()].filter(lane => !isFolded(lane)), programs = open.filter(lane => lane % 2 === 0).length, flows = open.length - programs;
   to_bars = programs > 4 ? 24 : 42;
-  const host = !hasScript() ? 0 : isFolded(HOST) ? FOLDED : 116, memory = isFolded(MEMORY_COLUMN) ? FOLDED : facts.spes > 1 ? 120 : 200;
-  const fixed = GUTTER + host + memory + FOLDED * (HOST - open.length) + open.filter(lane => lane % 2).reduce((sum, lane) => sum + barsWidth(lane >> 1), 0);
+  const host = !hasScript() ? 0 : isFolded(HOST) ? FOLDED : 116, wide_memory = isFolded(MEMORY_COLUMN) ? FOLDED : facts.spes > 1 ? 120 : 200;
+  const others = GUTTER + host + FOLDED * (HOST - open.length) + open.filter(lane => lane % 2).reduce((sum, lane) => sum + barsWidth(lane >> 1), 0);
   const whole = state.printed ? 1370 : byId('scroll').clientWidth - 4;
+  const room = whole - others - programs * NARROW_PROGRAM - flows * NARROW_FLOW;
+  const memory = Math.min(wide_memory, Math.max(NARROW_MEMORY, room)), fixed = others + memory;
   const share = Math.max(0, whole - fixed) / Math.max(1, programs * 2.2 + flows);
   const flow = Math.min(210, Math.max(NARROW_FLOW, share)), program = (whole - fixed - flows * flow) / Math.max(1, programs);
   place_lanes({ program: Math.min(400, Math.max(NARROW_PROGRAM, program)), flow, host, memory });
