@@ -3,11 +3,11 @@ const tagsOf = groups => '{' + [...Array(32).keys()].filter(tag => groups >>> ta
 const BOXES = { in: 'inbox', out: 'outbox', intr: 'intr. box' };
 const ATOMICS = { getllar: 'GETLLAR', putllc: 'PUTLLC', putlluc: 'PUTLLUC' };
 const COUNTED = {
-  0: 'the events', 3: 'signal register 1', 4: 'signal register 2', 21: 'the queue', 22: 'the mask', 23: 'the request', 24: 'the tag status', 25: 'the stall status',
-  27: 'the atomic status', 28: 'the outbox', 29: 'the inbox', 30: 'the interrupt box',
+  0: 'the events', 3: 'signal 1', 4: 'signal 2', 21: 'the queue', 22: 'the mask', 23: 'the request', 24: 'the tags', 25: 'the stalls', 27: 'the atomic',
+  28: 'the outbox', 29: 'the inbox', 30: 'intr. box',
 };
 const EVENTS = [
-  [0x400, 'lost line'], [0x200, 'signal 1'], [0x100, 'signal 2'], [0x80, 'outbox'], [0x40, 'intr. box'], [0x10, 'inbox'], [8, 'queue'], [2, 'stall'], [1, 'tag status'],
+  [0x400, 'lost line'], [0x200, 'signal 1'], [0x100, 'signal 2'], [0x80, 'outbox'], [0x40, 'intr. box'], [0x10, 'inbox'], [8, 'queue'], [2, 'stall'], [1, 'tags'],
 ];
 // A set of events by their names; in the short form, more than one of them as a number.
 function eventsOf(bits, is_long) {
