@@ -8,6 +8,8 @@ from debugger_run import actor_of
 from debugger_stops import Behind, Break, ChannelBreak, Watch, first_stop
 from debugger_words import ENDS, Words, counted, dump, quad
 from effects import Span
+from picturing.page import page_of
+from picturing.run import Run as Picture
 from sites import sets_link
 
 CHUNKS = (1000, 10_000, 100_000)  # steps that are made at a time, the last from there on
@@ -353,8 +355,17 @@ class Debugger:
         text = self.run.record()
         if not words:
             return text.splitlines()
-        write_record(words[0], text)
+        write_file(words[0], text, "cell-record ", "record")
         return [f"{counted(self.run.place, 'step')} written to {words[0]}: `cell check {self.run.machine} {words[0]}` reads them"]
+
+    def do_picture(self, words):
+        if len(words) != 1:
+            raise Wrong("type `picture` and the name of a file for the page, as here.html")
+        record = self.run.folder / "pictured"
+        record.write_text(self.run.record())
+        page = page_of(Picture(self.run.machine, record, name=f"{counted(self.run.place, 'step')} of a session"))
+        write_file(words[0], "".join(page), "<!doctype html>", "page")
+        return [f"a page of {counted(self.run.place, 'step')} written to {words[0]}, for a browser"]
 
     # ---- ranges
 
@@ -443,15 +454,16 @@ def processor_of_step(step):
     return actor_of(step)[1] if step else None
 
 
-def write_record(name, text):
-    """Writes a record to a file, which isn't there or holds a record."""
+def write_file(name, text, head, kind):
+    """Writes a text that begins so to a file, which isn't there, is empty, or holds another such text."""
     path = pathlib.Path(name)
     try:
-        if path.exists() and path.stat().st_size and not path.read_bytes().startswith(b"cell-record "):
-            raise Wrong(f"{name} is there and holds no record, so nothing is written: type another name")
+        if path.exists() and path.stat().st_size and not path.read_bytes().startswith(head.encode()):
+            raise Wrong(f"{name} is there and holds no {kind}, so nothing is written: type another name")
         path.write_text(text)
     except (OSError, ValueError) as why:
         raise Wrong(f"{name}: {getattr(why, 'strerror', why)}: type another name") from None
+
 
 
 def has_size(words):

@@ -40,6 +40,7 @@ COMMANDS = {
         > marks the line of the PC, and * a break. Where no source placed the instruction it prints what `dis` does."""),
     "dis": ("dis [PLACE [N]]", "prints N words of the store, or 8, as instructions", ""),
     "record": ("record [FILE]", "prints the steps made so far as a record, or writes them to a file, for `cell check`", ""),
+    "picture": ("picture FILE", "draws the steps made so far as a page for a browser, as tools/picture does", ""),
     "help": ("help [COMMAND]", "tells the commands, or more of one", ""),
     "quit": ("quit", "ends the session, as the end of input does", ""),
 }
