@@ -17,7 +17,7 @@ use Rattle.cell_cli.specs.Checks.{RecordsRun}
 use Rattle.cell_cli.specs.Course.{Given, nothing, too_long, whole, within, given, WithGiven, if_whole, Settles, Reads}
 use Rattle.cell_cli.specs.Forms.{record_limit, run_task, check_task}
 use Rattle.cell_cli.specs.Runs.{ran, PrintsRun}
-use Rattle.cell_cli.specs.Words.{Spoken, run, check, asm, gen, debug, no_form, task_of}
+use Rattle.cell_cli.specs.Words.{Spoken, run, check, asm, gen, debug, permute, no_form, task_of}
 use Rattle.cell_cli.specs.Answer.{Sinks, Ended, Ends, Answers}
 use Rattle.cell_cli.specs.Output.{Took}
 use Rattle.cell_cli.specs.ReadBack.{IsKeptIn, IsReadBack, ReadsBack}
@@ -53,7 +53,7 @@ module _ (files later : List File) where
   same-settled : (task : Task) (result : Result Work Fault) → AreSame task → Settles files task result → Settles later task result
   same-settled (refuse fault) result same s = s
   same-settled (ready work) result same s = s
-  same-settled (judge setup text) result same s = s
+  same-settled (judge setup text work) result same s = s
   same-settled (read file name limit next) result same s =
       let now : given later name limit ≡ given files name limit = ap (within limit) (same file name (inl (refl, refl))) in
       subst (λ g. WithGiven file g result (λ bytes. Settles later (next bytes) result)) (sym now)
@@ -73,10 +73,10 @@ kept-read : (files later : List File) (machine record_file text : List ℕ) (set
     → IsKeptIn files later (run_task machine) record_file text → Settles later (check_task machine record_file) (Ok (verdict_of (ran p.run)))
 kept-read files later machine record_file text setup is p k =
     let verdict : Result Work Fault = Ok (verdict_of (ran p.run)) in
-    let next : Opening → Task = λ S. read Rec record_file record_limit (λ t. judge S t) in
+    let next : Opening → Task = λ S. read Rec record_file record_limit (λ t. judge S t verdict_of) in
     let on = machine-on later (run_of setup) (λ S. ready (run_of S)) next machine (same-settled files later (run_task machine) (Ok (run_of setup)) k.same is) in
-    let here : Settles later (judge setup text) verdict = (Ok (ran p.run), (refl, run-records setup text p), refl) in
-    let own : Settles later (next setup) verdict = subst (λ g. WithGiven Rec g verdict (λ t. Settles later (judge setup t) verdict)) (sym (given-whole later record_file text record_limit k.kept p.short)) here in
+    let here : Settles later (judge setup text verdict_of) verdict = (Ok (ran p.run), (refl, run-records setup text p), refl) in
+    let own : Settles later (next setup) verdict = subst (λ g. WithGiven Rec g verdict (λ t. Settles later (judge setup t verdict_of) verdict)) (sym (given-whole later record_file text record_limit k.kept p.short)) here in
     on.2 verdict (subst (λ S. Settles later (next S) verdict) (same-run setup on.0 on.1) own)
 
 reads-back : (files : List File) (machine text : List ℕ) (setup : Opening) → Settles files (run_task machine) (Ok (run_of setup)) → PrintsRun setup text → IsReadBack files machine text
@@ -102,4 +102,5 @@ read_back files (check machine record_file) old new before after status a = tt
 read_back files (asm source) old new before after status a = tt
 read_back files (gen n) old new before after status a = tt
 read_back files (debug machine script) old new before after status a = tt
+read_back files (permute machine record_file n) old new before after status a = tt
 read_back files no_form old new before after status a = tt

@@ -21,10 +21,10 @@ use Rattle.cell_cli.specs.declared.fault.Fault.TheVariants.{ReadFault, TooLong, 
 use Rattle.cell_cli.specs.declared.fault.FileId.{FileId}
 use Rattle.cell_cli.specs.declared.fault.FileId.TheVariants.{Machine, Source, Rec, Script}
 use Rattle.cell_cli.specs.Checks.{Finds}
-use Rattle.cell_cli.specs.Task.{Task, Work, refuse, ready, judge, read, run_of, text_of, gen_of}
-use Rattle.cell_cli.specs.Course.{Given, nothing, too_long, whole, given, by_verdict, WithGiven, Settles, SettlesOne}
-use Rattle.cell_cli.specs.Forms.{text_limit, record_limit, with_image, source_task, sources_task, with_setup, with_plan, machine_task, by_script}
-use Rattle.cell_cli.specs.Words.{Spoken, run, check, asm, gen, debug, no_form, task_of}
+use Rattle.cell_cli.specs.Task.{Task, Work, refuse, ready, judge, read, run_of, text_of, verdict_of, gen_of, reordering_of}
+use Rattle.cell_cli.specs.Course.{Given, nothing, too_long, whole, given, by_run, WithGiven, Settles, SettlesOne}
+use Rattle.cell_cli.specs.Forms.{text_limit, record_limit, with_image, source_task, sources_task, with_setup, with_plan, machine_task, recorded_task, by_script}
+use Rattle.cell_cli.specs.Words.{Spoken, run, check, asm, gen, debug, permute, no_form, task_of}
 use Rattle.cell_cli.proofs.Checked.{checked, is_checked, finds}
 
 module _ (files : List File) where
@@ -39,7 +39,7 @@ module _ (files : List File) where
   pub settled_once : (task : Task) (one other : Result Work Fault) → Settles files task one → Settles files task other → one ≡ other
   settled_once (refuse fault) one other a b = a ∙ sym b
   settled_once (ready work) one other a b = a ∙ sym b
-  settled_once (judge setup text) one other a b = a.2 ∙ ap by_verdict (is_checked setup text a.0 a.1 ∙ sym (is_checked setup text b.0 b.1)) ∙ sym b.2
+  settled_once (judge setup text work) one other a b = a.2 ∙ ap (by_run work) (is_checked setup text a.0 a.1 ∙ sym (is_checked setup text b.0 b.1)) ∙ sym b.2
   settled_once (read file name limit next) one other a b = given-once file (given files name limit) next one other (λ bytes. settled_once (next bytes) one other) a b
 
   -- ---- something
@@ -53,7 +53,7 @@ module _ (files : List File) where
   settled : (task : Task) → (result : Result Work Fault) × Settles files task result
   settled (refuse fault) = (Err fault, refl)
   settled (ready work) = (Ok work, refl)
-  settled (judge setup text) = (by_verdict (checked setup text), (checked setup text, finds setup text, refl))
+  settled (judge setup text work) = (by_run work (checked setup text), (checked setup text, finds setup text, refl))
   settled (read file name limit next) = given-some file (given files name limit) next (λ bytes. settled (next bytes))
 
   -- ---- no want of memory
@@ -61,13 +61,13 @@ module _ (files : List File) where
   abbrev NeverMemory : Task → Type 0
   NeverMemory task = (result : Result Work Fault) → Settles files task result → result ≢ Err Memory
 
-  found-memory : (setup : Opening) (text : List ℕ) (found : Result Ran Fault) → Finds setup text found → by_verdict found ≢ Err Memory
-  found-memory setup text (Ok m) f e = cc
-  found-memory setup text (Err Memory) f e = f
-  found-memory setup text (Err fault) f e = cc
+  found-memory : (setup : Opening) (text : List ℕ) (work : Ran → Work) (found : Result Ran Fault) → Finds setup text found → by_run work found ≢ Err Memory
+  found-memory setup text work (Ok m) f e = cc
+  found-memory setup text work (Err Memory) f e = f
+  found-memory setup text work (Err fault) f e = cc
 
-  judge-memory : (setup : Opening) (text : List ℕ) → NeverMemory (judge setup text)
-  judge-memory setup text result is e = found-memory setup text is.0 is.1 (sym is.2 ∙ e)
+  judge-memory : (setup : Opening) (text : List ℕ) (work : Ran → Work) → NeverMemory (judge setup text work)
+  judge-memory setup text work result is e = found-memory setup text work is.0 is.1 (sym is.2 ∙ e)
 
   ready-memory : (work : Work) → NeverMemory (ready work)
   ready-memory work result is e = let both : ◌≡◌ {A = Result Work Fault} (Ok work) (Err Memory) = sym is ∙ e in cc
@@ -107,6 +107,11 @@ module _ (files : List File) where
   machine-memory : (name : List ℕ) (next : Opening → Task) → ((setup : Opening) → NeverMemory (next setup)) → NeverMemory (machine_task name next)
   machine-memory name next h = read-memory Machine name text_limit (λ text. with_plan (machine_at text) next) (λ text. plan-memory (machine_at text) next h)
 
+  recorded-memory : (machine record_file : List ℕ) (work : Ran → Work) → NeverMemory (recorded_task machine record_file work)
+  recorded-memory machine record_file work =
+      machine-memory machine (λ setup. read Rec record_file record_limit (λ text. judge setup text work))
+      (λ setup. read-memory Rec record_file record_limit (λ text. judge setup text work) (λ text. judge-memory setup text work))
+
   number-memory : (n : ℕ) (b : Bool) → NeverMemory (cond b (refuse (TooLarge n)) (ready (gen_of n)))
   number-memory n true = refuse-memory _ (λ e. cc)
   number-memory n false = ready-memory (gen_of n)
@@ -117,8 +122,8 @@ module _ (files : List File) where
 
   words-memory : (words : Spoken) → NeverMemory (task_of words)
   words-memory (run machine) = machine-memory machine (λ setup. ready (run_of setup)) (λ setup. ready-memory (run_of setup))
-  words-memory (check machine record_file) =
-      machine-memory machine (λ setup. read Rec record_file record_limit (λ text. judge setup text)) (λ setup. read-memory Rec record_file record_limit (λ text. judge setup text) (λ text. judge-memory setup text))
+  words-memory (check machine record_file) = recorded-memory machine record_file verdict_of
+  words-memory (permute machine record_file n) = recorded-memory machine record_file (λ m. reordering_of m n)
   words-memory (asm source) = source-memory 0 source (λ image. ready (text_of (image_lines image))) (λ image. ready-memory (text_of (image_lines image)))
   words-memory (gen n) = number-memory n (nat_lt 64 n)
   words-memory (debug machine script) =

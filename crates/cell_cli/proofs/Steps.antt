@@ -1,6 +1,6 @@
 -- How a task is followed, step by step.
 use Rattle.std.proofs.Common.{◌≡◌, ℕ, ◌+◌, List, [], ◌∷◌, ◌++◌, drop, Result, Ok, Err, refl, sym, ap, subst, inr}
-use Rattle.std.specs.Prelude.{IfOk, IfErr, OnErr}
+use Rattle.std.specs.Prelude.{◌≢◌, IfOk, IfErr, OnErr}
 use Rattle.cell_io.specs.Files.{File}
 use Rattle.cell_io.specs.Store.{Ledger, FailedAt}
 use Rattle.spu_asm.specs.Images.{Image}
@@ -9,6 +9,7 @@ use Rattle.spu_asm.specs.Outcomes.{Gives}
 use Rattle.spu_asm.specs.declared.error.AsmError.{AsmError}
 use Rattle.spu_asm.specs.declared.error.AsmError.TheVariants.{At, Memory as AsmMemory}
 use Rattle.cell_load.specs.Sources.{Named, sources_of}
+use Rattle.cell_machine.specs.Limits.{IsOpening}
 use Rattle.cell_machine.specs.Opening.{Opening}
 use Rattle.cell_machine.specs.Run.{Ran}
 use Rattle.cell_load.specs.Entries.{Entry}
@@ -25,17 +26,17 @@ use Rattle.cell_debug.specs.declared.error.ScriptError.TheVariants as script_err
 use Rattle.cell_debug.specs.Scripts.{ScriptGives}
 use Rattle.cell_debug.specs.Debug.{printed}
 use Rattle.cell_cli.specs.declared.fault.Fault.{Fault}
-use Rattle.cell_cli.specs.declared.fault.Fault.TheVariants.{ReadFault, WriteFault, TooLong, Machine, Source, NotInTable, Script, Memory}
+use Rattle.cell_cli.specs.declared.fault.Fault.TheVariants.{Usage, ReadFault, WriteFault, TooLong, Machine, Source, NotInTable, Script, NotSettled, Memory}
 use Rattle.cell_cli.specs.declared.fault.FileId.{FileId}
 use Rattle.cell_cli.specs.declared.fault.FileId.TheVariants as file_id
-use Rattle.cell_cli.specs.Causes.{plan_fault_of, source_fault_of, load_fault_of, script_fault_of}
+use Rattle.cell_cli.specs.Causes.{plan_fault_of, source_fault_of, load_fault_of, script_fault_of, IsOfInput}
 use Rattle.cell_cli.specs.declared.fault.Status.{Status}
 use Rattle.cell_cli.specs.declared.fault.Status.TheVariants.{Done, Race, Refused}
-use Rattle.cell_cli.specs.Task.{Task, Work, judge, read, ready, text_of, verdict_of}
+use Rattle.cell_cli.specs.Task.{Task, Work, judge, read, ready, text_of}
 use Rattle.cell_cli.specs.Checks.{Finds, RefusesOrMemory}
 use Rattle.cell_cli.specs.Course.{whole, too_long, given, WithGiven, if_whole, Settles, Reads}
 use Rattle.cell_cli.specs.Forms.{with_image, with_plan, with_setup, source_task, sources_task, by_script}
-use Rattle.cell_cli.specs.Answer.{Leads, RefusesIn, Comes, FailsBy, AtFile, AtMachine, AtMachineOrRecord, AtMachineOrScript, Sinks, Ends, Answers}
+use Rattle.cell_cli.specs.Answer.{Leads, RefusesIn, Comes, FailsBy, AtFile, AtMachine, AtMachineOrRecord, AtMachineOrScript, Sinks, Ends, Answers, IsQuiet, ReadFails}
 
 pub leads_here : (files : List File) (task rest : Task) → task ≡ rest → Leads files task rest
 leads_here files task rest same = record {
@@ -63,6 +64,7 @@ refuses_long files file name limit next is = subst (λ g. WithGiven file g (Err 
 pub refuses_after : (files : List File) (task rest : Task) (old new : Ledger) (fault : Fault) → Leads files task rest → RefusesIn files rest old new fault → RefusesIn files task old new fault
 refuses_after files task rest old new Memory l r = tt
 refuses_after files task rest old new (ReadFault file) l r = (r.0, l.reads file r.0 r.1, r.2)
+refuses_after files task rest old new NotSettled l r = (r.0, l.settles (Ok r.0) r.1, r.2)
 refuses_after files task rest old new fault l r = l.settles (Err fault) r
 
 pub comes_after : {V : Type 0} (files : List File) (task rest : Task) (next : V → Task) (old new : Ledger) (result : Result V Fault) → Leads files task rest → Comes files rest next old new result → Comes files task next old new result
@@ -133,22 +135,28 @@ pub check_fails : (cause : FileId → Ledger → Ledger → Type 0) (old new : L
 check_fails cause old new setup text (Ok m) refused = tt
 check_fails cause old new setup text (Err fault) refused = fails-none cause old new setup text fault refused
 
+-- what it finds has the setup that was read
+pub check_opens : (setup : Opening) (text : List ℕ) (result : Result Ran Fault) → IsOpening setup → IfOk result (λ m. Finds setup text (Ok m)) → IfOk result (λ m. IsOpening m.setup)
+check_opens setup text (Ok m) opens found = subst IsOpening (sym found.0) opens
+check_opens setup text (Err fault) opens found = found
+
 -- what a check finds is what its task leads to
-leads-judge : (files : List File) (setup : Opening) (text : List ℕ) (m : Ran) → Finds setup text (Ok m) → Leads files (judge setup text) (ready (verdict_of m))
-leads-judge files setup text m finds = record {
+leads-judge : (files : List File) (setup : Opening) (text : List ℕ) (work : Ran → Work) (m : Ran) → Finds setup text (Ok m) → Leads files (judge setup text work) (ready (work m))
+leads-judge files setup text work m finds = record {
   settles = λ result is. (Ok m, finds, is);
   reads = λ file name r. r;
 }
 
-refuses-judge : (files : List File) (setup : Opening) (text : List ℕ) (old new : Ledger) (fault : Fault) → RefusesOrMemory setup text fault → RefusesIn files (judge setup text) old new fault
-refuses-judge files setup text old new Memory is = tt
-refuses-judge files setup text old new (ReadFault file) is = absurd is
-refuses-judge files setup text old new fault is = (Err fault, is, refl)
+refuses-judge : (files : List File) (setup : Opening) (text : List ℕ) (work : Ran → Work) (old new : Ledger) (fault : Fault) → RefusesOrMemory setup text fault → RefusesIn files (judge setup text work) old new fault
+refuses-judge files setup text work old new Memory is = tt
+refuses-judge files setup text work old new (ReadFault file) is = absurd is
+refuses-judge files setup text work old new NotSettled is = absurd is
+refuses-judge files setup text work old new fault is = (Err fault, is, refl)
 
-pub check_comes : (files : List File) (task : Task) (setup : Opening) (text : List ℕ) (old new : Ledger) (result : Result Ran Fault) → Leads files task (judge setup text) → IfOk result (λ m. Finds setup text (Ok m)) → IfErr result (RefusesOrMemory setup text)
-    → Comes files task (λ m. ready (verdict_of m)) old new result
-check_comes files task setup text old new (Ok m) l run refused = leads_on l (leads-judge files setup text m run)
-check_comes files task setup text old new (Err fault) l run refused = refuses_after files task (judge setup text) old new fault l (refuses-judge files setup text old new fault refused)
+pub check_comes : (files : List File) (task : Task) (setup : Opening) (text : List ℕ) (work : Ran → Work) (old new : Ledger) (result : Result Ran Fault) → Leads files task (judge setup text work) → IfOk result (λ m. Finds setup text (Ok m)) → IfErr result (RefusesOrMemory setup text)
+    → Comes files task (λ m. ready (work m)) old new result
+check_comes files task setup text work old new (Ok m) l run refused = leads_on l (leads-judge files setup text work m run)
+check_comes files task setup text work old new (Err fault) l run refused = refuses_after files task (judge setup text work) old new fault l (refuses-judge files setup text work old new fault refused)
 
 -- ---- a script
 
@@ -182,7 +190,12 @@ pub script_fails : {V : Type 0} (cause : FileId → Ledger → Ledger → Type 0
 script_fails cause old new (Ok v) short = tt
 script_fails cause old new (Err fault) short = let same : fault ≡ Memory = cc in subst (λ f. FailsBy {V = ℕ} cause old new (Err f)) (sym same) tt
 
--- ---- how work ends
+-- ---- how a task ends
+
+-- it was refused before any work
+pub answer_refused : (files : List File) (task : Task) (old new : Ledger) (before after : Sinks) (fault : Fault) → IsOfInput fault → RefusesIn files task old new fault → Answers files task old new before after (Refused fault)
+answer_refused files task old new before after WriteFault input is = absurd input
+answer_refused files task old new before after fault input is = is
 
 -- the task comes to this work, which ended so
 pub answer_ended : (files : List File) (task : Task) (work : Work) (old new : Ledger) (before after : Sinks) (status : Status) → Settles files task (Ok work) → Ends work before after status → Answers files task old new before after status
@@ -190,7 +203,24 @@ answer_ended files task work old new before after Done is e = (work, is, e)
 answer_ended files task work old new before after (Race i j) is e = (work, is, e)
 answer_ended files task work old new before after (Refused WriteFault) is e = (work, is, e)
 answer_ended files task work old new before after (Refused Memory) is e = tt
+answer_ended files task work old new before after (Refused NotSettled) is e = (work, is, e.0)
 answer_ended files task work old new before after (Refused fault) is e = absurd e
 
 pub answer_after : (files : List File) (task : Task) (work : Work) (old new : Ledger) (before after : Sinks) (status : Status) → Leads files task (ready work) → Ends work before after status → Answers files task old new before after status
 answer_after files task work old new before after status l e = answer_ended files task work old new before after status (l.settles (Ok work) refl) e
+
+-- work that ended writes nothing where it refuses, fails to read nothing, and isn't refused for its words
+pub ended_quiet : (work : Work) (before after : Sinks) (status : Status) → Ends work before after status → IsQuiet before after status
+ended_quiet work before after Done e = tt
+ended_quiet work before after (Race i j) e = tt
+ended_quiet work before after (Refused WriteFault) e = e.0
+ended_quiet work before after (Refused Memory) e = e
+ended_quiet work before after (Refused NotSettled) e = e.1
+ended_quiet work before after (Refused fault) e = absurd e
+
+pub ended_reads : (cause : FileId → Ledger → Ledger → Type 0) (old new : Ledger) (work : Work) (before after : Sinks) (status : Status) → Ends work before after status → ReadFails cause old new status
+ended_reads cause old new work before after (Refused (ReadFault file)) e = absurd e
+ended_reads cause old new work before after status e = tt
+
+pub ended_usage : (work : Work) (before after : Sinks) (status : Status) → Ends work before after status → status ≢ Refused Usage
+ended_usage work before after status e is = subst (Ends work before after) is e

@@ -3,25 +3,34 @@ use Rattle.std.specs.Prelude.{ℕ, ◌≡◌, List, Option, Result, Ok, Err}
 use Rattle.cell_io.specs.Files.{File}
 use Rattle.cell_io.specs.Store.{Rose, Ledger, FailedAt}
 use Rattle.cell_cli.specs.declared.fault.Fault.{Fault}
-use Rattle.cell_cli.specs.declared.fault.Fault.TheVariants.{ReadFault, WriteFault, Memory}
+use Rattle.cell_cli.specs.declared.fault.Fault.TheVariants.{ReadFault, WriteFault, NotSettled, Memory}
 use Rattle.cell_cli.specs.declared.fault.FileId.{FileId}
 use Rattle.cell_cli.specs.declared.fault.FileId.TheVariants.{Machine, Source, Rec, Script}
 use Rattle.cell_cli.specs.declared.fault.Status.{Status}
 use Rattle.cell_cli.specs.declared.fault.Status.TheVariants.{Done, Race, Refused}
 use Rattle.cell_cli.specs.Task.{Task, Work}
 use Rattle.cell_cli.specs.Course.{Settles, Reads}
-use Rattle.cell_cli.specs.Output.{Took, TookPart, Writes}
+use Rattle.cell_cli.specs.Output.{Took, TookPart, Writes, LacksOrders}
 
 -- the rest of the task settles what the whole does, and what it reads the whole reads
 pub record Leads (files : List File) (task rest : Task) : Type 0 where
   pub settles : (result : Result Work Fault) → Settles files rest result → Settles files task result
   pub reads : (file : FileId) (name : List ℕ) → Reads files rest file name → Reads files task file name
 
+-- the files have a run to reorder that has no race and isn't settled
+abbrev pub HasUnsettled : List File → Task → Type 0
+HasUnsettled files task = (work : Work) × Settles files task (Ok work) × LacksOrders work
+
+-- why this is refused, whatever is read and written: the files settle the refusal, or they have a run that isn't settled
+abbrev pub IsDue : List File → Task → Fault → Type 0
+IsDue files task NotSettled = HasUnsettled files task
+IsDue files task fault = Settles files task (Err fault)
+
 -- a part of the program refuses with its cause
 abbrev pub RefusesIn : List File → Task → Ledger → Ledger → Fault → Type 0
 RefusesIn files task old new Memory = Unit {0}
 RefusesIn files task old new (ReadFault file) = (name : List ℕ) × Reads files task file name × FailedAt name old new
-RefusesIn files task old new fault = Settles files task (Err fault)
+RefusesIn files task old new fault = IsDue files task fault
 
 -- a part of the program came to a value with which the task goes on, or it refused
 abbrev pub Comes : {V : Type 0} → List File → Task → (V → Task) → Ledger → Ledger → Result V Fault → Type 0
@@ -78,6 +87,7 @@ Ends work old new Done = Wrote work Done old.taken new.taken
 Ends work old new (Race first second) = Wrote work (Race first second) old.taken new.taken
 Ends work old new (Refused WriteFault) = Rose old.faults new.faults × WrotePart work old.taken new.taken
 Ends work old new (Refused Memory) = new.taken ≡ old.taken
+Ends work old new (Refused NotSettled) = LacksOrders work × (new.taken ≡ old.taken)
 Ends work old new (Refused fault) = ⊥
 
 -- the files settle work, and this is how it ended
@@ -113,12 +123,13 @@ IsOrMemory fault status = status ≡ Refused fault
 
 abbrev pub IsExact : List File → Task → Ledger → Ledger → Status → Type 0
 IsExact files task old new status =
-    (fault : Fault) → Settles files task (Err fault) → NoneFailed files task old new → IsOrMemory fault status
+    (fault : Fault) → IsDue files task fault → NoneFailed files task old new → IsOrMemory fault status
 
--- the work was done, or memory was short
+-- the work was done, or its run isn't settled, or memory was short
 abbrev pub IsFinished : Status → Type 0
 IsFinished Done = Unit {0}
 IsFinished (Race first second) = Unit {0}
+IsFinished (Refused NotSettled) = Unit {0}
 IsFinished (Refused Memory) = Unit {0}
 IsFinished (Refused fault) = ⊥
 

@@ -2,7 +2,7 @@
 use Rattle.std.specs.Prelude.{ℕ}
 use Rattle.race_check.specs.declared.check.Verdict.{Verdict}
 use Rattle.race_check.specs.declared.check.Verdict.TheVariants.{Accepted, Race as Racing}
-use Rattle.cell_cli.specs.declared.fault.Fault.TheVariants.{Usage, ReadFault, WriteFault, NotARun, StatesDiffer, Memory}
+use Rattle.cell_cli.specs.declared.fault.Fault.TheVariants.{Usage, ReadFault, WriteFault, NotARun, StatesDiffer, NotSettled, Memory}
 use Rattle.cell_cli.specs.declared.fault.Status.{Status}
 use Rattle.cell_cli.specs.declared.fault.Status.TheVariants.{Done, Race, Refused}
 
@@ -20,5 +20,6 @@ code_of (Refused (ReadFault file)) = 3
 code_of (Refused WriteFault) = 4
 code_of (Refused (NotARun at)) = 6
 code_of (Refused (StatesDiffer at)) = 6
+code_of (Refused NotSettled) = 6
 code_of (Refused Memory) = 7
 code_of (Refused fault) = 5

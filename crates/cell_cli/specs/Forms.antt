@@ -9,6 +9,7 @@ use Rattle.cell_load.specs.Order.{machine_at}
 use Rattle.cell_load.specs.Sources.{Named, sources_of}
 use Rattle.cell_load.specs.Loaded.{loaded, NoRow}
 use Rattle.cell_machine.specs.Opening.{Opening}
+use Rattle.cell_machine.specs.Run.{Ran}
 use Rattle.cell_debug.specs.declared.line.Line.{Line}
 use Rattle.cell_debug.specs.Form.{script_at}
 use Rattle.cell_debug.specs.Debug.{printed}
@@ -16,7 +17,7 @@ use Rattle.cell_report.specs.Images.{image_lines}
 use Rattle.cell_cli.specs.declared.fault.Fault.TheVariants.{Machine as BadMachine, Source as BadSource, Script as BadScript, NotInTable, TooLarge, Memory}
 use Rattle.cell_cli.specs.declared.fault.FileId.{FileId}
 use Rattle.cell_cli.specs.declared.fault.FileId.TheVariants.{Machine, Source, Rec, Script}
-use Rattle.cell_cli.specs.Task.{Task, refuse, ready, judge, read, run_of, text_of, gen_of}
+use Rattle.cell_cli.specs.Task.{Task, Work, refuse, ready, judge, read, run_of, text_of, verdict_of, gen_of, reordering_of}
 
 -- how long a machine file, a source or a script may be
 abbrev pub text_limit : ℕ
@@ -63,9 +64,17 @@ run_task machine = machine_task machine (λ setup. ready (run_of setup))
 abbrev pub record_limit : ℕ
 record_limit = 33554432
 
+-- work with the run that a record file has
+abbrev pub recorded_task : List ℕ → List ℕ → (Ran → Work) → Task
+recorded_task machine record_file work = machine_task machine (λ setup. read Rec record_file record_limit (λ text. judge setup text work))
+
 -- `check MACHINE RECORD`
 abbrev pub check_task : List ℕ → List ℕ → Task
-check_task machine record_file = machine_task machine (λ setup. read Rec record_file record_limit (λ text. judge setup text))
+check_task machine record_file = recorded_task machine record_file verdict_of
+
+-- `permute MACHINE RECORD N`
+abbrev pub permute_task : List ℕ → List ℕ → ℕ → Task
+permute_task machine record_file n = recorded_task machine record_file (λ m. reordering_of m n)
 
 -- `asm SOURCE`
 abbrev pub asm_task : List ℕ → Task

@@ -8,6 +8,7 @@ pub mod Answer
 pub mod Causes
 pub mod Code
 pub mod Runs
+pub mod Reordered
 pub mod Summaries
 pub mod ReadBack
 pub mod Verdicts

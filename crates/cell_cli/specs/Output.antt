@@ -4,10 +4,11 @@ use Rattle.cell_io.specs.Store.{AddsPrefix}
 use Rattle.race_check.specs.declared.check.Verdict.TheVariants.{Accepted, Race as Racing}
 use Rattle.cell_cli.specs.declared.fault.Status.{Status}
 use Rattle.cell_cli.specs.declared.fault.Status.TheVariants.{Done, Race}
-use Rattle.cell_cli.specs.Task.{Work, run_of, text_of, verdict_of, gen_of}
+use Rattle.cell_cli.specs.Task.{Work, run_of, text_of, verdict_of, gen_of, reordering_of}
 use Rattle.cell_cli.specs.Runs.{PrintsRun}
 use Rattle.cell_cli.specs.Verdicts.{IsAccepted, IsRaced}
 use Rattle.cell_cli.specs.Summaries.{SummarizesRun}
+use Rattle.cell_cli.specs.Reordered.{PrintsReordering, IsUnsettled}
 
 -- the sink took the whole text
 abbrev pub Took : Option (List ℕ) → Option (List ℕ) → List ℕ → Type 0
@@ -27,4 +28,11 @@ Writes (verdict_of m) Done text = IsAccepted m text
 Writes (verdict_of m) (Race i j) text = IsRaced m i j text
 Writes (gen_of n) Done text = SummarizesRun n Accepted text
 Writes (gen_of n) (Race i j) text = SummarizesRun n (Racing i j) text
+Writes (reordering_of m n) Done text = PrintsReordering m n text
+Writes (reordering_of m n) (Race i j) text = IsRaced m i j text
 Writes work status text = ⊥
+
+-- the work is a run to reorder that has no race and isn't settled
+abbrev pub LacksOrders : Work → Type 0
+LacksOrders (reordering_of m n) = IsUnsettled m
+LacksOrders work = ⊥

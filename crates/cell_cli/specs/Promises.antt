@@ -22,12 +22,12 @@ pub record Stores : Type 0 where
 pub record IsAnswer (files : List File) (spoken : Spoken) (old new : Ledger) (before after : Sinks) (status : Status) : Type 0 where
   -- It has its cause in the files.
   pub answer : Answers files (task_of spoken) old new before after status
-  -- Where they refuse, and no reading failed, that refusal is told.
+  -- Where they refuse, or have a run to reorder that isn't settled, and no reading failed, that refusal is told.
   pub exactly : IsExact files (task_of spoken) old new status
-  -- Where they don't, and neither a reading nor the sink failed, the work is done.
+  -- Where they don't refuse, and neither a reading nor the sink failed, the work is done, or its run isn't settled.
   pub complete : IsComplete files (task_of spoken) old new before after status
-  -- A check is done only where no two steps of the recorded run race, and then every reordering of them agrees. It tells a race only where that is
-  -- the least one.
+  -- A check is done only where no two steps of the recorded run race, and then every reordering of them agrees. A race is told only where that is
+  -- the least one. A run is reordered only where it has no race and is settled, and only of one without a race it is said that it isn't settled.
   pub judges : Judges files spoken before after status
   -- What a run that is done wrote is read back: `check` of it is to give the verdict on that run.
   pub read_back : ReadsBack files spoken before after status

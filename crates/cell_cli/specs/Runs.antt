@@ -6,11 +6,12 @@ use Rattle.cell_base.specs.Records.{spelling, AreSteps}
 use Rattle.cell_machine.specs.declared.status.End.{End}
 use Rattle.cell_machine.specs.State.{State}
 use Rattle.cell_machine.specs.Opening.{Opening, opening}
-use Rattle.cell_machine.specs.Run.{Ran, replay, IsEnd}
+use Rattle.cell_machine.specs.Run.{Ran, IsRun, replay, IsEnd}
 use Rattle.cell_machine.specs.Order.{IsInOrder}
 use Rattle.cell_machine.specs.Lists.{ListsAreInOrder}
 use Rattle.cell_machine.specs.Locks.{AreLocksKept}
 use Rattle.cell_report.specs.States.{states_of}
+use Rattle.cell_cli.specs.Checks.{TellsEnd}
 use Rattle.cell_cli.specs.Forms.{record_limit}
 
 -- One run of the written machine from the setup, within its budget, that has ended: its steps, the state that they lead to, and its end word.
@@ -39,3 +40,13 @@ pub record PrintsRun (setup : Opening) (text : List ℕ) : Type 0 where
   pub recorded : AreSteps run.steps
   pub short : length text ≤ record_limit
   pub printed : text ≡ spelling Two run.steps ++ states_of run.last setup.shows (Some run.end)
+
+-- The same of a run that may go on: its record, and then the states that it ends in, with its end word.
+pub record PrintsSteps (m : Ran) (text : List ℕ) : Type 0 where
+  pub run : IsRun m.setup m.steps
+  pub laws : KeepsLaws m
+  pub recorded : AreSteps m.steps
+  pub short : length text ≤ record_limit
+  pub states : List ℕ
+  pub tells : TellsEnd m states
+  pub printed : text ≡ spelling Two m.steps ++ states

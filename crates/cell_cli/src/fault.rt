@@ -61,6 +61,8 @@ pub enum Fault {
     Script {
         line: u32,
     },
+    /// The run of the record file has no race, but what a processor saw of it may be otherwise in another order.
+    NotSettled,
     Memory,
 }
 
@@ -92,7 +94,7 @@ impl Status {
                 | Fault::BadRecord { .. }
                 | Fault::TooLarge { .. }
                 | Fault::Script { .. } => 5,
-                Fault::NotARun { .. } | Fault::StatesDiffer { .. } => 6,
+                Fault::NotARun { .. } | Fault::StatesDiffer { .. } | Fault::NotSettled => 6,
                 Fault::Memory => 7,
             },
         }
@@ -167,7 +169,7 @@ impl fmt::Display for Fault {
     fn fmt<W: fmt::Write>(&self, f: &mut fmt::Formatter<W>) -> fmt::Result {
         match *self {
             Fault::Usage => f.write_str(
-                "usage: cell run MACHINE, check MACHINE RECORD, asm SOURCE, gen N or debug MACHINE SCRIPT",
+                "usage: cell run MACHINE, check MACHINE RECORD, asm SOURCE, gen N, debug MACHINE SCRIPT or permute MACHINE RECORD N",
             ),
             Fault::ReadFault { file } => put_file(f, "cannot read ", file, ""),
             Fault::WriteFault => f.write_str("cannot write"),
@@ -180,6 +182,7 @@ impl fmt::Display for Fault {
             Fault::StatesDiffer { at } => put_number(f, "states differ at byte ", at, ""),
             Fault::TooLarge { n } => put_number(f, "", n, " is above 64"),
             Fault::Script { line } => put_number(f, "script file, line ", line, ""),
+            Fault::NotSettled => f.write_str("the run is not settled"),
             Fault::Memory => f.write_str("out of memory"),
         }
     }

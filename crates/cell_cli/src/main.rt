@@ -8,6 +8,7 @@ mod checking;
 mod debug;
 mod fault;
 mod generated;
+mod permute;
 mod program;
 mod reading;
 mod round;

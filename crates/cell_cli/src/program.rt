@@ -9,6 +9,7 @@ use crate::check::check;
 use crate::debug::debug;
 use crate::fault::{Fault, Status};
 use crate::generated::run_generated;
+use crate::permute::permute;
 use crate::run::run;
 use crate::words::{Form, form_of};
 use cell_io::{Sink, Store};
@@ -36,6 +37,11 @@ pub fn cell_quiet<T: Store, K: Sink>(
         } => check(alloc, machine, record_file, files, out),
         Form::Asm { source } => asm(alloc, source, files, out),
         Form::Debug { machine, script } => debug(alloc, machine, script, files, out),
+        Form::Permute {
+            machine,
+            record_file,
+            n,
+        } => permute(alloc, machine, record_file, n, files, out),
         Form::Run { .. } | Form::Gen { .. } => unreachable!(),
         Form::NoForm => Status::Refused(Fault::Usage),
     }
@@ -43,8 +49,8 @@ pub fn cell_quiet<T: Store, K: Sink>(
 
 /// Does what the words ask for: reads files, and writes to the sink. Refusals are tried in this order: the words, the machine
 /// file (read, length, form), each source in turn (read, length, assembling), the instruction words, the record file (read, length, form,
-/// steps, states) or the script (read, length, form), the output. A check looks for races when nothing of the files refuses; a race is
-/// answered once its verdict is written. Nothing is written before the output.
+/// steps, states) or the script (read, length, form), a run to reorder that isn't settled, the output. A record is searched for races when
+/// nothing of the files refuses; a race is answered once its verdict is written. Nothing is written before the output.
 pub fn cell<R: Threads + Wait + Sync, T: Store, K: Sink, G: Gate + Sync>(
     rt: &R,
     alloc: Global,

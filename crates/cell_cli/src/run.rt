@@ -1,13 +1,16 @@
 //! The form `run`: a machine runs to its end on threads, and its record and states are written.
 
-ghost use Rattle.std.specs.Prelude.{◌≡◌, ◌≢◌, ◌≤◌, ◌++◌, ◌<◌, length, IfErr, IfOk, OnErr, Err};
+ghost use Rattle.std.specs.Prelude.{◌≡◌, ◌≢◌, ◌≤◌, ◌++◌, ◌<◌, ℕ, List, length, IfErr, IfOk, OnErr, Err};
 ghost use Rattle.std.specs.Option.{ForSome};
 ghost use Rattle.cell_io.specs.Sink.{FailsWithCause, Takes};
 ghost use Rattle.cell_io.specs.Store.{NoneFell};
 ghost use Rattle.cell_machine.specs.Run.{HasEnd};
 ghost use Rattle.cell_cli.specs.Causes.{IsOfInput};
-ghost use Rattle.cell_cli.specs.Task.{ready, run_of};
+ghost use Rattle.cell_cli.specs.Task.{ready, run_of, Work};
 ghost use Rattle.cell_cli.specs.Forms.{run_task};
+ghost use Rattle.cell_cli.specs.Output.{Writes};
+ghost use Rattle.cell_cli.specs.Runs.{PrintsSteps};
+ghost use Rattle.cell_cli.specs.declared.fault.Status.TheVariants.{Done};
 ghost use Rattle.cell_cli.specs.Answer.{Answers, AtMachine, Comes, Ends, FailsBy, IsQuiet, ReadFails};
 
 use crate::fault::{Fault, Status};
@@ -29,11 +32,10 @@ fn put_both<K: Sink>(out: &mut K, first: &[u8], second: &[u8]) -> Result<(), Sin
     out.put(second)
 }
 
-/// Writes the record's text of a machine that has ended, and the states'. Both are made before the first is put.
-fn write_run<K: Sink>(alloc: Global, machine: &Machine, out: &mut K) -> Status
-    requires { HasEnd machine.now }
+/// Writes the record's text of a machine, and the states'. Both are made before the first is put. Work that these texts do ends so.
+pub fn write_run<K: Sink>(alloc: Global, machine: &Machine, out: &mut K) -> Status
     ensures sink_count { K.faults out.old ≤ K.faults out.new }
-    ensures ends { Ends (run_of machine.now.setup) (record { taken = K.taken out.old; faults = K.faults out.old }) (record { taken = K.taken out.new; faults = K.faults out.new }) result }
+    ensures ends { (work : Work) → ((text : List ℕ) → PrintsSteps machine.now text → Writes work Done text) → Ends work (record { taken = K.taken out.old; faults = K.faults out.old }) (record { taken = K.taken out.new; faults = K.faults out.new }) result }
 {
     let Ok(steps) = record_text(alloc, machine.steps()) else {
         return Status::Refused(Fault::Memory);

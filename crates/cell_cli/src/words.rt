@@ -2,7 +2,7 @@
 
 ghost use Rattle.std.specs.Prelude.{◌≡◌, map, string_bytes};
 ghost use Rattle.cell_base.specs.Numbers.{decimal_number};
-ghost use Rattle.cell_cli.specs.Words.{spoken, said, gen_said};
+ghost use Rattle.cell_cli.specs.Words.{spoken, said, gen_said, permute_said};
 
 use cell_base::line_text::number_at;
 
@@ -26,6 +26,11 @@ pub enum Form<'a> {
         machine: &'a str,
         script: &'a str,
     },
+    Permute {
+        machine: &'a str,
+        record_file: &'a str,
+        n: u32,
+    },
     NoForm,
 }
 
@@ -43,6 +48,20 @@ fn gen_form(word: &str) -> Form<'_>
 {
     match number_of(word) {
         Some(n) => Form::Gen { n },
+        None => Form::NoForm,
+    }
+}
+
+/// The form `permute` with these words, where the last is a number.
+fn permute_form<'a>(machine: &'a str, record_file: &'a str, word: &str) -> Form<'a>
+    ensures { said result ≡ permute_said machine.now record_file.now (decimal_number word.now) }
+{
+    match number_of(word) {
+        Some(n) => Form::Permute {
+            machine,
+            record_file,
+            n,
+        },
         None => Form::NoForm,
     }
 }
@@ -67,6 +86,9 @@ pub fn form_of(words: &[String]) -> Form<'_>
             source: source.as_str(),
         },
         [form, number] if form.as_str() == "gen" => gen_form(number.as_str()),
+        [form, machine, record_file, number] if form.as_str() == "permute" => {
+            permute_form(machine.as_str(), record_file.as_str(), number.as_str())
+        }
         _ => Form::NoForm,
     }
 }

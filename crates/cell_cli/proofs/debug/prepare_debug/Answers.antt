@@ -5,9 +5,8 @@ use Rattle.cell_debug.specs.Form.{script_at}
 use Rattle.cell_debug.specs.Scripts.{ScriptGives}
 use Rattle.cell_cli.specs.declared.fault.FileId.TheVariants.{Script}
 use Rattle.cell_cli.specs.Task.{read}
-use Rattle.cell_cli.specs.Answer.{AtMachineOrScript}
 use Rattle.cell_cli.specs.Forms.{by_script, text_limit}
-use Rattle.cell_cli.proofs.Steps.{leads_on, refuses_then, refuses_after, fails_before, fails_script, leads_script, refuses_script, script_comes, script_fails}
+use Rattle.cell_cli.proofs.Steps.{leads_on, refuses_then, refuses_after, fails_before, fails_script, leads_script, refuses_script, script_comes}
 use Rattle.cell_cli.proofs.debug.prepare_debug.Goals as goal
 
 pub returns-in_err-setup-clause-cause : goal.returns-in_err-setup-clause-cause

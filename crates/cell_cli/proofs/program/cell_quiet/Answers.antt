@@ -3,7 +3,7 @@ use Rattle.cell_cli.specs.declared.fault.Fault.TheVariants.{Usage}
 use Rattle.cell_cli.specs.declared.fault.Status.TheVariants.{Refused}
 use Rattle.cell_cli.specs.Answer.{Sinks}
 use Rattle.cell_cli.specs.Promises.{Stores}
-use Rattle.cell_cli.specs.Words.{check, asm, debug, no_form}
+use Rattle.cell_cli.specs.Words.{check, asm, debug, permute, no_form}
 use Rattle.cell_cli.proofs.Answered.{no_usage, promised, promised_still}
 use Rattle.cell_cli.proofs.program.cell_quiet.Goals as goal
 
@@ -24,6 +24,12 @@ returns-in-Debug g c =
     let e = c.debug.ensures in
     let said = debug c.in-Debug.machine.now c.in-Debug.script.now in
     promised said _ c.in-Debug.ensures _ _ _ _ _ (λ n is. cc) e.same e.store_count e.sink_count e.answer e.read_fault e.quiet (no_usage said _ (λ is. cc) e.usage)
+
+pub returns-in-Permute : goal.returns-in-Permute
+returns-in-Permute g c =
+    let e = c.permute.ensures in
+    let said = permute c.in-Permute.machine.now c.in-Permute.record_file.now c.in-Permute.n in
+    promised said _ c.in-Permute.ensures _ _ _ _ _ (λ n is. cc) e.same e.store_count e.sink_count e.answer e.read_fault e.quiet (no_usage said _ (λ is. cc) e.usage)
 
 pub returns-in-NoForm : goal.returns-in-NoForm
 returns-in-NoForm g c =

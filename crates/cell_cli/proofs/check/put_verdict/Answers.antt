@@ -1,14 +1,14 @@
 use Rattle.std.proofs.Common.{◌∙◌}
 use Rattle.cell_cli.proofs.Puts.{took_part}
 use Rattle.cell_cli.proofs.Verdicts.{names-steps, wrote_part}
-use Rattle.cell_cli.proofs.check.write_verdict.Goals as goal
+use Rattle.cell_cli.proofs.check.put_verdict.Goals as goal
 
 pub verdict_text-requires : goal.verdict_text-requires
-verdict_text-requires g c = names-steps c.args.machine.now c.in-Ok.verdict c.in-Ok.ensures.verdict
+verdict_text-requires g c = names-steps c.args.machine.now c.args.verdict c.requires.verdict
 
 pub returns-clause-ends : goal.returns-clause-ends
 returns-clause-ends g c = (
   c.in-Err.ensures.cause.1,
-  wrote_part c.args.machine.now c.in-Ok.verdict c.as_slice.result.now _ _ c.in-Ok.ensures.verdict c.in-Ok.ensures.agree (c.as_slice.ensures.value ∙ c.in-Ok-verdict_text.ensures)
+  wrote_part c.args.machine.now c.args.verdict c.as_slice.result.now _ _ c.requires.verdict c.requires.agree (c.as_slice.ensures.value ∙ c.in-Ok.ensures)
       (took_part _ _ _ _ c.in-Err.field-0 c.in-Err.ensures.takes),
 )
