@@ -1,0 +1,14 @@
+ila $3,0x100
+wrch $ch16,$3
+wrch $ch18,$0
+il $4,16
+wrch $ch19,$4
+il $5,0x20
+wrch $ch21,$5
+il $6,1
+wrch $ch22,$6
+il $6,2
+wrch $ch23,$6
+rdch $7,$ch24
+stqd $4,0($3)
+stop 0

@@ -1,0 +1,10 @@
+ila $3,0x100
+wrch $ch16,$3
+wrch $ch18,$0
+il $4,16
+wrch $ch19,$4
+il $5,0x20
+wrch $ch21,$5
+stqd $4,0($3)
+rchcnt $5,$ch29
+stop 0

@@ -1,0 +1,4 @@
+# No command has the opcode 0xff.
+	il	$3,0xff
+	wrch	$ch21,$3
+	stop	1

@@ -1,0 +1,2 @@
+# The word behind the instructions spells none.
+	nop

@@ -1,0 +1,20 @@
+# Sixteen BARRIERs are complete when the seventeenth is issued, but nothing orders them before it.
+	il	$5,0xc0
+	wrch	$ch21,$5
+	wrch	$ch21,$5
+	wrch	$ch21,$5
+	wrch	$ch21,$5
+	wrch	$ch21,$5
+	wrch	$ch21,$5
+	wrch	$ch21,$5
+	wrch	$ch21,$5
+	wrch	$ch21,$5
+	wrch	$ch21,$5
+	wrch	$ch21,$5
+	wrch	$ch21,$5
+	wrch	$ch21,$5
+	wrch	$ch21,$5
+	wrch	$ch21,$5
+	wrch	$ch21,$5
+	wrch	$ch21,$5
+	stop	1

@@ -1,0 +1,19 @@
+# At the sixteenth BARRIER fifteen aren't complete.
+	il	$5,0xc0
+	wrch	$ch21,$5
+	wrch	$ch21,$5
+	wrch	$ch21,$5
+	wrch	$ch21,$5
+	wrch	$ch21,$5
+	wrch	$ch21,$5
+	wrch	$ch21,$5
+	wrch	$ch21,$5
+	wrch	$ch21,$5
+	wrch	$ch21,$5
+	wrch	$ch21,$5
+	wrch	$ch21,$5
+	wrch	$ch21,$5
+	wrch	$ch21,$5
+	wrch	$ch21,$5
+	wrch	$ch21,$5
+	stop	1

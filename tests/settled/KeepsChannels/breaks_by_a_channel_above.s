@@ -1,0 +1,3 @@
+# There is no channel 31.
+	wrch	$ch31,$3
+	stop	1

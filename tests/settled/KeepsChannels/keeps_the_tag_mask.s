@@ -1,0 +1,3 @@
+# The first of the channels that may be used.
+	rdch	$3,$ch12
+	stop	1
