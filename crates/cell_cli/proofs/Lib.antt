@@ -10,6 +10,7 @@ pub mod Machines
 pub mod ReadBack
 pub mod Lengths
 pub mod Verdicts
+pub mod AlikeTexts
 pub mod Reordered
 pub mod Judged
 pub mod Answered

@@ -9,7 +9,6 @@ use Rattle.spu_asm.specs.Outcomes.{Gives}
 use Rattle.spu_asm.specs.declared.error.AsmError.{AsmError}
 use Rattle.spu_asm.specs.declared.error.AsmError.TheVariants.{At, Memory as AsmMemory}
 use Rattle.cell_load.specs.Sources.{Named, sources_of}
-use Rattle.cell_machine.specs.Limits.{IsOpening}
 use Rattle.cell_machine.specs.Opening.{Opening}
 use Rattle.cell_machine.specs.Run.{Ran}
 use Rattle.cell_load.specs.Entries.{Entry}
@@ -134,11 +133,6 @@ fails-none cause old new setup text fault is = tt
 pub check_fails : (cause : FileId → Ledger → Ledger → Type 0) (old new : Ledger) (setup : Opening) (text : List ℕ) (result : Result Ran Fault) → IfErr result (RefusesOrMemory setup text) → FailsBy cause old new result
 check_fails cause old new setup text (Ok m) refused = tt
 check_fails cause old new setup text (Err fault) refused = fails-none cause old new setup text fault refused
-
--- what it finds has the setup that was read
-pub check_opens : (setup : Opening) (text : List ℕ) (result : Result Ran Fault) → IsOpening setup → IfOk result (λ m. Finds setup text (Ok m)) → IfOk result (λ m. IsOpening m.setup)
-check_opens setup text (Ok m) opens found = subst IsOpening (sym found.0) opens
-check_opens setup text (Err fault) opens found = found
 
 -- what a check finds is what its task leads to
 leads-judge : (files : List File) (setup : Opening) (text : List ℕ) (work : Ran → Work) (m : Ran) → Finds setup text (Ok m) → Leads files (judge setup text work) (ready (work m))

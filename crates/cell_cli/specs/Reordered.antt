@@ -1,14 +1,13 @@
 -- A run that is made again in another order.
-use Rattle.std.specs.Prelude.{ℕ, ◌≡◌, List, Some}
-use Rattle.cell_machine.specs.State.{State}
-use Rattle.cell_machine.specs.Run.{Ran, state_of}
+use Rattle.std.specs.Prelude.{ℕ, List}
+use Rattle.cell_machine.specs.Run.{Ran}
 use Rattle.race_check.specs.declared.check.Verdict.TheVariants.{Accepted}
 use Rattle.race_check.specs.Races.{IsVerdict}
 use Rattle.run_permute.specs.Settled.{IsSettled}
-use Rattle.run_permute.specs.Theorem.{IsSameEnd}
-use Rattle.reorder.specs.Nth.{IsReordered}
+use Rattle.reorder.specs.Nth.{EndsAlike, IsReordered}
 use Rattle.cell_cli.specs.declared.fault.Fault.{Fault}
 use Rattle.cell_cli.specs.declared.fault.Fault.TheVariants.{NotSettled, Memory}
+use Rattle.cell_cli.specs.Checks.{TellsEnd}
 use Rattle.cell_cli.specs.Runs.{PrintsSteps}
 
 -- No two steps of the run race, but it isn't settled.
@@ -22,12 +21,9 @@ IsUnsettledOrMemory m NotSettled = ¬ (IsSettled m)
 IsUnsettledOrMemory m Memory = Unit {0}
 IsUnsettledOrMemory m fault = ⊥
 
--- the one run ends in the state in which the other does, but for the record, the order of some lists and the pending events
-abbrev pub EndsAlike : Ran → Ran → Type 0
-EndsAlike m again = (M N : State) → state_of m ≡ Some M → state_of again ≡ Some N → IsSameEnd M N
-
 -- No two steps of the run race, and it is settled. Its steps in the order of the number are a run from the same setup, and the text has the
--- record of that run and then its states. It ends as the run itself does.
+-- record of that run and then its states. It ends as the run itself does, and the text of its states is that of the states that the run itself
+-- ends in, with the same end word.
 pub record PrintsReordering (m : Ran) (n : ℕ) (text : List ℕ) : Type 0 where
   pub no_race : IsVerdict m Accepted
   pub settled : IsSettled m
@@ -35,3 +31,4 @@ pub record PrintsReordering (m : Ran) (n : ℕ) (text : List ℕ) : Type 0 where
   pub reordered : IsReordered m n again
   pub prints : PrintsSteps again text
   pub same_end : EndsAlike m again
+  pub same_states : TellsEnd m prints.states

@@ -4,7 +4,6 @@ ghost use Rattle.std.specs.Prelude.{◌≡◌, ◌≢◌, ◌≤◌, IfErr, IfOk
 ghost use Rattle.std.specs.Option.{ForSome};
 ghost use Rattle.cell_io.specs.Store.{NoneFell};
 ghost use Rattle.cell_cli.specs.Causes.{IsOfInput};
-ghost use Rattle.cell_machine.specs.Limits.{IsOpening};
 ghost use Rattle.cell_machine.specs.Run.{Ran};
 ghost use Rattle.race_check.specs.Races.{IsVerdict};
 ghost use Rattle.race_check.specs.Reorderings.{EveryReorderingAgrees};
@@ -33,7 +32,6 @@ pub fn read_run<T: Store>(
 ) -> Result<Machine, Fault>
     ensures same { T.files files.new ≡ T.files files.old }
     ensures store_count { NoneFell (T.ledger files.old) (T.ledger files.new) }
-    ensures opening { IfOk result (λ m. IsOpening m.setup) }
     ensures input { IfErr result IsOfInput }
     ensures cause { FailsBy (AtMachineOrRecord machine.now record_file.now) (T.ledger files.old) (T.ledger files.new) result }
     ensures comes { ForSome (T.files files.old) (λ told.

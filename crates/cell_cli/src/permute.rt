@@ -3,9 +3,8 @@
 ghost use Rattle.std.specs.Prelude.{◌≡◌, ◌≢◌, ◌≤◌, IfErr, IfOk};
 ghost use Rattle.std.specs.Option.{ForSome};
 ghost use Rattle.cell_io.specs.Store.{NoneFell};
-ghost use Rattle.cell_machine.specs.Limits.{IsOpening};
 ghost use Rattle.race_check.specs.Races.{IsVerdict};
-ghost use Rattle.reorder.specs.Nth.{IsReordered};
+ghost use Rattle.reorder.specs.Nth.{EndsAlike, IsReordered};
 ghost use Rattle.run_permute.specs.Settled.{IsSettled};
 ghost use Rattle.cell_cli.specs.Task.{reordering_of};
 ghost use Rattle.cell_cli.specs.Forms.{permute_task};
@@ -23,10 +22,10 @@ use std::alloc::Global;
 
 /// The machine that makes the run in the order of the number, where the run is settled.
 fn reordered(alloc: Global, machine: &Machine, n: u32) -> Result<Machine, Fault>
-    requires opening { IsOpening machine.now.setup }
     requires accepted { IsVerdict machine.now Verdict.Accepted }
     ensures settled { IfOk result (λ _. IsSettled machine.now) }
     ensures reordered { IfOk result (IsReordered machine.now n) }
+    ensures ends { IfOk result (EndsAlike machine.now) }
     ensures refused { IfErr result (IsUnsettledOrMemory machine.now) }
 {
     match is_settled(alloc, machine) {
@@ -42,12 +41,11 @@ fn reordered(alloc: Global, machine: &Machine, n: u32) -> Result<Machine, Fault>
 
 /// Writes the record and the states of the run, which has no race, in the order of the number.
 fn write_reordered<K: Sink>(alloc: Global, machine: &Machine, n: u32, out: &mut K) -> Status
-    requires opening { IsOpening machine.now.setup }
     requires accepted { IsVerdict machine.now Verdict.Accepted }
     ensures sink_count { K.faults out.old ≤ K.faults out.new }
     ensures ends { Ends (reordering_of machine.now n) (record { taken = K.taken out.old; faults = K.faults out.old }) (record { taken = K.taken out.new; faults = K.faults out.new }) result }
 {
-    let _run = machine.steps();
+    let _run = machine.steps(); // which are a run, as its contract says
     match reordered(alloc, machine, n) {
         Ok(again) => write_run(alloc, &again, out),
         Err(fault) => Status::Refused(fault),
@@ -56,7 +54,6 @@ fn write_reordered<K: Sink>(alloc: Global, machine: &Machine, n: u32, out: &mut 
 
 /// Looks for races of the machine's run, and writes the verdict where there is one, or else the run in the order of the number.
 fn write_reordering<K: Sink>(alloc: Global, machine: &Machine, n: u32, out: &mut K) -> Status
-    requires { IsOpening machine.now.setup }
     ensures sink_count { K.faults out.old ≤ K.faults out.new }
     ensures ends { Ends (reordering_of machine.now n) (record { taken = K.taken out.old; faults = K.faults out.old }) (record { taken = K.taken out.new; faults = K.faults out.new }) result }
 {

@@ -5,7 +5,6 @@ ghost use Rattle.std.specs.Option.{ForSome};
 ghost use Rattle.cell_io.specs.Store.{NoneFell, Rose};
 ghost use Rattle.spu_asm.specs.Images.{Image};
 ghost use Rattle.cell_load.specs.Sources.{named};
-ghost use Rattle.cell_machine.specs.Limits.{IsOpening};
 ghost use Rattle.cell_machine.specs.Opening.{Opening};
 ghost use Rattle.cell_cli.specs.Causes.{IsOfInput};
 ghost use Rattle.cell_cli.specs.Task.{Task, read};
@@ -109,7 +108,6 @@ pub fn read_setup<T: Store>(alloc: Global, files: &mut T, name: &str) -> Result<
     ensures kept { OnOk result (T.ledger files.new ≡ T.ledger files.old) }
     ensures input { IfErr result IsOfInput }
     ensures some { IfOk result (λ setup. 0 < length setup.entries) }
-    ensures opening { IfOk result IsOpening }
     ensures cause { FailsBy (AtMachine name.now) (T.ledger files.old) (T.ledger files.new) result }
     ensures comes { ForSome (T.files files.old) (λ told. (next : Opening → Task) →
         Comes told (machine_task name.now next) next (T.ledger files.old) (T.ledger files.new) result) }

@@ -4,6 +4,7 @@ ghost use Rattle.std.specs.Prelude.{◌≡◌, ◌+◌, ◌*◌, ◌<◌, ◌≤
 ghost use Rattle.std.specs.Bool.{OnFalse};
 ghost use Rattle.cell_base.specs.Records.{AreSteps};
 ghost use Rattle.cell_base.specs.declared.steps.Step.{Step};
+ghost use Rattle.cell_base.specs.declared.steps.Step.TheVariants.{Atomic, Piece};
 ghost use Rattle.cell_machine.specs.State.{State};
 ghost use Rattle.cell_machine.specs.Next.{act, closed_in};
 ghost use Rattle.cell_machine.specs.Moves.{outstanding};
@@ -13,7 +14,7 @@ ghost use Rattle.spu_exec.specs.Places.{IsPlace};
 ghost use Rattle.spu_regs.specs.Registers.{register};
 ghost use Rattle.cell_host.specs.Script.{Progress};
 ghost use Rattle.cell_machine.specs.Opening.{Opening, opening_spes};
-ghost use Rattle.cell_machine.specs.Limits.{shown};
+ghost use Rattle.cell_machine.specs.Limits.{IsOpening, shown};
 ghost use Rattle.cell_machine.specs.Run.{Ran, IsRun, state_of, next_of, spe_of, picked_of, first_of, first_allowed, picked, allowed, is_quiet, IsEnd};
 ghost use Rattle.cell_machine.specs.Actors.{MissesNone};
 ghost use Rattle.cell_machine.specs.Effects.{effect_in};
@@ -65,6 +66,51 @@ impl Model for Machine {
     ghost invariant = { λ a. IsMachine a.setup a.steps.items (vec_capacity a.steps) a.processors.items a.memory a.host };
 }
 
+/// Copies or delivers the piece, or leaves all as it is where it isn't allowed.
+fn act_piece(
+    processors: &mut [Processor],
+    memory: &mut SharedMemory,
+    spe: u8,
+    cmd: u32,
+    elem: u16,
+    part: u16,
+) -> bool
+    requires many { length processors.old ≤ 16 }
+    requires can { CanGo processors.old memory.old }
+    requires small { length memory.old.bytes ≤ 67108864 }
+    ensures made { (host : Progress) (M : State) → Shows processors.old memory.old host M → AreSettled M.spes → MatchBool result (IsSomeAnd (act M (Piece spe cmd elem part)) (λ N. Shows processors.new memory.new host (closed_in M (Piece spe cmd elem part) N))) (act M (Piece spe cmd elem part) ≡ None) }
+    ensures refused { OnFalse result ((processors.new ≡ processors.old) × (memory.new ≡ memory.old)) }
+    ensures size { HasSameSize memory.old.locks memory.new.locks }
+{
+    if spe as usize >= processors.len() {
+        return false;
+    }
+    let Some(reach) = processors[spe as usize].piece_step(memory, cmd, elem, part) else {
+        return false;
+    };
+    spread(processors, reach);
+    true
+}
+
+/// Does the atomic command of the slot, or leaves all as it is where it isn't allowed.
+fn act_atomic(processors: &mut [Processor], memory: &mut SharedMemory, spe: u8) -> bool
+    requires many { length processors.old ≤ 16 }
+    requires can { CanGo processors.old memory.old }
+    requires small { length memory.old.bytes ≤ 67108864 }
+    ensures made { (host : Progress) (M : State) → Shows processors.old memory.old host M → AreSettled M.spes → MatchBool result (IsSomeAnd (act M (Atomic spe)) (λ N. Shows processors.new memory.new host (closed_in M (Atomic spe) N))) (act M (Atomic spe) ≡ None) }
+    ensures refused { OnFalse result ((processors.new ≡ processors.old) × (memory.new ≡ memory.old)) }
+    ensures size { HasSameSize memory.old.locks memory.new.locks }
+{
+    if spe as usize >= processors.len() {
+        return false;
+    }
+    let Some(losers) = processors[spe as usize].atomic_step(memory, spe) else {
+        return false;
+    };
+    lose(processors, losers);
+    true
+}
+
 /// Does the step, or leaves all as it is where it isn't allowed.
 fn act(processors: &mut [Processor], memory: &mut SharedMemory, host: &mut Host, s: Step) -> bool
     requires many { length processors.old ≤ 16 }
@@ -88,16 +134,7 @@ fn act(processors: &mut [Processor], memory: &mut SharedMemory, host: &mut Host,
             cmd,
             elem,
             part,
-        } => {
-            if spe as usize >= processors.len() {
-                return false;
-            }
-            let Some(reach) = processors[spe as usize].piece_step(memory, cmd, elem, part) else {
-                return false;
-            };
-            spread(processors, reach);
-            true
-        }
+        } => act_piece(processors, memory, spe, cmd, elem, part),
         Step::Elem { spe, cmd } => {
             if spe as usize >= processors.len() {
                 return false;
@@ -110,16 +147,7 @@ fn act(processors: &mut [Processor], memory: &mut SharedMemory, host: &mut Host,
             }
             processors[spe as usize].retire_step(cmd)
         }
-        Step::Atomic { spe } => {
-            if spe as usize >= processors.len() {
-                return false;
-            }
-            let Some(losers) = processors[spe as usize].atomic_step(memory, spe) else {
-                return false;
-            };
-            lose(processors, losers);
-            true
-        }
+        Step::Atomic { spe } => act_atomic(processors, memory, spe),
         Step::Host => act_host(processors, memory, host),
     }
 }
@@ -280,9 +308,10 @@ impl Machine {
         Ok(at as u32)
     }
 
-    /// The setup that it began with, which has its processors.
+    /// The setup that it began with, which has its processors and is within the limits.
     pub fn setup(&self) -> &Setup
         ensures setup { result.now ≡ self.now.setup }
+        ensures opening { IsOpening self.now.setup }
         ensures some { 0 < length self.now.setup.entries }
         ensures count { IsSomeAnd (state_of self.now) (λ M. length M.spes ≡ length self.now.setup.entries) }
     {

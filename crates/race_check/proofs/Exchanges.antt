@@ -1,94 +1,12 @@
 -- Every order that keeps the ordered pairs is reached from the recorded one by exchanges of two neighbours that are not ordered.
-use Rattle.std.proofs.Common.{◌≡◌, ℕ, zero, suc, ◌+◌, ◌≤◌, ◌<◌, cond, List, [], ◌∷◌, ◌++◌, get_or, refl, sym, ap, ◌∙◌, subst, arith, eqb, append_assoc}
-use Rattle.std.specs.Prelude.{⊤, AllPairs, IsPermutation}
-use Rattle.std.proofs.lemmas.List.Sorted.{sum_by-IsPermutation}
-use Rattle.std.specs.List.{range_with_len, sum_by, AllByRecursion}
-use Rattle.std.proofs.lemmas.Bool.{eq-eqb, ne_eqb, cond-true, cond-false, cases_eq, cases_order}
-use Rattle.std.proofs.lemmas.Option.{slice_get-get_or}
-use Rattle.std.specs.Prelude.{slice_get, Some, None}
-use Rattle.race_check.specs.Reorderings.{ComesBefore, KeepsOrder}
+use Rattle.std.proofs.Common.{◌≡◌, ℕ, zero, suc, ◌+◌, ◌≤◌, ◌<◌, List, [], ◌∷◌, ◌++◌, get_or, refl, sym, ap, ◌∙◌, subst, arith, inl, inr, append_assoc}
+use Rattle.std.specs.Prelude.{⊤, AllPairs, slice_get, Some}
+use Rattle.std.specs.List.{range_with_len, AllByRecursion}
+use Rattle.std.proofs.lemmas.Bool.{cases_eq}
 use Rattle.std.proofs.lemmas.List.Elements.{recursion_from_All}
-use Rattle.std.proofs.lemmas.List.Sums.{sum_by-cons, sum_by-append}
-use Rattle.std.specs.Prelude.{◌⊎◌}
-use Rattle.std.proofs.Common.{inl, inr}
-
-cases_zero : (n : ℕ) → (n ≡ 0) ⊎ (0 < n)
-cases_zero zero = inl refl
-cases_zero (suc n) = inr (omega arith)
-
--- how often k stands in a list
-pub times : ℕ → List ℕ → ℕ
-times k xs = sum_by (λ i. cond (eqb i k) 1 0) xs
-
-times_none : (k : ℕ) → times k [] ≡ 0
-unfolding times
-times_none k = refl
-
-times_here : (k : ℕ) (xs : List ℕ) → times k (k ∷ xs) ≡ suc (times k xs)
-unfolding times
-times_here k xs =
-    let one : ◌≡◌ {A = ℕ} (cond (eqb k k) 1 0) 1 = cond-true (eqb k k) 1 0 (eq-eqb k k refl) in
-    omega (arith, sum_by-cons (λ i. cond (eqb i k) 1 0) k xs, one)
-
-times_there : (k y : ℕ) (xs : List ℕ) → (y ≡ k → ⊥) → times k (y ∷ xs) ≡ times k xs
-unfolding times
-times_there k y xs ne =
-    let none : ◌≡◌ {A = ℕ} (cond (eqb y k) 1 0) 0 = cond-false (eqb y k) 1 0 (ne_eqb y k ne) in
-    omega (arith, sum_by-cons (λ i. cond (eqb i k) 1 0) y xs, none)
-
-pub times_permuted : (k : ℕ) (xs ys : List ℕ) → IsPermutation xs ys → times k ys ≡ times k xs
-unfolding times
-times_permuted k xs ys h = sum_by-IsPermutation _ xs ys h
-
-times_more : (k y : ℕ) (xs : List ℕ) → times k xs ≤ times k (y ∷ xs)
-times_more k y xs = elim (cases_eq y k) [ inl e ↦ rw e (omega (arith, times_here k xs)) | inr ne ↦ omega (arith, times_there k y xs ne) ]
-
-times-append : (k : ℕ) (xs ys : List ℕ) → times k (xs ++ ys) ≡ times k xs + times k ys
-unfolding times
-times-append k xs ys = sum_by-append _ xs ys
-
--- what stands in a range lies in it
-within_range : (k a m : ℕ) → 0 < times k (range_with_len a m) → (a ≤ k) × (k < a + m)
-within_range k a zero h = absurd (omega (arith, times_none k))
-within_range k a (suc m) h =
-    elim (cases_eq a k) [
-      | inl e ↦ (omega arith, omega arith)
-      | inr ne ↦ let later : (a + 1 ≤ k) × (k < a + 1 + m) = within_range k (a + 1) m (omega (arith, times_there k a (range_with_len (a + 1) m) ne)) in (omega arith, omega arith)
-    ]
-
--- what stands at two places stands there twice
-once_more : (k : ℕ) (xs : List ℕ) (p : ℕ) → slice_get xs p ≡ Some k → 1 ≤ times k xs
-once_more k [] p e = absurd (nowhere e)
-  where
-    nowhere : None ≡ Some k → ⊥
-    nowhere e = cc
-once_more k (x ∷ xs) zero e = let q : x ≡ k = cc in rw q (omega (arith, times_here k xs))
-once_more k (x ∷ xs) (suc p) e = omega (arith, once_more k xs p e, times_more k x xs)
-
-twice : (k : ℕ) (xs : List ℕ) (p q : ℕ) → p < q → slice_get xs p ≡ Some k → slice_get xs q ≡ Some k → 2 ≤ times k xs
-twice k [] p q low e f = absurd (nowhere e)
-  where
-    nowhere : None ≡ Some k → ⊥
-    nowhere e = cc
-twice k (x ∷ xs) zero zero low e f = absurd (omega arith)
-twice k (x ∷ xs) zero (suc q) low e f = let r : x ≡ k = cc in rw r (omega (arith, times_here k xs, once_more k xs q f))
-twice k (x ∷ xs) (suc p) zero low e f = absurd (omega arith)
-twice k (x ∷ xs) (suc p) (suc q) low e f = omega (arith, twice k xs p q (omega arith) e f, times_more k x xs)
-
--- in a range each stands at most once
-range_once : (k a m : ℕ) → times k (range_with_len a m) ≤ 1
-range_once k a zero = omega (arith, times_none k)
-range_once k a (suc m) =
-    elim (cases_eq a k) [
-      | inl e ↦
-          let far : List ℕ = range_with_len (a + 1) m in
-          let here : times k (a ∷ far) ≡ suc (times k far) = subst (λ x. times k (x ∷ far) ≡ suc (times k far)) (sym e) (times_here k far) in
-          elim (cases_zero (times k far)) [
-            | inl z ↦ omega (arith, here, z)
-            | inr more ↦ absurd (omega (arith, within_range k (a + 1) m more, e))
-          ]
-      | inr ne ↦ omega (arith, times_there k a (range_with_len (a + 1) m) ne, range_once k (a + 1) m)
-    ]
+use Rattle.std.proofs.lemmas.Option.{slice_get-get_or}
+use Rattle.race_check.specs.Reorderings.{ComesBefore, KeepsOrder}
+use Rattle.race_check.proofs.Times.{times, times_none, times_here, times_there, times_more, times-append, times_permuted, within_range, once_more, range_once, one_place}
 
 -- where i comes before j whenever Before i j, none stands before one that is to come before it
 pub pairs_from_kept : (Before : ℕ → ℕ → Type 0) (n : ℕ) (order : List ℕ) → ((k : ℕ) → times k order ≡ times k (range_with_len 0 n)) → ((i j : ℕ) → i < n → j < n → Before i j → ComesBefore order i j) → AllPairs (λ i j. Before j i → ⊥) order
@@ -106,12 +24,7 @@ pairs_from_kept Before n order counts kept p q d low high b =
     inside k x e = let w : (0 ≤ x) × (x < 0 + n) = within_range x 0 n (omega (arith, once_more x order k e, counts x)) in omega arith
 
     single : (x k m : ℕ) → slice_get order k ≡ Some x → slice_get order m ≡ Some x → k ≡ m
-    single x k m e f =
-        elim (cases_order k m) [
-          | inl same ↦ same
-          | inr (inl less) ↦ absurd (omega (arith, twice x order k m less e f, counts x, range_once x 0 n))
-          | inr (inr more) ↦ absurd (omega (arith, twice x order m k more f e, counts x, range_once x 0 n))
-        ]
+    single x k m = one_place x order k m (omega (arith, counts x, range_once x 0 n))
 
 -- the first x with what stands before it and behind it
 record Split (x : ℕ) (ys : List ℕ) : Type 0 where

@@ -1,3 +1,4 @@
+pub mod Times
 pub mod Exchanges
 pub mod Apart
 pub mod Agree

@@ -25,3 +25,4 @@ mod stamps;
 
 pub use error::OrderError;
 pub use orderer::Orderer;
+pub use progress::{Progress, begin, step_on};

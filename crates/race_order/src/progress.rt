@@ -11,13 +11,13 @@ use mfc_command::{Command, Kind};
 /// How far a queued command has come: the elements that were read of a list; the pieces that are left of the transfer
 /// or of the element that was read last; whether that element is flagged; whether the list is stalled after it.
 #[derive(Clone, Copy)]
-pub(crate) struct Progress {
-    pub(crate) command: Command,
-    pub(crate) read: u32,
-    pub(crate) left: u32,
-    pub(crate) flagged: bool,
-    pub(crate) stalled: bool,
-    pub(crate) done: bool,
+pub struct Progress {
+    pub command: Command,
+    pub read: u32,
+    pub left: u32,
+    pub flagged: bool,
+    pub stalled: bool,
+    pub done: bool,
 }
 
 fn single(kind: Kind) -> bool
@@ -52,7 +52,7 @@ fn parts(command: &Command) -> u32
 }
 
 /// A command that was just issued.
-pub(crate) fn begin(command: Command) -> Progress
+pub fn begin(command: Command) -> Progress
     ensures { result ≡ begun command }
 {
     let left = if transfers(&command) {
@@ -158,7 +158,7 @@ fn acknowledged(progress: Progress, note: Note) -> Progress
 }
 
 /// The progress of command `cmd` of `spe` after a step.
-pub(crate) fn step_on(spe: u8, cmd: u32, progress: Progress, step: Step, note: Note) -> Progress
+pub fn step_on(spe: u8, cmd: u32, progress: Progress, step: Step, note: Note) -> Progress
     requires { progress.read + 1 < 2 ^ 32 }
     ensures { result ≡ stepped spe cmd progress step note }
 {

@@ -1,17 +1,18 @@
 -- Chains, and how many of their steps are ordered before a step.
-use Rattle.std.proofs.Common.{◌≡◌, ℕ, zero, suc, ◌+◌, ◌-◌, ◌<◌, ◌≤◌, List, [], ◌∷◌, ◌++◌, length, map, get_or, refl, sym, ap, ◌∙◌, subst, arith, ◌⊎◌, inl, inr, Some, None, Option}
+use Rattle.std.proofs.Common.{◌≡◌, ℕ, zero, suc, ◌+◌, ◌-◌, ◌<◌, ◌≤◌, List, [], ◌∷◌, ◌++◌, length, get_or, refl, sym, ap, ◌∙◌, subst, arith, ◌⊎◌, inl, inr, Some, None, Option}
 use Rattle.std.specs.Prelude.{slice_get}
 use Rattle.std.proofs.lemmas.Bool.{cases_lt}
 use Rattle.std.proofs.lemmas.List.{length_push}
 use Rattle.std.proofs.lemmas.Option.{same_Some, none-some, slice_get_within, slice_get-get_or, get_or_from_slice_get}
 use Rattle.cell_machine.specs.Run.{Ran}
 use Rattle.run_frames.specs.OrderedLaws.{IsOrdered}
-use Rattle.reorder.specs.Lists.{IsIn, Each, AreChanged}
+use Rattle.settled.specs.Lists.{IsIn, Each}
 use Rattle.reorder.specs.Needs.{IsCovered}
-use Rattle.reorder.specs.Tracks.{IsChain, IsEnd, IsUntil, MayBeUntil, IsLoose, IsTrack, IsOn, CoversTrack, IsNotBelow, IsFound, IsClosed}
-use Rattle.reorder.specs.declared.track.Loose.{Loose}
+use Rattle.reorder.specs.Tracks.{IsChain, IsEnd, IsUntil, MayBeUntil, IsLoose, IsBlock, IsTrack, IsOnBlock, IsOn, CoversTrack, IsNotBelow, IsFound, IsBlockFound, IsClosed}
+use Rattle.reorder.specs.declared.block.Loose.{Loose}
 use Rattle.reorder.specs.declared.track.Track.{Track}
 use Rattle.reorder.proofs.Entries.{at-in}
+use Rattle.reorder.proofs.Ones.{one-in}
 use Rattle.reorder.proofs.Ordered.{ordered-trans, ordered-up}
 
 -- ---- the end of a chain
@@ -47,9 +48,6 @@ end-from m j chain e is within not-there last = record { within = within; before
             let same : x ≡ e = omega (arith, high, l) in
             let value : a ≡ get_or chain e 0 = sym (get_or_from_slice_get chain x a 0 at) ∙ ap (λ k. get_or chain k 0) same in
             not-there (omega (arith, high, low)) (subst (λ b. IsOrdered m b j) value o)
-
-pub chain-none : (m : Ran) (j : ℕ) → IsChain m j []
-chain-none m j = record { below = λ x a at. absurd (none-some a at); ordered = λ x y a b low at there. absurd (none-some a at) }
 
 pub chain-later : (m : Ran) (j : ℕ) (chain : List ℕ) → IsChain m j chain → IsChain m (j + 1) chain
 chain-later m j chain is = record { below = λ x a at. (let l : a < j = is.below x a at in omega arith); ordered = is.ordered }
@@ -152,25 +150,12 @@ loose-closed m j chain l n closed is =
         let there : IsUntil m (chain ++ j ∷ []) n.place (length chain) = record { next = j; at = push-last chain j; ordered = subst (λ p. IsOrdered m p j) (sym closed.place) h.1 } in
         subst (MayBeUntil m (chain ++ j ∷ []) n.place) (sym h.0) there
 
-pub places-closed : (m : Ran) (j index n : ℕ) (ls ns : List Loose) → length ls ≤ n → AreChanged (IsClosed m j index) n ls ns → map (λ (l : Loose). l.place) ns ≡ map (λ (l : Loose). l.place) ls
-places-closed m j index zero [] ns long h = ap (map (λ (l : Loose). l.place)) h
-places-closed m j index zero (l ∷ ls) ns long h = absurd (omega arith)
-places-closed m j index (suc n) [] ns long h = ap (map (λ (l : Loose). l.place)) h
-places-closed m j index (suc n) (l ∷ ls) [] long h = absurd h
-places-closed m j index (suc n) (l ∷ ls) (k ∷ ks) long h = ap (λ p. p ∷ map (λ (l : Loose). l.place) ks) h.0.place ∙ ap (λ ps. l.place ∷ ps) (places-closed m j index n ls ks (omega arith) h.1)
-
--- a step of the list with what is so of it
-pub loose-in : (P Q : Loose → Type 0) (ls : List Loose) (i : ℕ) → Each P ls → Each Q ls → IsIn i (map (λ (l : Loose). l.place) ls) → (l : Loose) × P l × Q l × (l.place ≡ i)
-loose-in P Q [] i p q h = absurd h
-loose-in P Q (l ∷ ls) i p q (inl e) = (l, p.0, q.0, e)
-loose-in P Q (l ∷ ls) i p q (inr h) = loose-in P Q ls i p.1 q.1 h
-
 -- ---- what covers a track
 
 pub covers-more : (m : Ran) (j : ℕ) (t : Track) (needs more : List ℕ) → ((k : ℕ) → IsIn k needs → IsIn k more) → CoversTrack m j t needs → CoversTrack m j t more
 covers-more m j t needs more kept covers i on o = let c = covers i on o in record { need = c.need; within = kept c.need c.within; covers = c.covers }
 
-pub covers-track : (m : Ran) (j : ℕ) (t : Track) (end : ℕ) (needs : List ℕ) → IsTrack m j t → IsEnd m j t.chain.items end → (0 < end → IsIn (get_or t.chain.items (end - 1) 0) needs) → Each (IsFound m j end needs) t.loose.items → CoversTrack m j t needs
+pub covers-track : (m : Ran) (j : ℕ) (t : Track) (end : ℕ) (needs : List ℕ) → IsTrack m j t → IsEnd m j t.chain.items end → (0 < end → IsIn (get_or t.chain.items (end - 1) 0) needs) → Each (IsBlockFound m j end needs) t.blocks.items → CoversTrack m j t needs
 covers-track m j t end needs is is-end last found i on o = by on
   where
     -- what is ordered before a step of the chain below the end
@@ -221,5 +206,6 @@ covers-track m j t end needs is is-end last found i on o = by on
     by : IsOn t i → IsCovered (IsOrdered m) needs i
     by (inl h) = in-chain (at-in t.chain.items i h)
     by (inr h) =
-        let r = loose-in (IsLoose m j t.chain.items) (IsFound m j end needs) t.loose.items i is.loose found h in
+        let b = one-in (IsBlock m j t.chain.items) (IsBlockFound m j end needs) (IsOnBlock i) t.blocks.items is.blocks found h in
+        let r = one-in (IsLoose m j t.chain.items) (IsFound m j end needs) (λ (l : Loose). l.place ≡ i) b.0.steps.items b.1.loose b.2 b.3 in
         by-until r.0 r.0.until refl r.1 r.2 r.3 r.1.low

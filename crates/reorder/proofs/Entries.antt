@@ -6,7 +6,8 @@ use Rattle.std.specs.declared.alloc.Global.{Global}
 use Rattle.std.proofs.lemmas.Bool.{cases_eq}
 use Rattle.std.proofs.lemmas.List.{take_more}
 use Rattle.std.proofs.lemmas.Option.{none-some, same_Some, slice_get-get_or}
-use Rattle.reorder.specs.Lists.{IsIn, list_at}
+use Rattle.settled.specs.Lists.{IsIn}
+use Rattle.reorder.specs.Lists.{list_at}
 
 pub in-at : (xs : List ℕ) (k j : ℕ) → slice_get xs k ≡ Some j → IsIn j xs
 in-at [] k j h = absurd (none-some j h)

@@ -2,11 +2,12 @@ pub mod Entries
 pub mod Ordered
 pub mod Rising
 pub mod Changes
+pub mod Ones
+pub mod Bounds
 pub mod Frees
-pub mod Using
+pub mod Waiters
 pub mod Nths
 pub mod Stages
-pub mod Walking
 pub mod Ends
 pub mod Added
 pub mod Needing

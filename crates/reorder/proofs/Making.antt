@@ -1,5 +1,5 @@
 -- The steps at the places of an order, one by one.
-use Rattle.std.proofs.Common.{◌≡◌, ℕ, zero, suc, ◌+◌, ◌<◌, List, [], ◌∷◌, ◌++◌, length, take, get_or, refl, sym, ap, ◌∙◌, subst, arith, inl, inr, Option, Some, None}
+use Rattle.std.proofs.Common.{◌≡◌, ℕ, zero, suc, ◌+◌, ◌<◌, List, [], ◌∷◌, ◌++◌, length, take, get_or, refl, sym, ap, ap₂, ◌∙◌, subst, arith, inl, inr, Option, Some, None}
 use Rattle.std.specs.Prelude.{slice_get, IsSome}
 use Rattle.std.proofs.lemmas.List.{take_more}
 use Rattle.std.proofs.lemmas.List.Elements.{filter_map-append}
@@ -7,7 +7,7 @@ use Rattle.std.proofs.lemmas.Option.{slice_get-get_or}
 use Rattle.cell_base.specs.declared.steps.Step.{Step}
 use Rattle.cell_machine.specs.Limits.{IsOpening}
 use Rattle.cell_machine.specs.Opening.{Opening}
-use Rattle.cell_machine.specs.Run.{Ran, IsRun, next_of}
+use Rattle.cell_machine.specs.Run.{Ran, IsRun, next_of, replay, state_of}
 use Rattle.race_check.specs.Races.{IsVerdict}
 use Rattle.race_check.specs.Reorderings.{at_places, IsReordering, KeepsOrder}
 use Rattle.race_check.specs.declared.check.Verdict.TheVariants.{Accepted}
@@ -18,10 +18,10 @@ use Rattle.race_order.proofs.OrderedRuns.{trace-is, trace-long}
 use Rattle.cell_machine.specs.Opening.{opening}
 use Rattle.run_frames.specs.OrderedLaws.{IsOrdered}
 use Rattle.run_permute.specs.Settled.{IsSettled}
-use Rattle.run_permute.specs.Theorem.{EveryReorderingIsARun}
+use Rattle.run_permute.specs.Theorem.{EveryReorderingIsARun, IsRunAgain}
 use Rattle.run_permute.proofs.Whole.{settled-runs-reorder}
-use Rattle.reorder.specs.Lists.{IsIn}
-use Rattle.reorder.specs.Nth.{IsNth}
+use Rattle.settled.specs.Lists.{IsIn}
+use Rattle.reorder.specs.Nth.{EndsAlike, IsNth}
 use Rattle.reorder.proofs.Nths.{nth-keeps-order}
 
 one-place : {X : Type 0} (xs : List X) (i : ℕ) (x : X) → slice_get xs i ≡ Some x → at_places xs (i ∷ []) ≡ x ∷ []
@@ -64,17 +64,22 @@ may-go-on setup steps order k s before run inside low made at =
     let r : Ran = record { setup = setup; steps = at_places steps order } in
     may-make r k s before run (made ∙ ap (λ (xs : List Step). let m : Ran = record { setup = setup; steps = xs } in m) (sym (places-take steps order k inside))) (places-at steps order k (get_or order k 0) s inside (slice_get-get_or order k 0 low) at)
 
--- ---- the reordering of a number is a run
+-- ---- the reordering of a number is a run, and ends alike
 
-pub nth-runs : (m : Ran) (number : ℕ) (order : List ℕ) → IsOpening m.setup → IsRun m.setup m.steps → IsVerdict m Accepted → IsSettled m → IsNth m number order → IsRun m.setup (at_places m.steps order)
-nth-runs m number order opens run accepted settled nth = on (settled-runs-reorder m opens run accepted settled)
+pub nth-again : (m : Ran) (number : ℕ) (order : List ℕ) → IsOpening m.setup → IsRun m.setup m.steps → IsVerdict m Accepted → IsSettled m → IsNth m number order → IsRunAgain m order
+nth-again m number order opens run accepted settled nth = on (settled-runs-reorder m opens run accepted settled)
   where
     keeps : KeepsOrder (IsOrdered m) (length m.steps) order
     keeps = nth-keeps-order (IsOrdered m) (length m.steps) number order nth
 
-    on : EveryReorderingIsARun m → IsRun m.setup (at_places m.steps order)
+    on : EveryReorderingIsARun m → IsRunAgain m order
     on e =
         let same : trace_in m ≡ e.trace = trace-is m e.trace e.is in
         let long : length (trace_in m) ≡ length m.steps = trace-long (opening m.setup) m.steps (trace_in m) (run-told m run) in
         let reordering : IsReordering (trace_in m) order = subst (λ n. KeepsOrder (IsOrdered m) n order) (sym long) keeps in
-        (e.again order (subst (λ (t : Trace). IsReordering t order) same reordering)).run
+        e.again order (subst (λ (t : Trace). IsReordering t order) same reordering)
+
+pub ends-alike : (m : Ran) (order : List ℕ) (x : Ran) → IsRunAgain m order → x.setup ≡ m.setup → x.steps ≡ at_places m.steps order → EndsAlike m x
+ends-alike m order x again setup steps =
+    let same : state_of x ≡ replay (opening m.setup) (at_places m.steps order) = ap₂ (λ S steps. replay (opening S) steps) setup steps in
+    λ M N is leads. again.ends M N is (sym same ∙ leads)

@@ -8,8 +8,8 @@ use Rattle.cell_machine.specs.Opening.{Opening}
 use Rattle.cell_machine.specs.Run.{Ran, IsRun}
 use Rattle.reorder.specs.Lists.{list_at}
 use Rattle.reorder.specs.Needs.{AreNeedsOf, AreNeeds}
-use Rattle.reorder.specs.Walks.{IsAt}
-use Rattle.reorder.specs.declared.walk.Walk.{Walk}
+use Rattle.settled.specs.Walks.{IsAt}
+use Rattle.settled.specs.declared.walk.Walk.{Walk}
 use Rattle.reorder.proofs.Entries.{list-push, list-front}
 
 pub begun-walk : (m : Ran) (setup : Opening) (w : Walk) → setup ≡ m.setup → IsRun m.setup m.steps → IsAt w (record { setup = setup; steps = [] }) 0 → IsAt w m 0

@@ -9,7 +9,7 @@ use Rattle.std.proofs.lemmas.List.FromFn.{length-range_with_len}
 use Rattle.std.proofs.lemmas.List.Sorted.{IsPermutation-refl, IsPermutation-more, length_permutation}
 use Rattle.std.proofs.lemmas.Option.{same_Some, slice_get_within, get_or_from_slice_get}
 use Rattle.race_check.specs.Reorderings.{ComesBefore, KeepsOrder}
-use Rattle.reorder.specs.Lists.{IsIn}
+use Rattle.settled.specs.Lists.{IsIn}
 use Rattle.reorder.specs.Nth.{IsFree, AreFree, IsChosen, AreChosen, IsNthOf}
 use Rattle.reorder.proofs.Entries.{in-at, at-in, in-left, in-kept, is-in, entry}
 use Rattle.reorder.proofs.Rising.{rising-same}

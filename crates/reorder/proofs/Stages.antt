@@ -3,17 +3,19 @@ use Rattle.std.proofs.Common.{◌≡◌, ℕ, zero, suc, ◌+◌, ◌*◌, ◌%�
 use Rattle.std.specs.Prelude.{◌↔◌, slice_get, Vec}
 use Rattle.std.specs.List.{remove}
 use Rattle.std.specs.declared.alloc.Global.{Global}
+use Rattle.std.proofs.lemmas.Bool.{cases_eq}
 use Rattle.std.proofs.lemmas.List.{length-set}
 use Rattle.std.proofs.lemmas.Option.{none-some, same_Some}
 use Rattle.cell_machine.specs.Run.{Ran}
 use Rattle.run_frames.specs.OrderedLaws.{IsOrdered}
-use Rattle.reorder.specs.Lists.{IsIn, IsRising, list_at}
+use Rattle.settled.specs.Lists.{IsIn}
+use Rattle.reorder.specs.Lists.{IsRising, list_at}
 use Rattle.reorder.specs.Nth.{IsFree, AreFree, IsChosen, AreChosen}
 use Rattle.reorder.specs.Needs.{IsCovered, AreNeeds}
-use Rattle.reorder.specs.Choices.{IsTaken, IsReady, AreUsers, AreInside, IsStage}
+use Rattle.reorder.specs.Choices.{IsTaken, IsReady, IsWaiting, IsSeen, IsSound, AreInside, IsStage}
 use Rattle.reorder.specs.declared.order.Order.{Order}
-use Rattle.reorder.proofs.Entries.{in-at, at-in, in-push, in-remove, in-kept, is-in, list-past}
-use Rattle.reorder.proofs.Rising.{removed}
+use Rattle.reorder.proofs.Entries.{in-at, at-in, in-push, in-remove, in-kept, list-past}
+use Rattle.reorder.proofs.Rising.{removed, rising-remove}
 use Rattle.reorder.proofs.Nths.{closed, some-free}
 use Rattle.reorder.proofs.Ordered.{ordered-up}
 
@@ -52,75 +54,91 @@ none-taken (suc n) (suc j) h = none-taken n j h
 
 -- ---- one step is taken
 
-module _ (needs users : List (Vec ℕ Global)) (taken : List Bool) (places : List ℕ) (at step : ℕ) (long : length taken ≡ length needs) (are : AreUsers needs users) (up : IsRising places)
-    (exactly : (j : ℕ) → IsIn j places ↔ IsReady needs taken j) (is : slice_get places at ≡ Some step) where
-  pub step-ready : IsReady needs taken step
-  step-ready = (exactly step).0 (in-at places at step is)
+module _ (needs : List (Vec ℕ Global)) (o : Order) (at step : ℕ) (stage : IsStage needs o) (is : slice_get o.free.items at ≡ Some step) where
+  pub step-ready : IsReady needs o.taken.items step
+  step-ready = stage.sound.ready step (in-at o.free.items at step is)
 
-  set-is : (j : ℕ) → IsTaken (set taken step true) j ↔ (IsTaken taken j ⊎ (j ≡ step))
-  set-is j = taken-set taken step j step-ready.within
+  pub step-low : step < length needs
+  step-low = let l : step < length o.taken.items = step-ready.within in let e : length o.taken.items ≡ length needs = stage.sound.long in omega arith
 
-  still : (j : ℕ) → (j ≡ step → ⊥) → IsTaken (set taken step true) j → IsTaken taken j
+  set-is : (j : ℕ) → IsTaken (set o.taken.items step true) j ↔ (IsTaken o.taken.items j ⊎ (j ≡ step))
+  set-is j = taken-set o.taken.items step j step-ready.within
+
+  still : (j : ℕ) → (j ≡ step → ⊥) → IsTaken (set o.taken.items step true) j → IsTaken o.taken.items j
   still j other h = on ((set-is j).0 h)
     where
-      on : IsTaken taken j ⊎ (j ≡ step) → IsTaken taken j
+      on : IsTaken o.taken.items j ⊎ (j ≡ step) → IsTaken o.taken.items j
       on (inl k) = k
       on (inr e) = absurd (other e)
 
   -- those that were free still are
-  kept : (j : ℕ) → IsIn j (remove places at) → IsReady needs (set taken step true) j
+  kept : (j : ℕ) → IsIn j (remove o.free.items at) → IsReady needs (set o.taken.items step true) j
   kept j h =
-      let r = (exactly j).0 (in-remove places at j h) in
+      let r = stage.sound.ready j (in-remove o.free.items at j h) in
       record {
-        within = (let l : j < length taken = r.within in let e = length-set taken step true in omega (arith, l, e));
-        left = λ t. r.left (still j (λ e. removed places at step up is (subst (λ k. IsIn k (remove places at)) e h)) t);
+        within = (let l : j < length o.taken.items = r.within in let e = length-set o.taken.items step true in omega (arith, l, e));
+        left = λ t. r.left (still j (λ e. removed o.free.items at step stage.sound.rising is (subst (λ k. IsIn k (remove o.free.items at)) e h)) t);
         needs_taken = λ i n. (set-is i).1 (inl (r.needs_taken i n));
       }
 
-  -- those that come to be free need the step
-  fresh : (j : ℕ) → IsReady needs (set taken step true) j → IsIn j (remove places at) ⊎ IsIn j (list_at users step)
-  fresh j r = on (is-in (list_at needs j) step)
+  taken-more : (j : ℕ) → IsTaken (set o.taken.items step true) j ↔ IsIn j (o.steps.items ++ step ∷ [])
+  taken-more j = ((λ t. (in-push o.steps.items step j).1 (out ((set-is j).0 t))), λ k. (set-is j).1 (into ((in-push o.steps.items step j).0 k)))
     where
-      other : j ≡ step → ⊥
-      other e = r.left ((set-is j).1 (inr e))
-
-      away : IsIn j (remove places at) ⊎ (j ≡ step) → IsIn j (remove places at)
-      away (inl h) = h
-      away (inr e) = absurd (other e)
-
-      old : (IsIn step (list_at needs j) → ⊥) → IsReady needs taken j
-      old free =
-          record {
-            within = (let l : j < length (set taken step true) = r.within in let e = length-set taken step true in omega (arith, l, e));
-            left = λ t. r.left ((set-is j).1 (inl t));
-            needs_taken = λ i n. still i (λ e. free (subst (λ k. IsIn k (list_at needs j)) e n)) (r.needs_taken i n);
-          }
-
-      on : IsIn step (list_at needs j) ⊎ (IsIn step (list_at needs j) → ⊥) → IsIn j (remove places at) ⊎ IsIn j (list_at users step)
-      on (inl n) = inr (are.all step j n)
-      on (inr free) = inl (away (in-kept places at j step is ((exactly j).1 (old free))))
-
-  pub taken-exactly : (more : List ℕ) → ((k : ℕ) → IsIn k more ↔ (IsIn k (remove places at) ⊎ (IsIn k (list_at users step) × IsReady needs (set taken step true) k))) → (j : ℕ) → IsIn j more ↔ IsReady needs (set taken step true) j
-  taken-exactly more h j = ((λ k. out ((h j).0 k)), λ r. (h j).1 (into r (fresh j r)))
-    where
-      out : IsIn j (remove places at) ⊎ (IsIn j (list_at users step) × IsReady needs (set taken step true) j) → IsReady needs (set taken step true) j
-      out (inl k) = kept j k
-      out (inr k) = k.1
-
-      into : IsReady needs (set taken step true) j → IsIn j (remove places at) ⊎ IsIn j (list_at users step) → IsIn j (remove places at) ⊎ (IsIn j (list_at users step) × IsReady needs (set taken step true) j)
-      into r (inl k) = inl k
-      into r (inr k) = inr (k, r)
-
-  pub taken-more : (order : List ℕ) → ((j : ℕ) → IsTaken taken j ↔ IsIn j order) → (j : ℕ) → IsTaken (set taken step true) j ↔ IsIn j (order ++ step ∷ [])
-  taken-more order h j = ((λ t. (in-push order step j).1 (out ((set-is j).0 t))), λ k. (set-is j).1 (into ((in-push order step j).0 k)))
-    where
-      out : IsTaken taken j ⊎ (j ≡ step) → IsIn j order ⊎ (j ≡ step)
-      out (inl t) = inl ((h j).0 t)
+      out : IsTaken o.taken.items j ⊎ (j ≡ step) → IsIn j o.steps.items ⊎ (j ≡ step)
+      out (inl t) = inl ((stage.sound.taken j).0 t)
       out (inr e) = inr e
 
-      into : IsIn j order ⊎ (j ≡ step) → IsTaken taken j ⊎ (j ≡ step)
-      into (inl k) = inl ((h j).1 k)
+      into : IsIn j o.steps.items ⊎ (j ≡ step) → IsTaken o.taken.items j ⊎ (j ≡ step)
+      into (inl k) = inl ((stage.sound.taken j).1 k)
       into (inr e) = inr e
+
+  pub taken-sound : (n : Order) → n.taken.items ≡ set o.taken.items step true → n.steps.items ≡ o.steps.items ++ step ∷ [] → n.free.items ≡ remove o.free.items at → length n.waiting.items ≡ length o.waiting.items
+      → ((a k : ℕ) → IsIn k (list_at n.waiting.items a) → IsIn k (list_at o.waiting.items a)) → IsSound needs n
+  taken-sound n taken steps free lists within =
+      record {
+        long = ap length taken ∙ length-set o.taken.items step true ∙ stage.sound.long;
+        lists = lists ∙ stage.sound.lists;
+        taken = subst (λ (xs : List ℕ). (j : ℕ) → IsTaken n.taken.items j ↔ IsIn j xs) (sym steps) (subst (λ (bs : List Bool). (j : ℕ) → IsTaken bs j ↔ IsIn j (o.steps.items ++ step ∷ [])) (sym taken) taken-more);
+        rising = subst IsRising (sym free) (rising-remove o.free.items at stage.sound.rising);
+        ready = subst (λ (bs : List Bool). (j : ℕ) → IsIn j n.free.items → IsReady needs bs j) (sym taken) (subst (λ (xs : List ℕ). (j : ℕ) → IsIn j xs → IsReady needs (set o.taken.items step true) j) (sym free) kept);
+        there = λ i j h. stage.sound.there i j (within i j h);
+      }
+
+  -- all others are seen still, but for those that waited for the step
+  pub taken-seen : (n : Order) (waiters : List ℕ) → n.taken.items ≡ set o.taken.items step true → n.free.items ≡ remove o.free.items at → waiters ≡ list_at o.waiting.items step
+      → ((a : ℕ) → (a ≡ step → ⊥) → list_at n.waiting.items a ≡ list_at o.waiting.items a) → (k : ℕ) → k < length needs → IsSeen needs n k ⊎ IsIn k waiters
+  taken-seen n waiters taken free are others k low = on (stage.seen k low)
+    where
+      flag : IsTaken o.taken.items k ⊎ (k ≡ step) → IsTaken n.taken.items k
+      flag h = subst (λ (bs : List Bool). IsTaken bs k) (sym taken) ((set-is k).1 h)
+
+      on-free : IsIn k (remove o.free.items at) ⊎ (k ≡ step) → IsSeen needs n k ⊎ IsIn k waiters
+      on-free (inl h) = inl (inr (inl (subst (IsIn k) (sym free) h)))
+      on-free (inr e) = inl (inl (flag (inr e)))
+
+      on-waiting : (w : IsWaiting needs o k) → (w.at ≡ step) ⊎ (w.at ≡ step → ⊥) → IsSeen needs n k ⊎ IsIn k waiters
+      on-waiting w (inl e) = inr (subst (IsIn k) (sym are) (subst (λ a. IsIn k (list_at o.waiting.items a)) e w.listed))
+      on-waiting w (inr d) =
+          inl (inr (inr (record {
+            at = w.at;
+            needed = w.needed;
+            left = λ t. w.left (still w.at d (subst (λ (bs : List Bool). IsTaken bs w.at) taken t));
+            listed = subst (IsIn k) (sym (others w.at d)) w.listed;
+          })))
+
+      on : IsSeen needs o k → IsSeen needs n k ⊎ IsIn k waiters
+      on (inl t) = inl (inl (flag (inl t)))
+      on (inr (inl h)) = on-free (in-kept o.free.items at k step is h)
+      on (inr (inr w)) = on-waiting w (cases_eq w.at step)
+
+-- the free steps are all that are ready
+pub stage-exactly : (needs : List (Vec ℕ Global)) (o : Order) → IsStage needs o → (j : ℕ) → IsIn j o.free.items ↔ IsReady needs o.taken.items j
+stage-exactly needs o stage j = (stage.sound.ready j, λ r. into r (stage.seen j (let l : j < length o.taken.items = r.within in let e : length o.taken.items ≡ length needs = stage.sound.long in omega arith)))
+  where
+    into : IsReady needs o.taken.items j → IsSeen needs o j → IsIn j o.free.items
+    into r (inl t) = absurd (r.left t)
+    into r (inr (inl h)) = h
+    into r (inr (inr w)) = absurd (w.left (r.needs_taken w.at w.needed))
 
 -- ---- what is ready is free
 
@@ -133,10 +151,13 @@ inside-from m n needs are i j h =
 
 module _ (m : Ran) (n number : ℕ) (needs : List (Vec ℕ Global)) (are : AreNeeds (IsOrdered m) n needs) (f : Order) (stage : IsStage needs f) (chosen : AreChosen (IsOrdered m) n number f.steps.items) where
   size : length f.taken.items ≡ n
-  size = stage.long ∙ are.all
+  size = stage.sound.long ∙ are.all
+
+  exactly : (j : ℕ) → IsIn j f.free.items ↔ IsReady needs f.taken.items j
+  exactly = stage-exactly needs f stage
 
   ready-free : (j : ℕ) → IsReady needs f.taken.items j → IsFree (IsOrdered m) n f.steps.items j
-  ready-free j r = record { within = within; left = λ h. r.left ((stage.taken j).1 h); ready = ready }
+  ready-free j r = record { within = within; left = λ h. r.left ((stage.sound.taken j).1 h); ready = ready }
     where
       within : j < n
       within = let l : j < length f.taken.items = r.within in let e : length f.taken.items ≡ n = size in omega arith
@@ -149,23 +170,23 @@ module _ (m : Ran) (n number : ℕ) (needs : List (Vec ℕ Global)) (are : AreNe
           by k h (inr o) = closed (IsOrdered m) n number f.steps.items chosen i k low o h
 
           on : IsCovered (IsOrdered m) (list_at needs j) i → IsIn i f.steps.items
-          on c = by c.need ((stage.taken c.need).0 (r.needs_taken c.need c.within)) c.covers
+          on c = by c.need ((stage.sound.taken c.need).0 (r.needs_taken c.need c.within)) c.covers
 
   free-ready : (j : ℕ) → IsFree (IsOrdered m) n f.steps.items j → IsReady needs f.taken.items j
   free-ready j free =
       record {
         within = (let l : j < n = free.within in let e : length f.taken.items ≡ n = size in omega arith);
-        left = λ t. free.left ((stage.taken j).0 t);
-        needs_taken = λ i h. (let o = (are.each j free.within).sound i h in let up : i < j = ordered-up m i j o in let l : j < n = free.within in (stage.taken i).1 (free.ready i (omega arith) o));
+        left = λ t. free.left ((stage.sound.taken j).0 t);
+        needs_taken = λ i h. (let o = (are.each j free.within).sound i h in let up : i < j = ordered-up m i j o in let l : j < n = free.within in (stage.sound.taken i).1 (free.ready i (omega arith) o));
       }
 
   are-free : AreFree (IsOrdered m) n f.steps.items f.free.items
-  are-free = record { rising = stage.rising; exactly = λ j. ((λ h. ready-free j ((stage.exactly j).0 h)), λ h. (stage.exactly j).1 (free-ready j h)) }
+  are-free = record { rising = stage.sound.rising; exactly = λ j. ((λ h. ready-free j ((exactly j).0 h)), λ h. (exactly j).1 (free-ready j h)) }
 
   pub some-place : length f.steps.items < n → 0 < length f.free.items
   some-place few =
       let s = some-free (IsOrdered m) n number f.steps.items (ordered-up m) few in
-      let r = at-in f.free.items s.0 ((stage.exactly s.0).1 (free-ready s.0 s.1)) in
+      let r = at-in f.free.items s.0 ((exactly s.0).1 (free-ready s.0 s.1)) in
       let l : r.0 < length f.free.items = r.1 in
       omega arith
 

@@ -6,7 +6,8 @@ use Rattle.std.proofs.lemmas.Bool.{cases_lt}
 use Rattle.std.proofs.lemmas.List.{take_all}
 use Rattle.std.proofs.lemmas.Nat.{mod-mul-add}
 use Rattle.std.proofs.lemmas.Option.{same_Some}
-use Rattle.reorder.specs.Lists.{IsIn, IsRising}
+use Rattle.settled.specs.Lists.{IsIn}
+use Rattle.reorder.specs.Lists.{IsRising}
 use Rattle.reorder.specs.Nth.{IsFree, IsChosen, IsNthOf}
 use Rattle.reorder.proofs.Entries.{entry}
 use Rattle.reorder.proofs.Nths.{one-more, in-range, free-at}

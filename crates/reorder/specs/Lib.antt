@@ -3,5 +3,4 @@ pub mod Nth
 pub mod Laws
 pub mod Needs
 pub mod Choices
-pub mod Walks
 pub mod Tracks

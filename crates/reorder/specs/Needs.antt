@@ -1,7 +1,8 @@
 -- The steps that each step needs directly: what else is ordered before it is ordered before one of these.
 use Rattle.std.specs.Prelude.{◌≡◌, ℕ, ◌<◌, ◌⊎◌, List, length, Vec}
 use Rattle.std.specs.declared.alloc.Global.{Global}
-use Rattle.reorder.specs.Lists.{IsIn, list_at}
+use Rattle.settled.specs.Lists.{IsIn}
+use Rattle.reorder.specs.Lists.{list_at}
 
 -- i is one of them or ordered before one of them
 pub record IsCovered (Before : ℕ → ℕ → Type 0) (needs : List ℕ) (i : ℕ) : Type 0 where

@@ -1,9 +1,12 @@
 -- The reordering of a number: place by place, of the steps that may stand there, the one that the number chooses.
 use Rattle.std.specs.Prelude.{◌≡◌, ℕ, ◌+◌, ◌*◌, ◌%◌, ◌<◌, ◌↔◌, List, length, take, Some, slice_get}
-use Rattle.cell_machine.specs.Run.{Ran}
+use Rattle.cell_machine.specs.Run.{Ran, state_of}
+use Rattle.cell_machine.specs.State.{State}
 use Rattle.race_check.specs.Reorderings.{at_places}
 use Rattle.run_frames.specs.OrderedLaws.{IsOrdered}
-use Rattle.reorder.specs.Lists.{IsIn, IsRising}
+use Rattle.run_permute.specs.Theorem.{IsSameEnd}
+use Rattle.settled.specs.Lists.{IsIn}
+use Rattle.reorder.specs.Lists.{IsRising}
 
 -- step j of n isn't taken, and every step that is ordered before it is
 pub record IsFree (Before : ℕ → ℕ → Type 0) (n : ℕ) (taken : List ℕ) (j : ℕ) : Type 0 where
@@ -42,3 +45,7 @@ pub record IsReordered (m : Ran) (number : ℕ) (x : Ran) : Type 0 where
   pub order : List ℕ
   pub nth : IsNth m number order
   pub steps : x.steps ≡ at_places m.steps order
+
+-- the other run ends in the state in which m does, but for the record, the order of some lists and the pending events
+abbrev pub EndsAlike : Ran → Ran → Type 0
+EndsAlike m x = (M N : State) → state_of m ≡ Some M → state_of x ≡ Some N → IsSameEnd M N

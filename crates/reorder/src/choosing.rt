@@ -5,10 +5,9 @@ ghost use Rattle.run_frames.specs.OrderedLaws.{IsOrdered};
 ghost use Rattle.reorder.specs.Nth.{IsNth};
 ghost use Rattle.reorder.specs.Needs.{AreNeeds};
 
-use crate::error::PermuteError;
 use crate::order::Order;
-use crate::users::users_of;
 use cell_machine::Machine;
+use settled::PermuteError;
 use std::alloc::Global;
 
 /// The position, of so many free steps, of the one that the number chooses where so many are taken.
@@ -32,11 +31,10 @@ pub fn order_of_number(
     requires needs { AreNeeds (IsOrdered whole.now) (length whole.now.steps) needs.now }
     ensures { IfOk result (λ order. IsNth whole.now number order.items) }
 {
-    let users = users_of(alloc, needs)?;
     let mut order = Order::new(alloc, needs)?;
     for taken in 0..needs.len() {
         let at = position(number, taken as u32, order.count());
-        order.take(needs, &users, at)?;
+        order.take(alloc, needs, at)?;
     }
     Ok(order.into_steps())
 }

@@ -4,17 +4,15 @@
 //! the free one that the number chooses.
 #![tactic(auto)]
 
+mod block;
 mod choosing;
-mod error;
 mod laws;
 mod needs;
 mod order;
 mod permuting;
 mod track;
 mod tracks;
-mod users;
-mod walk;
+mod waiting;
 
-pub use error::PermuteError;
 pub use laws::numbers_name_reorderings;
 pub use permuting::permute;

@@ -4,13 +4,12 @@ ghost use Rattle.std.specs.Prelude.{◌≡◌, ◌+◌, ◌<◌, ◌≤◌, IfOk
 ghost use Rattle.run_frames.specs.OrderedLaws.{IsOrdered};
 ghost use Rattle.reorder.specs.Needs.{AreNeeds, AreNeedsOf};
 ghost use Rattle.reorder.specs.Tracks.{AreTracks};
-ghost use Rattle.reorder.specs.Walks.{Here, IsAt};
+ghost use Rattle.settled.specs.Walks.{Here, IsAt};
 
-use crate::error::PermuteError;
 use crate::track::Track;
 use crate::tracks::{add, gather, no_tracks};
-use crate::walk::Walk;
 use cell_machine::Machine;
+use settled::{PermuteError, Walk};
 use std::alloc::Global;
 
 /// Makes the step that stands at a place of the machine's run, and answers what it needs.
@@ -36,7 +35,7 @@ fn take_step(
     let step = whole.steps()[place as usize];
     walk.advance(step)?;
     let needs = gather(alloc, tracks, walk)?;
-    add(tracks, walk, place, step, whole.setup().spes())?;
+    add(alloc, tracks, walk, place, step, whole.setup().spes())?;
     Ok(needs)
 }
 

@@ -1,31 +1,38 @@
 //! An order of steps as it is built.
 
-ghost use Rattle.std.specs.Prelude.{◌≡◌, ℕ, ◌<◌, ◌≤◌, ◌⊎◌, ◌↔◌, [], IfOk, IsTrue, length};
-ghost use Rattle.reorder.specs.Lists.{IsIn, IsRising, list_at};
-ghost use Rattle.reorder.specs.Choices.{IsTaken, IsReady, IsStage, IsOneMore, AreInside, AreUsers};
+ghost use Rattle.std.specs.Prelude.{◌≡◌, ℕ, ◌<◌, ◌≤◌, ◌⊎◌, ◌↔◌, [], IfOk, MatchOption, length};
+ghost use Rattle.settled.specs.Lists.{IsIn};
+ghost use Rattle.reorder.specs.Lists.{IsRising};
+ghost use Rattle.reorder.specs.Choices.{IsTaken, IsSound, IsSeen, IsStage, IsOneMore, AreInside};
 
-use crate::error::PermuteError;
+use crate::waiting::{add_waiter, no_waiters, take_waiters};
+use settled::PermuteError;
 use std::alloc::Global;
 
-/// The steps that were taken, in their order; of each step whether it is one of them; and the free steps, by their places.
+/// The steps that were taken, in their order; of each step whether it is one of them, and which wait for it; and the free steps, by
+/// their places. A step that isn't free waits for one that it needs, so that not all who need a step are looked at when it is taken.
 #[derive(Drop)]
 pub struct Order {
     steps: Vec<u32>,
     taken: Vec<bool>,
+    waiting: Vec<Vec<u32>>,
     free: Vec<u32>,
 }
 
-/// Whether all of the steps are taken.
-fn are_taken(steps: &[u32], taken: &[bool]) -> bool
+/// The last of the steps that isn't taken, if there is one.
+fn last_left(steps: &[u32], taken: &[bool]) -> Option<u32>
     requires { (i : ℕ) → IsIn i steps.now → i < length taken.now }
-    ensures { IsTrue result ↔ ((i : ℕ) → IsIn i steps.now → IsTaken taken.now i) }
+    ensures { MatchOption result ((i : ℕ) → IsIn i steps.now → IsTaken taken.now i) (λ i. IsIn i steps.now × (IsTaken taken.now i → ⊥)) }
 {
-    for i in steps {
-        if !taken[*i as usize] {
-            return false;
+    let mut left = steps.len();
+    while left > 0 {
+        left -= 1;
+        let step = steps[left];
+        if !taken[step as usize] {
+            return Some(step);
         }
     }
-    true
+    None
 }
 
 /// Puts a place among those that rise.
@@ -44,29 +51,41 @@ fn put(places: &mut Vec<u32>, place: u32) -> Result<(), PermuteError>
 }
 
 impl Order {
-    /// Whether the step isn't taken, and all that it needs are.
-    fn is_ready(&self, needs: &[Vec<u32>], step: u32) -> bool
-        requires inside { AreInside needs.now }
-        requires long { length self.now.taken.items ≡ length needs.now }
-        requires within { step < length needs.now }
-        ensures { IsTrue result ↔ IsReady needs.now self.now.taken.items step }
-    {
-        !self.taken[step as usize] && are_taken(&needs[step as usize], &self.taken)
-    }
-
-    /// Puts the step among the free ones where it is ready.
+    /// Puts the step among the free ones where it is ready, and else with those that wait for a step that it needs.
     fn look_at(&mut self, needs: &[Vec<u32>], step: u32) -> Result<(), PermuteError>
         requires inside { AreInside needs.now }
-        requires long { length self.old.taken.items ≡ length needs.now }
         requires within { step < length needs.now }
-        requires rising { IsRising self.old.free.items }
+        requires sound { IsSound needs.now self.old }
         ensures steps { self.new.steps ≡ self.old.steps }
-        ensures taken { self.new.taken ≡ self.old.taken }
-        ensures rising { IfOk result (λ _. IsRising self.new.free.items) }
-        ensures free { IfOk result (λ _. (k : ℕ) → IsIn k self.new.free.items ↔ (IsIn k self.old.free.items ⊎ ((k ≡ step) × IsReady needs.now self.old.taken.items k))) }
+        ensures sound { IfOk result (λ _. IsSound needs.now self.new) }
+        ensures seen { IfOk result (λ _. (k : ℕ) → IsSeen needs.now self.old k ⊎ (k ≡ step) → IsSeen needs.now self.new k) }
     {
-        if self.is_ready(needs, step) {
-            put(&mut self.free, step)?;
+        if self.taken[step as usize] {
+            return Ok(());
+        }
+        match last_left(&needs[step as usize], &self.taken) {
+            Some(need) => {
+                add_waiter(self.waiting.as_mut_slice(), need, step)?;
+                Ok(())
+            }
+            None => {
+                put(&mut self.free, step)?;
+                Ok(())
+            }
+        }
+    }
+
+    /// Does so with each of the steps.
+    fn look_at_all(&mut self, needs: &[Vec<u32>], steps: &[u32]) -> Result<(), PermuteError>
+        requires inside { AreInside needs.now }
+        requires within { (k : ℕ) → IsIn k steps.now → k < length needs.now }
+        requires sound { IsSound needs.now self.old }
+        ensures steps { self.new.steps ≡ self.old.steps }
+        ensures sound { IfOk result (λ _. IsSound needs.now self.new) }
+        ensures seen { IfOk result (λ _. (k : ℕ) → IsSeen needs.now self.old k ⊎ IsIn k steps.now → IsSeen needs.now self.new k) }
+    {
+        for step in steps {
+            self.look_at(needs, *step)?;
         }
         Ok(())
     }
@@ -81,29 +100,13 @@ impl Order {
         let mut order = Order {
             steps: Vec::with_capacity(alloc, needs.len())?,
             taken: vec![in alloc; false; needs.len()]?,
+            waiting: no_waiters(alloc, needs.len())?,
             free: Vec::new(alloc),
         };
         for step in 0..needs.len() {
             order.look_at(needs, step as u32)?;
         }
         Ok(order)
-    }
-
-    /// Puts those of the steps among the free ones that are ready.
-    fn look_at_all(&mut self, needs: &[Vec<u32>], steps: &[u32]) -> Result<(), PermuteError>
-        requires inside { AreInside needs.now }
-        requires long { length self.old.taken.items ≡ length needs.now }
-        requires within { (k : ℕ) → IsIn k steps.now → k < length needs.now }
-        requires rising { IsRising self.old.free.items }
-        ensures steps { self.new.steps ≡ self.old.steps }
-        ensures taken { self.new.taken ≡ self.old.taken }
-        ensures rising { IfOk result (λ _. IsRising self.new.free.items) }
-        ensures free { IfOk result (λ _. (k : ℕ) → IsIn k self.new.free.items ↔ (IsIn k self.old.free.items ⊎ (IsIn k steps.now × IsReady needs.now self.old.taken.items k))) }
-    {
-        for step in steps {
-            self.look_at(needs, *step)?;
-        }
-        Ok(())
     }
 
     /// How many are free.
@@ -114,15 +117,9 @@ impl Order {
     }
 
     /// Takes the free step at the position.
-    pub fn take(
-        &mut self,
-        needs: &[Vec<u32>],
-        users: &[Vec<u32>],
-        at: usize,
-    ) -> Result<(), PermuteError>
+    pub fn take(&mut self, alloc: Global, needs: &[Vec<u32>], at: usize) -> Result<(), PermuteError>
         requires stage { IsStage needs.now self.old }
         requires inside { AreInside needs.now }
-        requires users { AreUsers needs.now users.now }
         requires within { at < length self.old.free.items }
         ensures stage { IfOk result (λ _. IsStage needs.now self.new) }
         ensures taken { IfOk result (λ _. IsOneMore self.old.free.items at self.old.steps.items self.new.steps.items) }
@@ -130,7 +127,8 @@ impl Order {
         let step = self.free.remove(at);
         self.taken[step as usize] = true;
         self.steps.push(step)?;
-        self.look_at_all(needs, &users[step as usize])?;
+        let waiters = take_waiters(alloc, self.waiting.as_mut_slice(), step);
+        self.look_at_all(needs, &waiters)?;
         Ok(())
     }
 

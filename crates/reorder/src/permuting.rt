@@ -1,20 +1,19 @@
 //! The run of the reordering of a number.
 
 ghost use Rattle.std.specs.Prelude.{◌≡◌, ℕ, ◌<◌, IfOk, length};
-ghost use Rattle.cell_machine.specs.Limits.{IsOpening};
 ghost use Rattle.cell_machine.specs.Run.{IsRun};
 ghost use Rattle.race_check.specs.Races.{IsVerdict};
 ghost use Rattle.race_check.specs.Reorderings.{at_places};
 ghost use Rattle.race_check.specs.declared.check.Verdict.TheVariants.{Accepted};
 ghost use Rattle.run_permute.specs.Settled.{IsSettled};
-ghost use Rattle.reorder.specs.Lists.{IsIn};
-ghost use Rattle.reorder.specs.Nth.{IsReordered};
+ghost use Rattle.settled.specs.Lists.{IsIn};
+ghost use Rattle.reorder.specs.Nth.{EndsAlike, IsReordered};
 
 use crate::choosing::order_of_number;
-use crate::error::PermuteError;
 use crate::needs::needs_of;
 use cell_base::Step;
 use cell_machine::{Machine, Setup};
+use settled::PermuteError;
 use std::alloc::Global;
 
 /// Makes the steps at the places of the order, which are a run from the setup.
@@ -45,10 +44,10 @@ fn make(
 /// The steps are a run again where the run is settled and has no race, and every register, store and byte of memory is then what it was.
 /// Want of memory is the only refusal.
 pub fn permute(alloc: Global, m: &Machine, number: u32) -> Result<Machine, PermuteError>
-    requires opening { IsOpening m.now.setup }
     requires accepted { IsVerdict m.now Accepted }
     requires settled { IsSettled m.now }
-    ensures { IfOk result (IsReordered m.now number) }
+    ensures reordered { IfOk result (IsReordered m.now number) }
+    ensures ends { IfOk result (EndsAlike m.now) }
 {
     let setup = m.setup();
     let steps = m.steps();

@@ -2,28 +2,19 @@
 
 ghost use Rattle.std.specs.Prelude.{◌≡◌, ℕ, ◌+◌, ◌-◌, ◌<◌, ◌≤◌, ◌⊎◌, ◌↔◌, IfOk, IsTrue, length, slice_index};
 ghost use Rattle.run_frames.specs.OrderedLaws.{IsOrdered};
-ghost use Rattle.reorder.specs.Lists.{IsIn, Each, AreChanged};
-ghost use Rattle.reorder.specs.Walks.{Here, IsAt};
-ghost use Rattle.reorder.specs.Tracks.{IsBeside, IsChain, IsClosed, IsEnd, IsFound, IsLoose, IsTrack, IsOn, CoversTrack};
+ghost use Rattle.settled.specs.Lists.{IsIn, Each, AreChanged};
+ghost use Rattle.settled.specs.Walks.{Here, IsAt};
+ghost use Rattle.reorder.specs.Tracks.{CoversTrack, IsBelow, IsBlockClosed, IsBlockFound, IsBounded, IsChain, IsEnd, IsOn, IsPut, IsTrack};
 
-use crate::error::PermuteError;
-use crate::walk::Walk;
+use crate::block::{Block, Loose};
+use settled::{PermuteError, Walk};
 use std::alloc::Global;
-
-/// A step that isn't on its actor's chain: the steps of the chain below `from` are ordered before it, and it is ordered before the
-/// one at `until`, where one is known.
-#[derive(Clone, Copy, Drop)]
-pub struct Loose {
-    place: u32,
-    from: u32,
-    until: Option<u32>,
-}
 
 /// The steps of an actor so far: a chain, each ordered before the next, and the others.
 #[derive(Drop)]
 pub struct Track {
     chain: Vec<u32>,
-    loose: Vec<Loose>,
+    blocks: Vec<Block>,
 }
 
 /// Whether the step at the index, if there is one, isn't ordered before the last step.
@@ -117,86 +108,72 @@ fn gather_chain(chain: &[u32], walk: &Walk, needs: &mut Vec<u32>) -> Result<usiz
     Ok(end)
 }
 
-/// Whether a loose step may be ordered before a step that has so many of the chain before it, and not before one of these.
-fn is_beside(loose: Loose, end: usize) -> bool
-    ensures { IsTrue result ↔ IsBeside loose end }
-{
-    if loose.from as usize > end {
-        return false;
-    }
-    match loose.until {
-        Some(until) => until as usize >= end,
-        None => true,
-    }
-}
-
-/// Adds the step where it is ordered before the last one, and not before one of the chain's steps below the end.
-fn gather_one(
-    loose: Loose,
+/// Adds the loose steps of the blocks that are ordered before the last step, and not before one of the chain's steps below the end.
+fn gather_blocks(
+    blocks: &[Block],
     walk: &Walk,
     end: usize,
     needs: &mut Vec<u32>,
 ) -> Result<(), PermuteError>
     ghost here: { Here }
     requires at { IsAt walk.now here.run (here.place + 1) }
-    requires below { loose.place < here.place }
+    requires below { Each (IsBelow here.place) blocks.now }
+    requires bounded { Each IsBounded blocks.now }
     ensures kept { IfOk result (λ _. (k : ℕ) → IsIn k needs.old.items → IsIn k needs.new.items) }
     ensures sound { IfOk result (λ _. (k : ℕ) → IsIn k needs.new.items → IsIn k needs.old.items ⊎ IsOrdered here.run k here.place) }
-    ensures found { IfOk result (λ _. IsFound here.run here.place end needs.new.items loose) }
+    ensures found { IfOk result (λ _. Each (IsBlockFound here.run here.place end needs.new.items) blocks.now) }
 {
-    if is_beside(loose, end) && walk.before(loose.place) {
-        needs.push(loose.place)?;
+    for block in blocks {
+        block.gather(walk, end, needs)?;
     }
     Ok(())
 }
 
-/// Adds the loose steps that are so.
-fn gather_loose(
-    loose: &[Loose],
-    walk: &Walk,
-    end: usize,
-    needs: &mut Vec<u32>,
-) -> Result<(), PermuteError>
+/// Closes all of the loose steps that can be.
+fn close_blocks(blocks: &mut [Block], walk: &Walk, index: u32)
     ghost here: { Here }
     requires at { IsAt walk.now here.run (here.place + 1) }
-    requires below { Each (λ l. l.place < here.place) loose.now }
-    ensures kept { IfOk result (λ _. (k : ℕ) → IsIn k needs.old.items → IsIn k needs.new.items) }
-    ensures sound { IfOk result (λ _. (k : ℕ) → IsIn k needs.new.items → IsIn k needs.old.items ⊎ IsOrdered here.run k here.place) }
-    ensures found { IfOk result (λ _. Each (IsFound here.run here.place end needs.new.items) loose.now) }
+    requires below { Each (IsBelow here.place) blocks.old }
+    requires bounded { Each IsBounded blocks.old }
+    ensures { AreChanged (IsBlockClosed here.run here.place index) (length blocks.old) blocks.old blocks.new }
 {
-    for l in loose {
-        gather_one(*l, walk, end, needs)?;
+    for k in 0..blocks.len() {
+        blocks[k].close(walk, index);
     }
+}
+
+/// Whether there is a block, and the last one has room.
+fn has_room(blocks: &[Block]) -> bool
+    ensures { IsTrue result → 0 < length blocks.now }
+{
+    match blocks.last() {
+        Some(block) => !block.is_full(),
+        None => false,
+    }
+}
+
+/// Adds a loose step to the last block.
+fn put_last(blocks: &mut [Block], loose: Loose) -> Result<(), PermuteError>
+    requires { 0 < length blocks.old }
+    ensures long { length blocks.new ≡ length blocks.old }
+    ensures put { IfOk result (λ _. IsPut loose blocks.old blocks.new) }
+{
+    let last = blocks.len() - 1;
+    blocks[last].push(loose)?;
     Ok(())
 }
 
-/// The step, with the index to which the last step comes on the chain where it is ordered before that and before none that is there.
-fn closed(loose: Loose, walk: &Walk, index: u32) -> Loose
-    ghost here: { Here }
-    requires at { IsAt walk.now here.run (here.place + 1) }
-    requires below { loose.place < here.place }
-    ensures { IsClosed here.run here.place index loose result }
+/// Adds a loose step to the last block, or to a new one where that has no room.
+fn put_loose(alloc: Global, blocks: &mut Vec<Block>, loose: Loose) -> Result<(), PermuteError>
+    ensures { IfOk result (λ _. IsPut loose blocks.old.items blocks.new.items) }
 {
-    if loose.until.is_some() || !walk.before(loose.place) {
-        return loose;
+    if has_room(blocks) {
+        put_last(blocks.as_mut_slice(), loose)?;
+        return Ok(());
     }
-    Loose {
-        place: loose.place,
-        from: loose.from,
-        until: Some(index),
-    }
-}
-
-/// Closes all of the steps that can be.
-fn close_all(loose: &mut [Loose], walk: &Walk, index: u32)
-    ghost here: { Here }
-    requires at { IsAt walk.now here.run (here.place + 1) }
-    requires below { Each (λ l. l.place < here.place) loose.old }
-    ensures { AreChanged (IsClosed here.run here.place index) (length loose.old) loose.old loose.new }
-{
-    for k in 0..loose.len() {
-        loose[k] = closed(loose[k], walk, index);
-    }
+    let block = Block::of(alloc, loose)?;
+    blocks.push(block)?;
+    Ok(())
 }
 
 impl Track {
@@ -206,7 +183,7 @@ impl Track {
     {
         Track {
             chain: Vec::new(alloc),
-            loose: Vec::new(alloc),
+            blocks: Vec::new(alloc),
         }
     }
 
@@ -220,7 +197,7 @@ impl Track {
         ensures covers { IfOk result (λ _. CoversTrack here.run here.place self.now needs.new.items) }
     {
         let end = gather_chain(&self.chain, walk, needs)?;
-        gather_loose(&self.loose, walk, end, needs)?;
+        gather_blocks(&self.blocks, walk, end, needs)?;
         Ok(())
     }
 
@@ -236,13 +213,13 @@ impl Track {
         ensures added { IfOk result (λ _. IsOn self.new place) }
     {
         let index = self.chain.len() as u32;
-        close_all(self.loose.as_mut_slice(), walk, index);
+        close_blocks(self.blocks.as_mut_slice(), walk, index);
         self.chain.push(place)?;
         Ok(())
     }
 
     /// Adds the last step to the loose ones, where so many of the chain are ordered before it.
-    fn loosen(&mut self, place: u32, end: usize) -> Result<(), PermuteError>
+    fn loosen(&mut self, alloc: Global, place: u32, end: usize) -> Result<(), PermuteError>
         ghost here: { Here }
         requires place { place ≡ here.place }
         requires track { IsTrack here.run here.place self.old }
@@ -251,16 +228,19 @@ impl Track {
         ensures kept { IfOk result (λ _. (i : ℕ) → IsOn self.old i → IsOn self.new i) }
         ensures added { IfOk result (λ _. IsOn self.new place) }
     {
-        self.loose.push(Loose {
-            place,
-            from: end as u32,
-            until: None,
-        })?;
+        let loose = Loose::new(place, end as u32);
+        put_loose(alloc, &mut self.blocks, loose)?;
         Ok(())
     }
 
     /// Adds the last step: to the chain, where it `links` and all of the chain is ordered before it, else to the loose ones.
-    pub fn add(&mut self, walk: &Walk, place: u32, links: bool) -> Result<(), PermuteError>
+    pub fn add(
+        &mut self,
+        alloc: Global,
+        walk: &Walk,
+        place: u32,
+        links: bool,
+    ) -> Result<(), PermuteError>
         ghost here: { Here }
         requires at { IsAt walk.now here.run (here.place + 1) }
         requires place { place ≡ here.place }
@@ -273,6 +253,6 @@ impl Track {
         if links && end == self.chain.len() {
             return self.link(walk, place);
         }
-        self.loosen(place, end)
+        self.loosen(alloc, place, end)
     }
 }

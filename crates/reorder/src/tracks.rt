@@ -4,13 +4,12 @@ ghost use Rattle.std.specs.Prelude.{◌≡◌, ℕ, ◌+◌, ◌<◌, ◌≤◌,
 ghost use Rattle.run_frames.specs.OrderedLaws.{IsOrdered};
 ghost use Rattle.race_order.specs.Orderly.{IsWithin};
 ghost use Rattle.reorder.specs.Needs.{AreNeedsOf};
-ghost use Rattle.reorder.specs.Walks.{Here, IsAt};
+ghost use Rattle.settled.specs.Walks.{Here, IsAt};
 ghost use Rattle.reorder.specs.Tracks.{AreTracks};
 
-use crate::error::PermuteError;
 use crate::track::Track;
-use crate::walk::Walk;
 use cell_base::Step;
+use settled::{PermuteError, Walk};
 use std::alloc::Global;
 
 /// The number of the track to which a step goes.
@@ -68,6 +67,7 @@ pub fn gather(alloc: Global, tracks: &[Track], walk: &Walk) -> Result<Vec<u32>, 
 
 /// Adds the last step of the walk to its track.
 pub fn add(
+    alloc: Global,
     tracks: &mut [Track],
     walk: &Walk,
     place: u32,
@@ -84,6 +84,6 @@ pub fn add(
     ensures tracks { IfOk result (λ _. AreTracks here.run (here.place + 1) tracks.new) }
 {
     let own = track_of(step, spes);
-    tracks[own].add(walk, place, links(step))?;
+    tracks[own].add(alloc, walk, place, links(step))?;
     Ok(())
 }

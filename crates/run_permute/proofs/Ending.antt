@@ -1,6 +1,6 @@
 -- Where all places were made, the state is that of the recorded order, but for the record and the order of some lists.
 use Rattle.std.proofs.Common.{◌≡◌, ℕ, suc, ◌+◌, ◌<◌, ◌≤◌, refl, sym, ◌∙◌, ap, ap₂, subst, arith, Bool, false, List, [], ◌∷◌, ◌++◌, length, Option, Some, None, cond, inl, inr, append-nil, get_or, set}
-use Rattle.std.specs.Prelude.{slice_get, slice_index_or, slice_index, IsPermutation, ◌==◌, ◌&&◌, is_some, drop}
+use Rattle.std.specs.Prelude.{◌/◌, slice_get, slice_index_or, slice_index, IsPermutation, ◌==◌, ◌&&◌, is_some, drop}
 use Rattle.std.specs.List.{range_with_len, filter_map, cons_option, fold, filter}
 use Rattle.std.specs.Option.{option_map_or}
 use Rattle.std.proofs.lemmas.Option.{slice_get_within, get_or_from_slice_get}
@@ -35,6 +35,7 @@ use Rattle.run_permute.specs.Theorem.{IsSameSpe, IsSameEnd}
 use Rattle.run_permute.proofs.Cuts.{same_look, shown_at}
 use Rattle.run_permute.proofs.Fronts.{has_all}
 use Rattle.run_permute.proofs.After.{get_in}
+use Rattle.run_permute.proofs.AllowedAlike.{rest_of, IsAlike, outstanding_same, allowed_alike}
 use Rattle.run_permute.proofs.ByteSteps.{bytes_at}
 
 -- ---- lists made from the places of an order
@@ -87,10 +88,6 @@ all_two R (x ∷ xs) [] e h = absurd (omega (arith, e))
 all_two R (x ∷ xs) (y ∷ ys) e h = (h 0 (omega arith), all_two R xs ys (omega (arith, e)) (λ p low. h (suc p) (omega (arith, low))))
 
 -- ---- a processor by its parts
-
--- all of a processor but its commands and its pending events
-abbrev rest_of : Spe → Spe
-rest_of P = record P { moves = no_moves; events = record P.events { pending = 0 } }
 
 spe_eq : (P K : Spe) → program_of P ≡ program_of K → P.store ≡ K.store → P.inbound ≡ K.inbound → P.outbound ≡ K.outbound → P.interrupt ≡ K.interrupt → P.tags ≡ K.tags → P.channels.stalls ≡ K.channels.stalls → locking_of P ≡ locking_of K
     → listening_of P ≡ listening_of K → rest_of P ≡ rest_of K
@@ -267,14 +264,22 @@ module _ (r : Recorded) (frames : HasFrames r) (Before : ℕ → ℕ → Type 0)
         ∙ sym (same_look n puts (put_values r p m) (λ i low out. put_frame r p m i out) (range_with_len 0 n) b.put_place n b.put_within whole b.put_cut (range_cut puts)))
         ∙ sym b.values_are
 
-    same_spe : P.store ≡ K.store → IsSameSpe K P
-    same_spe store =
-        let rest : rest_of K ≡ rest_of P = sym (spe_eq P K program_here store (box_here 0 (omega arith)) (box_here 1 (omega arith)) (box_here 2 (omega arith)) tags_here stalls_here locking_here (of_P.heard ∙ sym of_K.heard)) in
+    alike_spe : P.store ≡ K.store → (spe_before r p 0).events.mask ≡ 0 → IsAlike P K
+    alike_spe store masked = record {
+      rest = spe_eq P K program_here store (box_here 0 (omega arith)) (box_here 1 (omega arith)) (box_here 2 (omega arith)) tags_here stalls_here locking_here (of_P.heard ∙ sym of_K.heard);
+      issued = issued_here;
+      each = command_same;
+      masked = ap (λ (l : Listening). l.mask) of_K.heard ∙ masked;
+    }
+
+    same_spe : IsAlike P K → IsSameSpe K P
+    same_spe alike =
+        let rest : rest_of K ≡ rest_of P = sym alike.rest in
         record {
           status = ap (λ (S : Spe). S.status) rest;
           pc = ap (λ (S : Spe). S.pc) rest;
           registers = ap (λ (S : Spe). S.registers) rest;
-          store = sym store;
+          store = ap (λ (S : Spe). S.store) rest;
           inbound = ap (λ (S : Spe). S.inbound) rest;
           outbound = ap (λ (S : Spe). S.outbound) rest;
           interrupt = ap (λ (S : Spe). S.interrupt) rest;
@@ -283,12 +288,13 @@ module _ (r : Recorded) (frames : HasFrames r) (Before : ℕ → ℕ → Type 0)
           signals = ap (λ (S : Spe). S.signals) rest;
           mask = ap (λ (S : Spe). S.events.mask) rest;
           moves = record { issued = sym issued_here; read = read_perm; done = done_perm; retired = retired_perm; resumed = subst (IsPermutation K.moves.resumed) (sym resumed_here) (IsPermutation-refl K.moves.resumed) };
+          outstanding = sym (outstanding_same K.moves P.moves issued_here complete_same);
           reserved = ap (λ (S : Spe). S.reserved) rest;
         }
 
   -- ---- the bytes
 
-  module _ (rec : IsRecorded r) (k : ℕ) (sound : IsSound rec.lines k M) (bytes : byte_of M ≡ byte_of N) where
+  module _ (rec : IsRecorded r) (k : ℕ) (sound : IsSound rec.lines k M) (bytes : byte_of M ≡ byte_of N) (masked : (p : ℕ) → p < count_of r → (spe_before r p 0).events.mask ≡ 0) (long : length N.steps ≡ length M.steps) where
     sound_N : IsSound rec.lines r.size N
     sound_N = rec.sound r.size whole
 
@@ -302,14 +308,22 @@ module _ (r : Recorded) (frames : HasFrames r) (Before : ℕ → ℕ → Type 0)
         ext_get_or 0 (spe_in M p).store (spe_in N p).store ((sound.whole p (spe_in M p) at_M).store ∙ sym (sound_N.whole p (spe_in N p) at_N).store)
         (λ i l. ap (λ xs. slice_index xs i) (sym (bytes_at M.spes p)) ∙ ap (λ b. b (Local p) i) bytes ∙ ap (λ xs. slice_index xs i) (bytes_at N.spes p))
 
+    alike : (p : ℕ) (low : p < count_of r) → IsAlike (spe_in M p) (spe_in N p)
+    alike p low = alike_spe p low (store_bytes p low) (masked p low)
+
     pub same_end : IsSameEnd N M
     same_end = record {
-      spes = all_two IsSameSpe N.spes M.spes (shown.count ∙ sym describes.count) (λ p low. let l : p < count_of r = omega (arith, low, shown.count) in same_spe p l (store_bytes p l));
+      spes = all_two IsSameSpe N.spes M.spes (shown.count ∙ sym describes.count) (λ p low. let l : p < count_of r = omega (arith, low, shown.count) in same_spe p l (alike p l));
       memory = same_memory;
-      host = sym (at_end (λ i. is_host (r.step i)) (λ j. (r.state j).host) (λ i low out. frames.host i low out) M.host N.host describes.host shown.host);
+      host = host_here;
       held = λ p line P Q at_N at_M. ap₂ (λ (memory : MainMemory) reserved. option_map_or (is_current memory.versions line) reserved false) same_memory (reserved_same p P Q at_N at_M);
+      allowed = λ s. sym (allowed_alike M N (all_two IsAlike M.spes N.spes (describes.count ∙ sym shown.count) (λ p low. alike p (omega (arith, low, describes.count)))) (ap (λ xs. length xs / 128) memory_bytes) (sym host_here) s);
+      long = long;
     }
       where
+        host_here : N.host ≡ M.host
+        host_here = sym (at_end (λ i. is_host (r.step i)) (λ j. (r.state j).host) (λ i low out. frames.host i low out) M.host N.host describes.host shown.host)
+
         memory_eq : (a b : MainMemory) → a.bytes ≡ b.bytes → a.versions ≡ b.versions → a ≡ b
         memory_eq a b e f = ap₂ (λ x y. make x y) e f
           where
@@ -319,7 +333,7 @@ module _ (r : Recorded) (frames : HasFrames r) (Before : ℕ → ℕ → Type 0)
         reserved_same : (p : ℕ) (P Q : Spe) → slice_get N.spes p ≡ Some P → slice_get M.spes p ≡ Some Q → P.reserved ≡ Q.reserved
         reserved_same p P Q at_N at_M =
             let low : p < count_of r = omega (arith, slice_get_within N.spes p P at_N, shown.count) in
-            ap (λ (S : Spe). S.reserved) (sym (get_or_from_slice_get N.spes p P no_spe at_N)) ∙ (same_spe p low (store_bytes p low)).reserved ∙ ap (λ (S : Spe). S.reserved) (get_or_from_slice_get M.spes p Q no_spe at_M)
+            ap (λ (S : Spe). S.reserved) (sym (get_or_from_slice_get N.spes p P no_spe at_N)) ∙ (same_spe p low (alike p low)).reserved ∙ ap (λ (S : Spe). S.reserved) (get_or_from_slice_get M.spes p Q no_spe at_M)
 
         same_memory : N.memory ≡ M.memory
         same_memory = memory_eq N.memory M.memory (sym memory_bytes) (sym (describes.versions ∙ same_versions Before n order keeps (λ i. stored_by (r.state i) (r.step i)) (r.state 0).memory.versions ∙ sym shown.versions))

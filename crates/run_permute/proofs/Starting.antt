@@ -9,7 +9,7 @@ use Rattle.cell_machine.specs.Spe.{Spe, Moves}
 use Rattle.cell_machine.specs.Moves.{busy, read_of}
 use Rattle.cell_machine.specs.Opening.{Opening, opening, opening_spe, no_moves}
 use Rattle.cell_machine.specs.State.{State}
-use Rattle.run_places.specs.Recorded.{Recorded, spe_in, no_spe, spe_before, is_exec, is_elem, is_host, is_atomic_step, is_put_note, is_take_note, locking_of, asked, owes, stalled_groups, box_of, put_values, taken_values}
+use Rattle.run_places.specs.Recorded.{Recorded, spe_in, no_spe, spe_before, count_of, is_exec, is_elem, is_host, is_atomic_step, is_put_note, is_take_note, locking_of, asked, owes, stalled_groups, box_of, put_values, taken_values}
 use Rattle.run_permute.specs.Described.{Describes, DescribesSpe}
 use Rattle.run_permute.proofs.Cuts.{has_none, cut_none, shows_none}
 
@@ -21,15 +21,23 @@ record IsFresh (P : Spe) : Type 0 where
   inbound : P.inbound ≡ []
   outbound : P.outbound ≡ []
   interrupt : P.interrupt ≡ []
+  masked : P.events.mask ≡ 0
 
 fresh_in : (S : Opening) (xs : List (ℕ × ℕ)) (p : ℕ) → p < length (map (opening_spe S) xs) → IsFresh (slice_index_or (map (opening_spe S) xs) p no_spe)
 fresh_in S [] p h = absurd (omega (arith, h))
-fresh_in S (x ∷ xs) zero h = record { tags = refl; moves = refl; stalls = refl; inbound = refl; outbound = refl; interrupt = refl }
+fresh_in S (x ∷ xs) zero h = record { tags = refl; moves = refl; stalls = refl; inbound = refl; outbound = refl; interrupt = refl; masked = refl }
 fresh_in S (x ∷ xs) (suc p) h = fresh_in S xs p (omega (arith, h))
 
 fresh_opening : (S : Opening) (p : ℕ) → p < length (opening S).spes → IsFresh (spe_in (opening S) p)
 unfolding opening
 fresh_opening S p h = fresh_in S (enumerate_from 0 S.entries) p h
+
+fresh_start : (r : Recorded) (S : Opening) → r.state 0 ≡ opening S → (p : ℕ) → p < count_of r → IsFresh (spe_before r p 0)
+fresh_start r S is p low = subst (λ M. IsFresh (spe_in M p)) (sym is) (fresh_opening S p (subst (λ (M : State). p < length M.spes) is low))
+
+-- no event is in the mask
+pub masked_start : (r : Recorded) (S : Opening) → r.state 0 ≡ opening S → (p : ℕ) → p < count_of r → (spe_before r p 0).events.mask ≡ 0
+masked_start r S is p low = (fresh_start r S is p low).masked
 
 no_groups : stalled_groups no_moves ≡ 0
 unfolding stalled_groups
@@ -69,7 +77,7 @@ describes_start r S is = record {
   long = refl;
   versions = refl;
   host = shows_none r.size (λ i. is_host (r.step i)) (λ j. (r.state j).host) (r.state 0).host refl;
-  spes = λ p low. of_spe p (subst (λ M. IsFresh (spe_in M p)) (sym is) (fresh_opening S p (subst (λ (M : State). p < length M.spes) is low)));
+  spes = λ p low. of_spe p (fresh_start r S is p low);
 }
   where
     of_spe : (p : ℕ) → IsFresh (spe_before r p 0) → DescribesSpe r p [] (spe_before r p 0)

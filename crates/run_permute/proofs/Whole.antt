@@ -15,6 +15,7 @@ use Rattle.cell_machine.specs.Run.{Ran, IsRun, replay}
 use Rattle.cell_machine.specs.Sound.{IsSound}
 use Rattle.cell_machine.specs.Traces.{Event}
 use Rattle.cell_machine.proofs.Sounds.{runs-are-sound}
+use Rattle.cell_machine.proofs.Replays.{run-length}
 use Rattle.cell_machine.proofs.Same.{some_same}
 use Rattle.race_order.specs.Told.{trace_in}
 use Rattle.run_frames.specs.OrderedLaws.{IsOrdered}
@@ -50,7 +51,7 @@ use Rattle.run_permute.proofs.SettledFacts.{HasFacts, has-facts}
 use Rattle.run_permute.proofs.Owing.{HandlesOne, owed_lists_rest}
 use Rattle.run_permute.proofs.OneStall.{instructions_see, instructions_leave}
 use Rattle.run_permute.proofs.StallFacts.{handles_recorded, handles_ordered, orders_recorded, lists_recorded}
-use Rattle.run_permute.proofs.Starting.{describes_start}
+use Rattle.run_permute.proofs.Starting.{describes_start, masked_start}
 
 -- what the steps need of an order: its rules, room in the queue, and stalls that are handled one by one
 record HasOrder (Before : ℕ → ℕ → Type 0) (r : Recorded) : Type 0 where
@@ -192,6 +193,8 @@ module _ (m : Ran) (opens : IsOpening m.setup) (run : IsRun m.setup m.steps) (no
         let ok = sound order reached.0 reached.1.run in
         same_end (recording m) facts.frames (IsOrdered m) order keeps reached.0 reached.1.describes here.describes (recorded m run opens) ok.0 ok.1
         (order_bytes (recording m) (recorded m run opens) (IsOrdered m) facts.orders.below alike start sound free order keeps reached.0 reached.1)
+        (masked_start (recording m) m.setup of.start)
+        (run-length m.setup m.steps ((recording m).state (recording m).size) last ∙ sym long ∙ sym (run-length m.setup (at_places m.steps order) reached.0 replayed))
 
     pub run_again : IsRunAgain m order
     run_again = record {

@@ -1,7 +1,10 @@
 -- Every order of a settled run's steps that keeps the ordered pairs is a run again, and ends alike.
-use Rattle.std.specs.Prelude.{◌≡◌, ℕ, List, Some, slice_get, IsPermutation}
+use Rattle.std.specs.Prelude.{◌≡◌, ℕ, List, length, Some, is_some, slice_get, IsPermutation}
+use Rattle.cell_base.specs.declared.steps.Step.{Step}
 use Rattle.cell_machine.specs.Spe.{Spe, Moves}
 use Rattle.cell_machine.specs.State.{State}
+use Rattle.cell_machine.specs.Moves.{outstanding}
+use Rattle.cell_machine.specs.Next.{next}
 use Rattle.cell_machine.specs.Atomic.{holds}
 use Rattle.cell_machine.specs.Limits.{IsOpening}
 use Rattle.cell_machine.specs.Order.{after_steps}
@@ -36,14 +39,17 @@ pub record IsSameSpe (P Q : Spe) : Type 0 where
   pub signals : P.signals ≡ Q.signals
   pub mask : P.events.mask ≡ Q.events.mask
   pub moves : HaveSameMoves P.moves Q.moves
+  pub outstanding : outstanding P ≡ outstanding Q  -- the commands that aren't complete
   pub reserved : P.reserved ≡ Q.reserved
 
--- the same state, but for that and the record; so each processor holds the same line
+-- the same state, but for that and the order of the record; so each processor holds the same line, and the same steps are allowed
 pub record IsSameEnd (M N : State) : Type 0 where
   pub spes : AllTwo IsSameSpe M.spes N.spes
   pub memory : M.memory ≡ N.memory
   pub host : M.host ≡ N.host
   pub held : (p line : ℕ) (P Q : Spe) → slice_get M.spes p ≡ Some P → slice_get N.spes p ≡ Some Q → holds M.memory P line ≡ holds N.memory Q line
+  pub allowed : (s : Step) → is_some (next M s) ≡ is_some (next N s)
+  pub long : length M.steps ≡ length N.steps
 
 -- the steps of the run in this order
 abbrev pub reordered : Ran → List ℕ → Ran

@@ -17,7 +17,6 @@ use Rattle.race_order.proofs.LivesNext.{read_low}
 use Rattle.settled.specs.declared.kept.Kept.{Kept}
 use Rattle.settled.specs.declared.walk.Made.{Made}
 use Rattle.settled.specs.declared.watch.Watch.{Watch}
-use Rattle.settled.specs.Told.{told}
 use Rattle.settled.specs.Lists.{Each, IsIn}
 use Rattle.settled.specs.Online.{IsSettledAt, is_read_of}
 use Rattle.settled.specs.Walks.{IsMade}
@@ -95,7 +94,7 @@ reads-low m p j x kept queued within k = each-on (IsKept m p j x) (λ (k : Kept)
     low : (o : Kept) → IsKept m p j x o → o.progress.read + 1 < 2 ^ 32
     low o h =
         let T = trace_in m in
-        let l = later_at T p o.cmd j (length T) (told o.progress) within (omega arith) h.has in
+        let l = later_at T p o.cmd j (length T) o.progress within (omega arith) h.has in
         let r : l.progress.read + 1 < 2 ^ 16 = read_low T queued p o.cmd l.progress (subst (λ t. Has t p o.cmd l.progress) (take_all (length T) T (omega arith)) l.has) in
         let s : o.progress.read ≤ l.progress.read = l.grows.read in
         omega arith

@@ -20,7 +20,6 @@ use Rattle.race_order.specs.Told.{trace_in}
 use Rattle.race_order.specs.declared.progress.Progress.{Progress as Come}
 use Rattle.settled.specs.declared.kept.Kept.{Kept}
 use Rattle.settled.specs.declared.watch.Watch.{Watch}
-use Rattle.settled.specs.Told.{told}
 use Rattle.settled.specs.Lists.{Each, IsIn}
 use Rattle.settled.specs.Online.{IsShutAt, AreFewOpen, HasStalledList, IsStalledTag, MayQueue, MayReadStall, IsSettledAt, is_plain, is_read_of}
 use Rattle.settled.specs.Watches.{IsShut, IsKept, AreKept, AreLeft, Watches, MayOperate, MayTell, cmds_of, does, tag_of, may_acknowledge, may_operate, may_tell, is_issue, stalled_from}
@@ -79,7 +78,7 @@ module _ (m : Ran) (p j : ℕ) (here : IsStep (trace_in m) j (Exec p)) (kept : L
       inside c i = on (in-found (λ (o : Kept). o.cmd) (λ o. IsKept m p j (j + 1) o × (IsShutAt m p o.cmd j → ⊥)) kept c (both kept k.each left) i)
         where
           on : Found (λ (o : Kept). o.cmd) (λ o. IsKept m p j (j + 1) o × (IsShutAt m p o.cmd j → ⊥)) c → IsIn c f.unclosed
-          on x = or (f.others x.entry.cmd (told x.entry.progress) x.holds.0.has)
+          on x = or (f.others x.entry.cmd x.entry.progress x.holds.0.has)
             where
               or : Contains f.unclosed x.entry.cmd ⊎ IsShutAt m p x.entry.cmd j → IsIn c f.unclosed
               or (inl h) = subst (λ d. IsIn d f.unclosed) x.is (contained x.entry.cmd f.unclosed h)

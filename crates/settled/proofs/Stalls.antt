@@ -11,7 +11,6 @@ use Rattle.race_order.specs.Told.{trace_in}
 use Rattle.race_order.specs.declared.progress.Progress.{Progress as Come}
 use Rattle.race_order.proofs.Histories.{same_progress}
 use Rattle.settled.specs.declared.kept.Kept.{Kept}
-use Rattle.settled.specs.Told.{told}
 use Rattle.settled.specs.Lists.{Each, IsIn}
 use Rattle.settled.specs.Online.{IsShutAt, IsStallRead, HasStalledList, IsStalledTag, IsSettledAt}
 use Rattle.settled.specs.Watches.{IsShut, IsKept, AreKept, AreLeft, cmds_of, is_listed, stalled_from}
@@ -143,7 +142,7 @@ module _ (m : Ran) (p j : ℕ) (here : IsStep (trace_in m) j (Exec p)) (kept : L
     where
       found : Found (λ (o : Kept). o.cmd) (λ o. IsOne o × (is_listed o ≡ false)) d → ⊥
       found f =
-          let same : told f.entry.progress ≡ t = same_progress (take j (trace_in m)) p d (told f.entry.progress) t (subst (λ c. Has (take j (trace_in m)) p c (told f.entry.progress)) f.is f.holds.0.0.has) h in
+          let same : f.entry.progress ≡ t = same_progress (take j (trace_in m)) p d f.entry.progress t (subst (λ c. Has (take j (trace_in m)) p c f.entry.progress) f.is f.holds.0.0.has) h in
           both_ways _ f.holds.1 (ap (λ (s : Come). is_list s.command.kind) same ∙ list)
 
       in-or : IsIn d (cmds_of (filter is_listed kept)) ⊎ Found (λ (o : Kept). o.cmd) (λ o. IsOne o × (is_listed o ≡ false)) d → IsIn d (cmds_of (filter is_listed kept)) ⊎ IsShutAt m p d j
@@ -160,7 +159,7 @@ module _ (m : Ran) (p j : ℕ) (here : IsStep (trace_in m) j (Exec p)) (kept : L
       record {
         stalled = record {
           list = o.command.cmd;
-          progress = told o.command.progress;
+          progress = o.command.progress;
           is = record { has = one.0.0.has; list = one.1; is_open = one.0.1; only = λ d t h list. other d (among d t h list); stalled = o.stalled };
         };
         same = o.same;
@@ -179,11 +178,11 @@ module _ (m : Ran) (p j : ℕ) (here : IsStep (trace_in m) j (Exec p)) (kept : L
       let s = t.stalled in
       let each = each-on (λ o. IsOne o × (is_listed o ≡ true)) (λ o. IsOne o × (o.cmd ≡ s.list)) (filter is_listed kept) (λ o h. (h.0, same o h)) listed-each in
       let one = alone (λ (o : Kept). o.cmd) IsOne (filter is_listed kept) s.list each (apart-passes (λ (o : Kept). o.cmd) is_listed kept k.apart) (inside (among s.list s.progress s.is.has s.is.list)) in
-      let come : told one.0.progress ≡ s.progress = same_progress (take j (trace_in m)) p s.list (told one.0.progress) s.progress (subst (λ c. Has (take j (trace_in m)) p c (told one.0.progress)) one.3 one.2.0.has) s.is.has in
+      let come : one.0.progress ≡ s.progress = same_progress (take j (trace_in m)) p s.list one.0.progress s.progress (subst (λ c. Has (take j (trace_in m)) p c one.0.progress) one.3 one.2.0.has) s.is.has in
       record { command = one.0; only = one.1; stalled = ap (λ (x : Come). x.stalled) come ∙ s.is.stalled; same = ap (λ (x : Come). x.command.tag) come ∙ t.same }
     where
       same : (o : Kept) → IsOne o × (is_listed o ≡ true) → o.cmd ≡ t.stalled.list
-      same o h = on (t.stalled.is.only o.cmd (told o.progress) h.0.0.has h.1)
+      same o h = on (t.stalled.is.only o.cmd o.progress h.0.0.has h.1)
         where
           on : (o.cmd ≡ t.stalled.list) ⊎ IsShutAt m p o.cmd j → o.cmd ≡ t.stalled.list
           on (inl e) = e

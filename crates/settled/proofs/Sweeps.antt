@@ -14,7 +14,6 @@ use Rattle.race_order.proofs.Places.{get_take}
 use Rattle.race_order.proofs.Histories.{same_progress}
 use Rattle.race_order.proofs.Holding.{ordered_trans}
 use Rattle.settled.specs.declared.kept.Kept.{Kept}
-use Rattle.settled.specs.Told.{told}
 use Rattle.settled.specs.Lists.{Each, IsIn, AreApart}
 use Rattle.settled.specs.Online.{IsShutAt}
 use Rattle.settled.specs.Watches.{IsKnown, IsShut, IsKept, IsSwept, AreKept, AreSwept, AreLeft, cmds_of, is_closed}
@@ -76,7 +75,7 @@ module _ (m : Ran) (p j : ℕ) (here : IsStep (trace_in m) j (Exec p)) where
   swept-one : (o n : Kept) → IsKept m p j (j + 1) o → IsSwept m j o n → IsKept m p j (j + 1) n × IsStopped m j n
   swept-one o n k s = (
     record {
-      has = subst (λ c. Has (take j (trace_in m)) p c (told n.progress)) (sym s.cmd) (subst (λ q. Has (take j (trace_in m)) p o.cmd (told q)) (sym s.progress) k.has);
+      has = subst (λ c. Has (take j (trace_in m)) p c n.progress) (sym s.cmd) (subst (λ q. Has (take j (trace_in m)) p o.cmd q) (sym s.progress) k.has);
       steps = λ i h. let r = k.steps i (s.among i h) in (r.0, subst (IsStepOf (trace_in m) i p) (sym s.cmd) r.1);
       left = λ i low of. on i (k.left i low (subst (IsStepOf (trace_in m) i p) s.cmd of));
     },
@@ -99,7 +98,7 @@ module _ (m : Ran) (p j : ℕ) (here : IsStep (trace_in m) j (Exec p)) where
   none-in xs i e h = subst (IsIn i) e h
 
   -- a command is closed exactly where it is complete and no step is left
-  closed-shut : (o : Kept) → IsKept m p j (j + 1) o → is_closed o ≡ true → IsShut m p j (j + 1) o.cmd (told o.progress)
+  closed-shut : (o : Kept) → IsKept m p j (j + 1) o → is_closed o ≡ true → IsShut m p j (j + 1) o.cmd o.progress
   closed-shut o k e =
       let parts = and_parts _ _ e in
       let none = no-steps o.steps.items parts.1 in
@@ -113,7 +112,7 @@ module _ (m : Ran) (p j : ℕ) (here : IsStep (trace_in m) j (Exec p)) where
   not-closed o k stop e shut = on stop
     where
       done : o.progress.done ≡ true
-      done = ap (λ (s : Come). s.done) (same_progress (take j (trace_in m)) p o.cmd (told o.progress) shut.progress k.has shut.has) ∙ shut.complete
+      done = ap (λ (s : Come). s.done) (same_progress (take j (trace_in m)) p o.cmd o.progress shut.progress k.has shut.has) ∙ shut.complete
 
       on : IsStopped m j o → ⊥
       on (inl none) =
@@ -152,9 +151,9 @@ module _ (m : Ran) (p j : ℕ) (here : IsStep (trace_in m) j (Exec p)) where
       found : (c : ℕ) (t : Come) → Has (take j (trace_in m)) p c t → Found (λ (o : Kept). o.cmd) (λ o. (IsKept m p j (j + 1) o × IsStopped m j o) × (not (is_closed o) ≡ false)) c → IsShut m p j (j + 1) c t
       found c t h f =
           let shut = closed-shut f.entry f.holds.0.0 (not-false (is_closed f.entry) f.holds.1) in
-          let kept : Has (take j (trace_in m)) p c (told f.entry.progress) = subst (λ d. Has (take j (trace_in m)) p d (told f.entry.progress)) f.is f.holds.0.0.has in
-          let same : told f.entry.progress ≡ t = same_progress (take j (trace_in m)) p c (told f.entry.progress) t kept h in
-          subst (IsShut m p j (j + 1) c) same (subst (λ d. IsShut m p j (j + 1) d (told f.entry.progress)) f.is shut)
+          let kept : Has (take j (trace_in m)) p c f.entry.progress = subst (λ d. Has (take j (trace_in m)) p d f.entry.progress) f.is f.holds.0.0.has in
+          let same : f.entry.progress ≡ t = same_progress (take j (trace_in m)) p c f.entry.progress t kept h in
+          subst (IsShut m p j (j + 1) c) same (subst (λ d. IsShut m p j (j + 1) d f.entry.progress) f.is shut)
 
       in-or : (c : ℕ) (t : Come) → Has (take j (trace_in m)) p c t → IsIn c (cmds_of before) ⊎ IsShut m p j (j + 1) c t → cmds_of s.between ≡ cmds_of before → Each (λ o. IsKept m p j (j + 1) o × IsStopped m j o) s.between
           → IsIn c (cmds_of (filter (λ o. not (is_closed o)) s.between)) ⊎ IsShut m p j (j + 1) c t

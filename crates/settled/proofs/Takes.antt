@@ -20,7 +20,6 @@ use Rattle.race_order.proofs.Places.{take_step, same_get}
 use Rattle.race_order.proofs.Histories.{same_progress, status_next, Came, Newly, Kept as Stays, Moved, came, later_at}
 use Rattle.race_order.proofs.Elements.{may_at}
 use Rattle.settled.specs.declared.kept.Kept.{Kept}
-use Rattle.settled.specs.Told.{told}
 use Rattle.settled.specs.Lists.{Each, IsIn, AreApart, AreChanged}
 use Rattle.settled.specs.Watches.{IsKnown, IsShut, IsKept, IsTaken, IsNew, AreKept, cmds_of, gone_on}
 use Rattle.settled.proofs.Entries.{each-end, in-end, in-front, in-last, apart-end, changed-each, changed-numbers, in-found}
@@ -53,7 +52,7 @@ module _ (m : Ran) (p j : ℕ) (e : Event) (here : slice_get (trace_in m) j ≡ 
 
   pub taken-one : (x : ℕ) (o n : Kept) → IsKept m p j x o → IsTaken p j e.step e.effect.note o n → IsKept m p (j + 1) x n
   taken-one x o n k t = record {
-    has = subst (λ c. Has (take (j + 1) (trace_in m)) p c (told n.progress)) (sym t.cmd) (subst (λ s. Has (take (j + 1) (trace_in m)) p o.cmd s) (sym t.progress) (goes-on o.cmd (told o.progress) k.has));
+    has = subst (λ c. Has (take (j + 1) (trace_in m)) p c n.progress) (sym t.cmd) (subst (λ s. Has (take (j + 1) (trace_in m)) p o.cmd s) (sym t.progress) (goes-on o.cmd o.progress k.has));
     steps = λ i h. let r = old i (is_of p o.cmd e.step) refl (subst (IsIn i) t.steps h) in (r.0, subst (IsStepOf (trace_in m) i p) (sym t.cmd) r.1);
     left = λ i low of. left-by i (last-or i low) (subst (IsStepOf (trace_in m) i p) t.cmd of);
   }
@@ -176,7 +175,7 @@ module _ (m : Ran) (p j : ℕ) (e : Event) (here : slice_get (trace_in m) j ≡ 
 
       new-kept : IsKept m p (j + 1) x o
       new-kept = record {
-        has = subst (λ d. Has (take (j + 1) (trace_in m)) p d (told o.progress)) (sym is.cmd) (subst (Has (take (j + 1) (trace_in m)) p c) (sym is.progress) new-has);
+        has = subst (λ d. Has (take (j + 1) (trace_in m)) p d o.progress) (sym is.cmd) (subst (Has (take (j + 1) (trace_in m)) p c) (sym is.progress) new-has);
         steps = λ i h. absurd (subst (IsIn i) is.steps h);
         left = λ i low of. absurd (no-step i low (subst (IsStepOf (trace_in m) i p) is.cmd of));
       }
@@ -184,9 +183,9 @@ module _ (m : Ran) (p j : ℕ) (e : Event) (here : slice_get (trace_in m) j ≡ 
       absent : IsIn o.cmd (cmds_of after) → ⊥
       absent i =
           let f = in-found (λ (o : Kept). o.cmd) (IsKept m p j x) before o.cmd k.each (subst (IsIn o.cmd) same-cmds i) in
-          let a : status p c (take j (trace_in m)) ≡ Some (told f.entry.progress) = (subst (λ d. Has (take j (trace_in m)) p d (told f.entry.progress)) (f.is ∙ is.cmd) f.holds.has).is in
+          let a : status p c (take j (trace_in m)) ≡ Some f.entry.progress = (subst (λ d. Has (take j (trace_in m)) p d f.entry.progress) (f.is ∙ is.cmd) f.holds.has).is in
           let b = not-before in
-          some-none (told f.entry.progress) (sym b ∙ a)
+          some-none f.entry.progress (sym b ∙ a)
         where
           some-none : (r : Come) → None ≡ Some r → ⊥
           some-none r q = cc
@@ -239,13 +238,13 @@ idle-none p c s Host note h = (refl, refl)
 -- it leaves each command
 pub idle-taken : (p j : ℕ) (step : Step) (note : Note) → IsIdle p step → (o : Kept) → IsTaken p j step note o o
 idle-taken p j step note idle o =
-    let r = idle-none p o.cmd (told o.progress) step note idle in
+    let r = idle-none p o.cmd o.progress step note idle in
     record {
       cmd = refl;
       progress = stays o.progress.done r.1;
       steps = sym (ap (λ b. if b then o.steps.items ++ j ∷ [] else o.steps.items) r.0);
     }
   where
-    stays : (b : Bool) → stepped p o.cmd (told o.progress) step note ≡ told o.progress → told o.progress ≡ (if b then told o.progress else stepped p o.cmd (told o.progress) step note)
+    stays : (b : Bool) → stepped p o.cmd o.progress step note ≡ o.progress → o.progress ≡ (if b then o.progress else stepped p o.cmd o.progress step note)
     stays true h = refl
     stays false h = sym h

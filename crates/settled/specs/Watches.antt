@@ -19,7 +19,6 @@ use Rattle.run_frames.specs.OrderedLaws.{IsOrdered}
 use Rattle.race_order.specs.declared.progress.Progress.{Progress as Come}
 use Rattle.settled.specs.declared.kept.Kept.{Kept}
 use Rattle.settled.specs.declared.watch.Watch.{Watch}
-use Rattle.settled.specs.Told.{told}
 use Rattle.settled.specs.Lists.{Each, IsIn, AreApart, AreChanged}
 use Rattle.settled.specs.Online.{IsShutAt, IsRequested, IsStallRead, IsAtomicIssued, IsStalledTag, MayQueue, MayReadStall, is_plain, is_read_of, is_write_to}
 
@@ -39,7 +38,7 @@ pub record IsShut (m : Ran) (p j x c : ℕ) (s : Come) : Type 0 where
 
 -- how far the command has come before place j, and its steps below that which aren't known at x
 pub record IsKept (m : Ran) (p j x : ℕ) (o : Kept) : Type 0 where
-  pub has : Has (take j (trace_in m)) p o.cmd (told o.progress)
+  pub has : Has (take j (trace_in m)) p o.cmd o.progress
   pub steps : (i : ℕ) → IsIn i o.steps.items → (i < j) × IsStepOf (trace_in m) i p o.cmd
   pub left : (i : ℕ) → i < j → IsStepOf (trace_in m) i p o.cmd → IsIn i o.steps.items ⊎ IsKnown m p x i
 
@@ -50,7 +49,7 @@ gone_on p c s step note = if s.done then s else stepped p c s step note
 -- a step that is the command's own stands behind the others
 pub record IsTaken (p place : ℕ) (step : Step) (note : Note) (before after : Kept) : Type 0 where
   pub cmd : after.cmd ≡ before.cmd
-  pub progress : told after.progress ≡ gone_on p before.cmd (told before.progress) step note
+  pub progress : after.progress ≡ gone_on p before.cmd before.progress step note
   pub steps : after.steps.items ≡ (if is_of p before.cmd step then before.steps.items ++ place ∷ [] else before.steps.items)
 
 -- steps that are ordered before that at place k went out, and the last one that is left isn't one of those
@@ -124,7 +123,7 @@ AreLeft m p j kept = Each (λ o. IsShutAt m p o.cmd j → ⊥) kept
 -- the command that was issued
 pub record IsNew (c : ℕ) (command : Command) (o : Kept) : Type 0 where
   pub cmd : o.cmd ≡ c
-  pub progress : told o.progress ≡ begun command
+  pub progress : o.progress ≡ begun command
   pub steps : o.steps.items ≡ []
 
 -- the command that the note tells of stands behind the others

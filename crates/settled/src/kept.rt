@@ -7,16 +7,15 @@ ghost use Rattle.run_frames.specs.OrderedLaws.{IsOrdered};
 ghost use Rattle.race_order.specs.Status.{begun};
 ghost use Rattle.race_order.specs.Trace.{is_of};
 ghost use Rattle.settled.specs.Lists.{IsIn};
-ghost use Rattle.settled.specs.Told.{told};
 ghost use Rattle.settled.specs.Walks.{Here, IsAt};
 ghost use Rattle.settled.specs.Watches.{IsSwept, IsTaken, is_closed, is_listed};
 
 use crate::error::PermuteError;
-use crate::progress::{Progress, begin, step_on};
 use crate::walk::Walk;
 use cell_base::Step;
 use cell_machine::Note;
 use mfc_command::{Command, Kind};
+use race_order::{Progress, begin, step_on};
 use std::alloc::Global;
 
 #[derive(Drop)]
@@ -91,7 +90,7 @@ impl Kept {
     /// A command that was just issued.
     pub fn new(alloc: Global, cmd: u32, command: Command) -> Kept
         ensures cmd { result.cmd ≡ cmd }
-        ensures progress { told result.progress ≡ begun command }
+        ensures progress { result.progress ≡ begun command }
         ensures steps { result.steps.items ≡ [] }
     {
         Kept {

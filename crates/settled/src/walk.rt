@@ -17,8 +17,8 @@ use std::alloc::Global;
 /// A machine that makes a run again, and the order of the steps that it made.
 #[derive(Drop)]
 pub struct Walk {
-    machine: Machine,
-    orderer: Orderer,
+    pub machine: Machine,
+    pub orderer: Orderer,
 }
 
 /// What a step did, and the channel operation that it asked for.

@@ -4,7 +4,7 @@ use Rattle.cell_cli.specs.declared.fault.FileId.TheVariants.{Rec}
 use Rattle.cell_cli.specs.Task.{judge, read}
 use Rattle.cell_cli.specs.Answer.{AtMachineOrRecord}
 use Rattle.cell_cli.specs.Forms.{record_limit}
-use Rattle.cell_cli.proofs.Steps.{leads_on, refuses_then, fails_machine, fails_record, check_fails, check_opens, check_comes}
+use Rattle.cell_cli.proofs.Steps.{leads_on, refuses_then, fails_machine, fails_record, check_fails, check_comes}
 use Rattle.cell_cli.proofs.check.read_run.Goals as goal
 
 pub returns-in_err-setup-clause-cause : goal.returns-in_err-setup-clause-cause
@@ -28,9 +28,6 @@ returns-in_err-bytes-clause-comes g c = λ told is work.
     let l = c.in_ok-setup.ensures.comes told is (λ setup. read Rec c.args.record_file.now record_limit (λ text. judge setup text work)) in
     let r = c.in_err-bytes.ensures.comes told (c.read_setup.ensures.same ∙ is) (λ text. judge c.in_ok-setup.setup text work) in
     rw (p.1, p.2) (refuses_then told _ _ _ _ _ _ l c.in_ok-setup.ensures.kept r)
-
-pub returns-clause-opening : goal.returns-clause-opening
-returns-clause-opening g c = check_opens c.in_ok-setup.setup c.as_slice.result.now c.check_record.result c.in_ok-setup.ensures.opening c.check_record.ensures.run
 
 pub returns-clause-cause : goal.returns-clause-cause
 returns-clause-cause g c = check_fails (AtMachineOrRecord c.args.machine.now c.args.record_file.now) _ _ c.in_ok-setup.setup c.as_slice.result.now c.check_record.result c.check_record.ensures.refused

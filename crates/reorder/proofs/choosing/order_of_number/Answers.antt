@@ -6,9 +6,6 @@ use Rattle.reorder.proofs.Nths.{chosen-more}
 use Rattle.reorder.proofs.Stages.{inside-from, some-place, is-chosen}
 use Rattle.reorder.proofs.choosing.order_of_number.Goals as goal
 
-pub users_of-requires-clause-inside : goal.users_of-requires-clause-inside
-users_of-requires-clause-inside c = inside-from c.args.whole.now (length c.args.whole.now.steps) c.args.needs.now c.requires.needs
-
 pub new-requires-clause-inside : goal.new-requires-clause-inside
 new-requires-clause-inside c = inside-from c.args.whole.now (length c.args.whole.now.steps) c.args.needs.now c.requires.needs
 

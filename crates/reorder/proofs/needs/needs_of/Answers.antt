@@ -4,7 +4,7 @@ use Rattle.cell_machine.proofs.AllTwo.{whole}
 use Rattle.run_frames.specs.OrderedLaws.{IsOrdered}
 use Rattle.reorder.specs.Needs.{AreNeeds}
 use Rattle.reorder.specs.Tracks.{AreTracks}
-use Rattle.reorder.specs.Walks.{Here}
+use Rattle.settled.specs.Walks.{Here}
 use Rattle.reorder.proofs.Needing.{begun-walk, needs-none, needs-more}
 use Rattle.reorder.proofs.needs.needs_of.Goals as goal
 

@@ -2,7 +2,7 @@ use Rattle.std.proofs.Common.{◌≡◌, ◌+◌, [], length}
 use Rattle.cell_machine.specs.Run.{Ran}
 use Rattle.run_frames.specs.OrderedLaws.{IsOrdered}
 use Rattle.reorder.specs.Needs.{AreNeeds}
-use Rattle.reorder.specs.Walks.{Here, IsAt}
+use Rattle.settled.specs.Walks.{Here, IsAt}
 use Rattle.reorder.specs.Tracks.{AreTracks}
 use Rattle.reorder.proofs.needs.needs_of.Given as goal
 

@@ -2,7 +2,8 @@ use Rattle.std.proofs.Common.{◌≡◌, ◌⊎◌, List, ℕ, sym, subst}
 use Rattle.std.specs.Prelude.{◌↔◌}
 use Rattle.std.specs.List.Sorted.{IsBinarySearchResult}
 use Rattle.std.specs.Ordering.{nat_cmp}
-use Rattle.reorder.specs.Lists.{IsIn, IsRising}
+use Rattle.settled.specs.Lists.{IsIn}
+use Rattle.reorder.specs.Lists.{IsRising}
 use Rattle.reorder.proofs.Entries.{in-insert}
 use Rattle.reorder.proofs.Frees.{put-rising, put-found, found-in}
 use Rattle.reorder.proofs.order.put.Goals as goal

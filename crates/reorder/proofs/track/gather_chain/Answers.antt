@@ -1,6 +1,6 @@
 use Rattle.std.proofs.Common.{◌-◌, ◌<◌, ◌≤◌, ◌∷◌, [], length, get_or, refl, sym, subst, arith, inr}
 use Rattle.std.proofs.lemmas.Option.{slice_get-get_or}
-use Rattle.reorder.specs.Lists.{IsIn}
+use Rattle.settled.specs.Lists.{IsIn}
 use Rattle.reorder.proofs.Added.{sound-push}
 use Rattle.reorder.proofs.Entries.{in-left, in-push}
 use Rattle.reorder.proofs.track.gather_chain.Goals as goal

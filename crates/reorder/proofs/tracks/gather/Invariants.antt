@@ -1,7 +1,7 @@
 use Rattle.std.proofs.Common.{ℕ, ◌<◌}
 use Rattle.std.specs.Prelude.{slice_index_or}
 use Rattle.run_frames.specs.OrderedLaws.{IsOrdered}
-use Rattle.reorder.specs.Lists.{IsIn}
+use Rattle.settled.specs.Lists.{IsIn}
 use Rattle.reorder.specs.Tracks.{CoversTrack}
 use Rattle.reorder.specs.declared.track.Track.{Track}
 use Rattle.reorder.proofs.tracks.gather.Given as goal

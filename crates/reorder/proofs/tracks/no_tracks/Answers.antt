@@ -1,10 +1,10 @@
 use Rattle.std.proofs.Common.{◌+◌, length, sym, ap, ◌∙◌, subst}
 use Rattle.std.proofs.lemmas.List.{length_push}
-use Rattle.reorder.specs.Lists.{Each}
-use Rattle.reorder.specs.Walks.{Here}
+use Rattle.settled.specs.Lists.{Each}
+use Rattle.settled.specs.Walks.{Here}
 use Rattle.reorder.specs.Tracks.{IsTrack}
 use Rattle.reorder.proofs.Added.{tracks-none}
-use Rattle.reorder.proofs.Changes.{each-end}
+use Rattle.settled.proofs.Entries.{each-end}
 use Rattle.reorder.proofs.tracks.no_tracks.Goals as goal
 
 pub loop-preserved : goal.loop-preserved

@@ -1,6 +1,6 @@
 use Rattle.std.proofs.Common.{◌≡◌, length}
-use Rattle.reorder.specs.Lists.{Each}
-use Rattle.reorder.specs.Walks.{Here}
+use Rattle.settled.specs.Lists.{Each}
+use Rattle.settled.specs.Walks.{Here}
 use Rattle.reorder.specs.Tracks.{IsTrack}
 use Rattle.reorder.proofs.tracks.no_tracks.Given as goal
 

@@ -1,32 +1,39 @@
-use Rattle.std.proofs.Common.{◌≡◌, ℕ, ◌+◌, ◌<◌, ◌≤◌, Bool, false, List, [], length, replicate, sym, ap, ◌∙◌, subst, arith}
-use Rattle.std.specs.Prelude.{◌↔◌, Vec}
-use Rattle.std.specs.declared.alloc.Global.{Global}
+use Rattle.std.proofs.Common.{◌≡◌, ◌≤◌, Bool, false, List, length, replicate, refl, sym, ap, ◌∙◌, subst, arith}
 use Rattle.std.proofs.lemmas.List.{length-replicate}
-use Rattle.reorder.specs.Lists.{IsIn}
-use Rattle.reorder.specs.Choices.{IsTaken, IsReady}
-use Rattle.reorder.proofs.Frees.{look-next}
+use Rattle.settled.specs.Lists.{IsIn}
+use Rattle.reorder.specs.Lists.{IsRising}
+use Rattle.reorder.specs.Choices.{IsTaken, IsSeen}
+use Rattle.reorder.proofs.Frees.{seen-next}
 use Rattle.reorder.proofs.Stages.{none-taken}
 use Rattle.reorder.proofs.order.Order.new.Goals as goal
 
+pub loop-step-init : goal.loop-step-init
+loop-step-init c =
+    let n = length c.args.needs.now in
+    let flags : c.in_ok-vec.field-0.items ≡ replicate n false = c.in_ok-vec.ensures.items_if_clones_equal (λ y same. same) in
+    record {
+      steps = refl;
+      sound =
+          record {
+            long = ap length flags ∙ length-replicate n false;
+            lists = c.in_ok-no_waiters.ensures.long;
+            taken = λ j. ((λ h. absurd (none-taken n j (subst (λ (taken : List Bool). IsTaken taken j) flags h))), λ h. absurd (subst (IsIn j) c.in_ok-with_capacity.ensures.items h));
+            rising = subst IsRising (sym c.new.ensures.items) tt;
+            ready = λ j h. absurd (subst (IsIn j) c.new.ensures.items h);
+            there = λ i j h. absurd (c.in_ok-no_waiters.ensures.none i j h);
+          };
+      seen = λ k low. absurd (omega arith);
+    }
+
 pub loop-step-preserved : goal.loop-step-preserved
 loop-step-preserved c =
-    let exactly = look-next (IsReady c.args.needs.now c.loop-step.order.taken.items) c.loop-step.order.free.items c.look_at.new.self.free.items c.loop-step.step c.loop-step.invariant.exactly c.in_ok-look_at.ensures.free in
     record {
       steps = c.look_at.ensures.steps ∙ c.loop-step.invariant.steps;
-      taken = c.look_at.ensures.taken ∙ c.loop-step.invariant.taken;
-      rising = c.in_ok-look_at.ensures.rising;
-      exactly = subst (λ (v : Vec Bool Global). (k : ℕ) → IsIn k c.look_at.new.self.free.items ↔ ((k < c.loop-step.step + 1) × IsReady c.args.needs.now v.items k)) (sym c.look_at.ensures.taken) exactly;
+      sound = c.in_ok-look_at.ensures.sound;
+      seen = seen-next (IsSeen c.args.needs.now c.loop-step.order) (IsSeen c.args.needs.now c.look_at.new.self) c.loop-step.step c.loop-step.invariant.seen c.in_ok-look_at.ensures.seen;
     }
 
 pub returns-clause-stage : goal.returns-clause-stage
 returns-clause-stage c =
-    let flags : c.loop-step.order.taken.items ≡ replicate (length c.args.needs.now) false = ap (λ (v : Vec Bool Global). v.items) c.loop-step.invariant.taken ∙ c.in_ok-vec.ensures.items_if_clones_equal (λ y same. same) in
-    let long : length c.loop-step.order.taken.items ≡ length c.args.needs.now = ap length flags ∙ length-replicate (length c.args.needs.now) false in
-    let empty : c.loop-step.order.steps.items ≡ [] = ap (λ (v : Vec ℕ Global). v.items) c.loop-step.invariant.steps ∙ c.in_ok-with_capacity.ensures.items in
     let all : length c.args.needs.now ≤ c.loop-step.step = c.loop-step-test.false in
-    record {
-      long = long;
-      taken = λ j. ((λ h. absurd (none-taken (length c.args.needs.now) j (subst (λ (taken : List Bool). IsTaken taken j) flags h))), λ h. absurd (subst (IsIn j) empty h));
-      rising = c.loop-step.invariant.rising;
-      exactly = λ j. ((λ h. ((c.loop-step.invariant.exactly j).0 h).1), λ r. (c.loop-step.invariant.exactly j).1 (let low : j < length c.loop-step.order.taken.items = r.within in (omega arith, r)));
-    }
+    record { sound = c.loop-step.invariant.sound; seen = λ j low. c.loop-step.invariant.seen j (omega arith) }

@@ -1,4 +1,4 @@
 use Rattle.reorder.proofs.track.Track.link.Given as goal
 
-abbrev pub ghost-close_all : goal.ghost-close_all
-ghost-close_all g a = g.here
+abbrev pub ghost-close_blocks : goal.ghost-close_blocks
+ghost-close_blocks g a = g.here

@@ -1,8 +1,9 @@
-use Rattle.std.proofs.Common.{rules, ◌≡◌, ◌<◌, ◌≤◌, ◌^◌, length, refl, arith}
-use Rattle.std.specs.Prelude.{None}
-use Rattle.reorder.specs.declared.track.Loose.{Loose}
+use Rattle.std.proofs.Common.{rules, ◌≡◌, ◌<◌, ◌≤◌, ◌^◌, length, refl, sym, ap, ◌∙◌, subst, arith, inr}
+use Rattle.reorder.specs.Lists.{One}
+use Rattle.reorder.specs.Tracks.{IsEnd, IsOnBlock}
+use Rattle.reorder.specs.declared.block.Loose.{Loose}
 use Rattle.reorder.specs.declared.track.Track.{Track}
-use Rattle.reorder.proofs.Added.{track-loosed, loosed-on, loosed-new}
+use Rattle.reorder.proofs.Added.{track-loosed, loosed-on}
 use Rattle.reorder.proofs.Ends.{chain-long}
 use Rattle.reorder.proofs.track.Track.loosen.Goals as goal
 
@@ -17,18 +18,17 @@ overflow_cast-end g c =
 
 pub returns-clause-track : goal.returns-clause-track
 returns-clause-track g c =
-    let l : Loose = record { place = c.args.place; from = c.args.end; until = None } in
-    let n : Track = record { chain = c.args.self.now.chain; loose = c.push.new.self } in
-    track-loosed g.here.run g.here.place c.args.self.now n l c.requires.1.0 c.requires.1.1 c.requires.0 refl refl c.in_ok-push.ensures.items
+    let m = g.here.run in
+    let j = g.here.place in
+    let old = c.args.self.now in
+    let is = c.new-loose.ensures in
+    let n : Track = record { chain = old.chain; blocks = c.put_loose.new.blocks } in
+    track-loosed m j old n c.new-loose.result c.requires.1.0 (subst (IsEnd m j old.chain.items) (sym (ap (λ (l : Loose). l.from) is)) c.requires.1.1) (ap (λ (l : Loose). l.place) is ∙ c.requires.0) (ap (λ (l : Loose). l.until) is) refl c.in_ok-put_loose.ensures
 
 pub returns-clause-kept : goal.returns-clause-kept
 returns-clause-kept g c =
-    let l : Loose = record { place = c.args.place; from = c.args.end; until = None } in
-    let n : Track = record { chain = c.args.self.now.chain; loose = c.push.new.self } in
-    loosed-on c.args.self.now n l refl c.in_ok-push.ensures.items
+    let n : Track = record { chain = c.args.self.now.chain; blocks = c.put_loose.new.blocks } in
+    loosed-on c.args.self.now n c.new-loose.result refl c.in_ok-put_loose.ensures
 
 pub returns-clause-added : goal.returns-clause-added
-returns-clause-added g c =
-    let l : Loose = record { place = c.args.place; from = c.args.end; until = None } in
-    let n : Track = record { chain = c.args.self.now.chain; loose = c.push.new.self } in
-    loosed-new c.args.self.now n l c.in_ok-push.ensures.items
+returns-clause-added g c = inr (subst (λ p. One (IsOnBlock p) c.put_loose.new.blocks.items) (ap (λ (l : Loose). l.place) c.new-loose.ensures) c.in_ok-put_loose.ensures.added)

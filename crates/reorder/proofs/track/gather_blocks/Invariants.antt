@@ -1,0 +1,18 @@
+use Rattle.std.proofs.Common.{ℕ, ◌<◌, ◌⊎◌}
+use Rattle.std.specs.Prelude.{slice_index_or}
+use Rattle.run_frames.specs.OrderedLaws.{IsOrdered}
+use Rattle.settled.specs.Lists.{IsIn}
+use Rattle.reorder.specs.Tracks.{IsBlockFound}
+use Rattle.reorder.specs.declared.block.Block.{Block}
+use Rattle.reorder.proofs.track.gather_blocks.Given as goal
+
+abbrev pub ghost-gather : goal.ghost-gather
+ghost-gather g a = g.here
+
+abbrev pub invariant-loop-block : goal.invariant-loop-block
+invariant-loop-block g l =
+    record {
+      kept : (k : ℕ) → IsIn k l.initial.needs.items → IsIn k l.needs.items;
+      sound : (k : ℕ) → IsIn k l.needs.items → IsIn k l.initial.needs.items ⊎ IsOrdered g.here.run k g.here.place;
+      found : (k : ℕ) (d : Block) → k < l.block-index → IsBlockFound g.here.run g.here.place l.end l.needs.items (slice_index_or l.blocks k d);
+    }

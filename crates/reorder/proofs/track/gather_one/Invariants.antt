@@ -1,4 +1,0 @@
-use Rattle.reorder.proofs.track.gather_one.Given as goal
-
-abbrev pub ghost-before : goal.ghost-before
-ghost-before g a = g.here
