@@ -24,13 +24,13 @@ BUDGETS = (10_000, 100_000, STEPS)
 SOURCE_BYTES = 4_194_304
 
 
-def measured(words, allowed=(0,), program=CELL):
+def measured(words, allowed=(0,), program=CELL, runs=RUNS, errors=None):
     """The best time in seconds, and the greatest resident memory in KiB, of a command that ends with a status that is allowed."""
     best, most = None, 0
-    for _ in range(RUNS):
+    for _ in range(runs):
         start = time.monotonic()
         with open(os.devnull, "w") as nowhere:
-            child = subprocess.Popen([program, *words], stdout=nowhere, cwd=ROOT)
+            child = subprocess.Popen([program, *words], stdout=nowhere, stderr=errors, cwd=ROOT)
             _, status, usage = os.wait4(child.pid, 0)
         took = time.monotonic() - start
         if os.waitstatus_to_exitcode(status) not in allowed:

@@ -1,8 +1,8 @@
 """Which runs are settled, and which order of a run's steps a number names: told once more in plain Python, beside the proved program.
 
 A run is settled where no processor sees how far its flow controller has come, except by what orders what it sees. Seven clauses say so, under the names that
-they have in run_permute's `Settled`, each of them here as a look at the places of a trace. `before` has of each place the places that are ordered before it, as the
-bits of a number. Nothing here is fast: every clause looks at every place.
+they have in run_permute's `Settled`, each of them here as a look at the places of a trace. `before` has of each place the places that are ordered before it, as
+the bits of a number. Nothing here is fast: every clause looks at every place.
 """
 from order_rules import is_stalled
 
@@ -125,7 +125,12 @@ def handles_stalls(t, before):
 
 
 def reads_one_stall(t, before, spe, place):
-    """Whether at a read of the stall status one list isn't closed, which is stalled, and whose tag comes next, before any other list is issued."""
+    """Whether at a read of the stall status one list isn't closed, which is stalled, and whose tag comes next, before any other list is issued.
+
+    No run breaks it by a list that isn't stalled alone. The read waits for a bit, which some list set when it stalled, behind the read before. Where no
+    acknowledgement came since, that list is still stalled, so it isn't closed, and is the one. Where one came, it answers the read before, so the list stalled
+    between these two; but there no list is issued, the one that isn't closed stands stalled, and the others are complete.
+    """
     lists = open_commands(t, before, spe, place, LISTS)
     if len(lists) != 1 or not is_stalled(t, *lists[0], place):
         return False

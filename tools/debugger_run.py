@@ -8,7 +8,7 @@ import re
 from language import ROOT
 from effects import MEMORY_LINE, Trace
 from records import plain_record, record_text
-from runs import PROGRAM, Refused, ask_tracer, ended, next_step, said_of, tracer_command
+from runs import Refused, ask_tracer, ended, next_step, said_of, tracer_command
 
 SPE = re.compile(r"spe (\d+) (.+) pc 0x([0-9a-f]{5}) queued (\d+)")
 SHOW_LINE = re.compile(rb"^[ \t]*show[ \t].*$", re.M)
@@ -125,7 +125,7 @@ class Run:
         self.memory = MEMORY_LINE * int(SIZE_LINE.search(self.text)[1], 0)
         self.trace, self.heads, self.place = Trace([]), [], 0
         self.left = []  # the ways that were left, the latest last
-        self.states, self.is_written, self.is_built = {}, False, False
+        self.states, self.is_written = {}, False
         self.spes = len(self.state().spes)
 
     def follow(self, record):
@@ -228,17 +228,9 @@ class Run:
         if not self.is_written:
             record.write_text(plain_record(self.heads))
             self.is_written = True
-        command, how = self.command(["go", str(machine), str(record), str(place), str(choices)])
+        command, how = tracer_command(self.machine, ["go", str(machine), str(record), str(place), str(choices)])
         done = ended(command, **how)
         effects, mark, state = ("\n" + done.stdout).partition("\nend ")
         if done.returncode or not mark:
             raise Refused(f"run_trace: {said_of(done)}")
         return effects.splitlines()[1:], State(("end " + state).splitlines())
-
-    def command(self, words):
-        """The command that asks run_trace; whether it is built is looked at once."""
-        if self.is_built:
-            return [PROGRAM, *words], {}
-        command, how = tracer_command(self.machine, words)
-        self.is_built = command[0] == PROGRAM
-        return command, how

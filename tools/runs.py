@@ -1,6 +1,7 @@
 """Asks the programs of this repository about the run of a record: `cell check`, and run_trace, which is built first where it isn't."""
 import bisect
 import contextlib
+import functools
 import os
 import pathlib
 import re
@@ -62,14 +63,22 @@ def verdict(machine, record):
     return done.stdout.splitlines()
 
 
+@functools.cache  # the files are looked at once, however often run_trace is asked
 def is_current():
     """Whether run_trace is built from the files as they are."""
     if not PROGRAM.exists():
         return False
-    folders = [folder for crate in (ROOT / "crates").iterdir() for folder in (crate / "src", crate / "specs", crate / "proofs")]
     built = PROGRAM.stat().st_mtime
-    files = (path for folder in folders if folder.exists() for path in folder.rglob("*"))
-    return all(path.stat().st_mtime <= built for path in (ROOT / "crates.txt", *files))
+    return all(os.stat(path).st_mtime <= built for path in built_from())
+
+
+def built_from():
+    """The files that run_trace is built from, and their folders."""
+    yield ROOT / "crates.txt"
+    for crate in os.scandir(ROOT / "crates"):
+        for part in ("src", "specs", "proofs"):
+            for folder, folders, names in os.walk(os.path.join(crate, part)):
+                yield from (os.path.join(folder, name) for name in (*folders, *names))
 
 
 def build():
@@ -82,6 +91,7 @@ def build():
     with open(log, "w") as file:
         # without words it says which it takes, once it is built
         subprocess.run(["rt", "run"], cwd=CRATE, stdin=subprocess.DEVNULL, stdout=file, stderr=file)
+    is_current.cache_clear()
     if not is_current():
         raise Refused(f"run_trace isn't proved or isn't built: see {log}")
 

@@ -1,0 +1,31 @@
+"""Asks the proved programs about runs, in a folder that has the machine file and the record."""
+import pathlib
+import subprocess
+
+from order_rules import trace_of_lines
+
+ROOT = pathlib.Path(__file__).resolve().parent.parent
+TRACER = ROOT / "crates" / "run_trace" / "out" / "run_trace"
+CELL = ROOT / "crates" / "cell_cli" / "out" / "cell_cli"
+SECONDS = 60
+
+
+def output(words, folder):
+    """What run_trace prints."""
+    done = subprocess.run([TRACER, *words], cwd=folder, capture_output=True, text=True, timeout=SECONDS)
+    if done.returncode:
+        raise RuntimeError(f"run_trace {' '.join(words)}: {done.stderr}")
+    return done.stdout
+
+
+def said_of(folder, *words):
+    """What `cell` writes, to its output and as its error, and its status."""
+    done = subprocess.run([CELL, *map(str, words)], cwd=folder, capture_output=True, text=True, timeout=SECONDS)
+    return done.stdout, done.stderr, done.returncode
+
+
+def trace_of(folder, machine, record):
+    """The trace of a run, and of each place the places that the orderer has before it, as bits."""
+    places = (printed.split(" | ")[2].strip("[]") for printed in output(["trace", machine, record], folder).splitlines())
+    before = [sum(1 << int(place) for place in found.split(",") if place) for found in places]
+    return trace_of_lines(output(["effects", machine, record], folder).splitlines()), before
