@@ -7,6 +7,7 @@ ghost use Rattle.spu_bits.specs.Rows.{absdb_of, avgb_of, byte_sum, clz_of, cntb_
 
 use cell_base::{Quad, extended_half, extended_word};
 
+#[inline(always)]
 fn zeros_before_ones(x: u32) -> u32
     ensures { result ≡ leading_zeros w32 x }
 {
@@ -15,12 +16,14 @@ fn zeros_before_ones(x: u32) -> u32
 
 /// The number of leading zero bits of each word, 32 for zero.
 #[tactic(auto, unfolding(crate::specs::Rows::clz_of))]
+#[inline(always)]
 pub fn row_clz(a: Quad) -> Quad
     ensures { result ≡ clz_of a }
 {
     a.map_words(zeros_before_ones)
 }
 
+#[inline(always)]
 fn ones_of_byte(x: u8) -> u8
     ensures { result ≡ count_ones x }
 {
@@ -29,12 +32,14 @@ fn ones_of_byte(x: u8) -> u8
 
 /// The number of ones of each byte.
 #[tactic(auto, unfolding(crate::specs::Rows::cntb_of))]
+#[inline(always)]
 pub fn row_cntb(a: Quad) -> Quad
     ensures { result ≡ cntb_of a }
 {
     a.map_bytes(ones_of_byte)
 }
 
+#[inline(always)]
 fn extend_byte(x: u16) -> u16
     ensures { result ≡ extended 8 w16 (x % 2 ^ 8) }
 {
@@ -43,12 +48,14 @@ fn extend_byte(x: u16) -> u16
 
 /// The right byte of each halfword, with its sign.
 #[tactic(auto, unfolding(crate::specs::Rows::xsbh_of))]
+#[inline(always)]
 pub fn row_xsbh(a: Quad) -> Quad
     ensures { result ≡ xsbh_of a }
 {
     a.map_halves(extend_byte)
 }
 
+#[inline(always)]
 fn extend_half(x: u32) -> u32
     ensures { result ≡ extended 16 w32 (x % 2 ^ 16) }
 {
@@ -57,12 +64,14 @@ fn extend_half(x: u32) -> u32
 
 /// The right halfword of each word, with its sign.
 #[tactic(auto, unfolding(crate::specs::Rows::xshw_of))]
+#[inline(always)]
 pub fn row_xshw(a: Quad) -> Quad
     ensures { result ≡ xshw_of a }
 {
     a.map_words(extend_half)
 }
 
+#[inline(always)]
 fn extend_word(x: u64) -> u64
     ensures { result ≡ extended 32 w64 (x % 2 ^ 32) }
 {
@@ -76,6 +85,7 @@ fn extend_word(x: u64) -> u64
 
 /// The right word of each doubleword, with its sign.
 #[tactic(auto, unfolding(crate::specs::Rows::xswd_of))]
+#[inline(always)]
 pub fn row_xswd(a: Quad) -> Quad
     ensures { result ≡ xswd_of a }
 {
@@ -83,6 +93,7 @@ pub fn row_xswd(a: Quad) -> Quad
 }
 
 // The sum has nine bits before it is halved.
+#[inline(always)]
 fn average_bytes(x: u8, y: u8) -> u8
     ensures { result ≡ (x + y + 1) / 2 }
 {
@@ -91,6 +102,7 @@ fn average_bytes(x: u8, y: u8) -> u8
 
 /// The average of the bytes of `a` and `b`, a half rounded up.
 #[tactic(auto, unfolding(crate::specs::Rows::avgb_of))]
+#[inline(always)]
 pub fn row_avgb(a: Quad, b: Quad) -> Quad
     ensures { result ≡ avgb_of a b }
 {
@@ -99,18 +111,21 @@ pub fn row_avgb(a: Quad, b: Quad) -> Quad
 
 /// The absolute difference of the bytes of `a` and `b`, read as unsigned.
 #[tactic(auto, unfolding(crate::specs::Rows::absdb_of))]
+#[inline(always)]
 pub fn row_absdb(a: Quad, b: Quad) -> Quad
     ensures { result ≡ absdb_of a b }
 {
     a.zip_bytes(b, u8::abs_diff)
 }
 
+#[inline(always)]
 fn sum_of_bytes(x: u32) -> u32
     ensures { result ≡ byte_sum x }
 {
     (x >> 24) + (x >> 16 & 0xff) + (x >> 8 & 0xff) + (x & 0xff)
 }
 
+#[inline(always)]
 fn sums_of_bytes(x: u32, y: u32) -> u32
     ensures { result ≡ byte_sum y * 2 ^ 16 + byte_sum x }
 {
@@ -120,6 +135,7 @@ fn sums_of_bytes(x: u32, y: u32) -> u32
 /// The sum of the four bytes of each word: that of `b` in the left halfword,
 /// that of `a` in the right one.
 #[tactic(auto, unfolding(crate::specs::Rows::sumb_of))]
+#[inline(always)]
 pub fn row_sumb(a: Quad, b: Quad) -> Quad
     ensures { result ≡ sumb_of a b }
 {

@@ -8,6 +8,7 @@ ghost use Rattle.spu_bits.specs.Rows.{address_by_immediate, address_by_index, cb
 use cell_base::{Quad, extended_word};
 
 // The byte that a control byte picks.
+#[inline(always)]
 fn pick(a: &[u8; 16], b: &[u8; 16], control: u8) -> u8
     ensures { result ≡ picked a.now b.now control }
 {
@@ -26,6 +27,7 @@ fn pick(a: &[u8; 16], b: &[u8; 16], control: u8) -> u8
 /// Each byte by the control byte of `c`: 0x00 where that begins with the bits 10, 0xFF where with 110,
 /// 0x80 where with 111, else the byte of `a` followed by `b` at its low five bits.
 #[tactic(auto, unfolding(crate::specs::Rows::shufb_of))]
+#[inline(always)]
 pub fn row_shufb(a: Quad, b: Quad, c: Quad) -> Quad
     ensures { result ≡ shufb_of a b c }
 {
@@ -35,6 +37,7 @@ pub fn row_shufb(a: Quad, b: Quad, c: Quad) -> Quad
 }
 
 // Byte k of `insertion`.
+#[inline(always)]
 fn inserted_byte(length: u32, first: u32, at: u32, k: u32) -> u8
     requires short { length ≤ 8 }
     requires small { first ≤ 3 }
@@ -51,6 +54,7 @@ fn inserted_byte(length: u32, first: u32, at: u32, k: u32) -> u8
 }
 
 // The bytes 0x10, 0x11, .., 0x1F, with `length` bytes from `first` on in place of those from `at` on.
+#[inline(always)]
 fn insertion(length: u32, first: u32, at: u32) -> Quad
     requires short { length ≤ 8 }
     requires small { first ≤ 3 }
@@ -61,6 +65,7 @@ fn insertion(length: u32, first: u32, at: u32) -> Quad
 }
 
 // The address in word 0 with an immediate of seven bits added, with its sign.
+#[inline(always)]
 fn displaced(a: Quad, imm: u32) -> u32
     requires { imm < 2 ^ 7 }
     ensures { result ≡ address_by_immediate a imm }
@@ -69,6 +74,7 @@ fn displaced(a: Quad, imm: u32) -> u32
 }
 
 // The address in word 0 with that of the second quadword added.
+#[inline(always)]
 fn indexed(a: Quad, b: Quad) -> u32
     ensures { result ≡ address_by_index a b }
 {
@@ -77,6 +83,7 @@ fn indexed(a: Quad, b: Quad) -> u32
 
 /// The control that inserts a byte at the address in word 0 of `a` plus the signed immediate.
 #[tactic(auto, unfolding(crate::specs::Rows::cbd_of))]
+#[inline(always)]
 pub fn row_cbd(a: Quad, imm: u32) -> Quad
     requires { imm < 2 ^ 7 }
     ensures { result ≡ cbd_of a imm }
@@ -86,6 +93,7 @@ pub fn row_cbd(a: Quad, imm: u32) -> Quad
 
 /// The control that inserts a halfword at the address in word 0 of `a` plus the signed immediate.
 #[tactic(auto, unfolding(crate::specs::Rows::chd_of))]
+#[inline(always)]
 pub fn row_chd(a: Quad, imm: u32) -> Quad
     requires { imm < 2 ^ 7 }
     ensures { result ≡ chd_of a imm }
@@ -95,6 +103,7 @@ pub fn row_chd(a: Quad, imm: u32) -> Quad
 
 /// The control that inserts a word at the address in word 0 of `a` plus the signed immediate.
 #[tactic(auto, unfolding(crate::specs::Rows::cwd_of))]
+#[inline(always)]
 pub fn row_cwd(a: Quad, imm: u32) -> Quad
     requires { imm < 2 ^ 7 }
     ensures { result ≡ cwd_of a imm }
@@ -104,6 +113,7 @@ pub fn row_cwd(a: Quad, imm: u32) -> Quad
 
 /// The control that inserts a doubleword at the address in word 0 of `a` plus the signed immediate.
 #[tactic(auto, unfolding(crate::specs::Rows::cdd_of))]
+#[inline(always)]
 pub fn row_cdd(a: Quad, imm: u32) -> Quad
     requires { imm < 2 ^ 7 }
     ensures { result ≡ cdd_of a imm }
@@ -113,6 +123,7 @@ pub fn row_cdd(a: Quad, imm: u32) -> Quad
 
 /// The control that inserts a byte at the sum of the addresses in word 0 of `a` and `b`.
 #[tactic(auto, unfolding(crate::specs::Rows::cbx_of))]
+#[inline(always)]
 pub fn row_cbx(a: Quad, b: Quad) -> Quad
     ensures { result ≡ cbx_of a b }
 {
@@ -121,6 +132,7 @@ pub fn row_cbx(a: Quad, b: Quad) -> Quad
 
 /// The control that inserts a halfword at the sum of the addresses in word 0 of `a` and `b`.
 #[tactic(auto, unfolding(crate::specs::Rows::chx_of))]
+#[inline(always)]
 pub fn row_chx(a: Quad, b: Quad) -> Quad
     ensures { result ≡ chx_of a b }
 {
@@ -129,6 +141,7 @@ pub fn row_chx(a: Quad, b: Quad) -> Quad
 
 /// The control that inserts a word at the sum of the addresses in word 0 of `a` and `b`.
 #[tactic(auto, unfolding(crate::specs::Rows::cwx_of))]
+#[inline(always)]
 pub fn row_cwx(a: Quad, b: Quad) -> Quad
     ensures { result ≡ cwx_of a b }
 {
@@ -137,6 +150,7 @@ pub fn row_cwx(a: Quad, b: Quad) -> Quad
 
 /// The control that inserts a doubleword at the sum of the addresses in word 0 of `a` and `b`.
 #[tactic(auto, unfolding(crate::specs::Rows::cdx_of))]
+#[inline(always)]
 pub fn row_cdx(a: Quad, b: Quad) -> Quad
     ensures { result ≡ cdx_of a b }
 {

@@ -7,6 +7,7 @@ use cell_base::{Quad, low_bytes, ten_bit_halves, ten_bit_words};
 
 /// `a` and `b`, bit by bit.
 #[tactic(auto, unfolding(crate::specs::Rows::and_of))]
+#[inline(always)]
 pub fn row_and(a: Quad, b: Quad) -> Quad
     ensures { result ≡ and_of a b }
 {
@@ -15,6 +16,7 @@ pub fn row_and(a: Quad, b: Quad) -> Quad
 
 /// `a` and not `b`, bit by bit.
 #[tactic(auto, unfolding(crate::specs::Rows::andc_of))]
+#[inline(always)]
 pub fn row_andc(a: Quad, b: Quad) -> Quad
     ensures { result ≡ andc_of a b }
 {
@@ -23,6 +25,7 @@ pub fn row_andc(a: Quad, b: Quad) -> Quad
 
 /// `a` or `b`, bit by bit.
 #[tactic(auto, unfolding(crate::specs::Rows::or_of))]
+#[inline(always)]
 pub fn row_or(a: Quad, b: Quad) -> Quad
     ensures { result ≡ or_of a b }
 {
@@ -31,6 +34,7 @@ pub fn row_or(a: Quad, b: Quad) -> Quad
 
 /// `a` or not `b`, bit by bit.
 #[tactic(auto, unfolding(crate::specs::Rows::orc_of))]
+#[inline(always)]
 pub fn row_orc(a: Quad, b: Quad) -> Quad
     ensures { result ≡ orc_of a b }
 {
@@ -39,6 +43,7 @@ pub fn row_orc(a: Quad, b: Quad) -> Quad
 
 /// `a` exclusive or `b`, bit by bit.
 #[tactic(auto, unfolding(crate::specs::Rows::xor_of))]
+#[inline(always)]
 pub fn row_xor(a: Quad, b: Quad) -> Quad
     ensures { result ≡ xor_of a b }
 {
@@ -47,6 +52,7 @@ pub fn row_xor(a: Quad, b: Quad) -> Quad
 
 /// Not (`a` and `b`), bit by bit.
 #[tactic(auto, unfolding(crate::specs::Rows::nand_of))]
+#[inline(always)]
 pub fn row_nand(a: Quad, b: Quad) -> Quad
     ensures { result ≡ nand_of a b }
 {
@@ -55,6 +61,7 @@ pub fn row_nand(a: Quad, b: Quad) -> Quad
 
 /// Not (`a` or `b`), bit by bit.
 #[tactic(auto, unfolding(crate::specs::Rows::nor_of))]
+#[inline(always)]
 pub fn row_nor(a: Quad, b: Quad) -> Quad
     ensures { result ≡ nor_of a b }
 {
@@ -63,6 +70,7 @@ pub fn row_nor(a: Quad, b: Quad) -> Quad
 
 /// Not (`a` exclusive or `b`), bit by bit.
 #[tactic(auto, unfolding(crate::specs::Rows::eqv_of))]
+#[inline(always)]
 pub fn row_eqv(a: Quad, b: Quad) -> Quad
     ensures { result ≡ eqv_of a b }
 {
@@ -71,6 +79,7 @@ pub fn row_eqv(a: Quad, b: Quad) -> Quad
 
 /// The bit of `b` where the bit of `c` is 1, else that of `a`.
 #[tactic(auto, unfolding(crate::specs::Rows::selb_of))]
+#[inline(always)]
 pub fn row_selb(a: Quad, b: Quad, c: Quad) -> Quad
     ensures { result ≡ selb_of a b c }
 {
@@ -80,6 +89,7 @@ pub fn row_selb(a: Quad, b: Quad, c: Quad) -> Quad
 
 /// Each byte of `a` and the low eight bits of the immediate.
 #[tactic(auto, unfolding(crate::specs::Rows::andbi_of))]
+#[inline(always)]
 pub fn row_andbi(a: Quad, imm: u32) -> Quad
     requires { imm < 2 ^ 10 }
     ensures { result ≡ andbi_of a imm }
@@ -89,6 +99,7 @@ pub fn row_andbi(a: Quad, imm: u32) -> Quad
 
 /// Each halfword of `a` and the immediate with its sign.
 #[tactic(auto, unfolding(crate::specs::Rows::andhi_of))]
+#[inline(always)]
 pub fn row_andhi(a: Quad, imm: u32) -> Quad
     requires { imm < 2 ^ 10 }
     ensures { result ≡ andhi_of a imm }
@@ -98,6 +109,7 @@ pub fn row_andhi(a: Quad, imm: u32) -> Quad
 
 /// Each word of `a` and the immediate with its sign.
 #[tactic(auto, unfolding(crate::specs::Rows::andi_of))]
+#[inline(always)]
 pub fn row_andi(a: Quad, imm: u32) -> Quad
     requires { imm < 2 ^ 10 }
     ensures { result ≡ andi_of a imm }
@@ -107,6 +119,7 @@ pub fn row_andi(a: Quad, imm: u32) -> Quad
 
 /// Each byte of `a` or the low eight bits of the immediate.
 #[tactic(auto, unfolding(crate::specs::Rows::orbi_of))]
+#[inline(always)]
 pub fn row_orbi(a: Quad, imm: u32) -> Quad
     requires { imm < 2 ^ 10 }
     ensures { result ≡ orbi_of a imm }
@@ -116,6 +129,7 @@ pub fn row_orbi(a: Quad, imm: u32) -> Quad
 
 /// Each halfword of `a` or the immediate with its sign.
 #[tactic(auto, unfolding(crate::specs::Rows::orhi_of))]
+#[inline(always)]
 pub fn row_orhi(a: Quad, imm: u32) -> Quad
     requires { imm < 2 ^ 10 }
     ensures { result ≡ orhi_of a imm }
@@ -125,6 +139,7 @@ pub fn row_orhi(a: Quad, imm: u32) -> Quad
 
 /// Each word of `a` or the immediate with its sign.
 #[tactic(auto, unfolding(crate::specs::Rows::ori_of))]
+#[inline(always)]
 pub fn row_ori(a: Quad, imm: u32) -> Quad
     requires { imm < 2 ^ 10 }
     ensures { result ≡ ori_of a imm }
@@ -134,6 +149,7 @@ pub fn row_ori(a: Quad, imm: u32) -> Quad
 
 /// Each byte of `a` exclusive or the low eight bits of the immediate.
 #[tactic(auto, unfolding(crate::specs::Rows::xorbi_of))]
+#[inline(always)]
 pub fn row_xorbi(a: Quad, imm: u32) -> Quad
     requires { imm < 2 ^ 10 }
     ensures { result ≡ xorbi_of a imm }
@@ -143,6 +159,7 @@ pub fn row_xorbi(a: Quad, imm: u32) -> Quad
 
 /// Each halfword of `a` exclusive or the immediate with its sign.
 #[tactic(auto, unfolding(crate::specs::Rows::xorhi_of))]
+#[inline(always)]
 pub fn row_xorhi(a: Quad, imm: u32) -> Quad
     requires { imm < 2 ^ 10 }
     ensures { result ≡ xorhi_of a imm }
@@ -152,6 +169,7 @@ pub fn row_xorhi(a: Quad, imm: u32) -> Quad
 
 /// Each word of `a` exclusive or the immediate with its sign.
 #[tactic(auto, unfolding(crate::specs::Rows::xori_of))]
+#[inline(always)]
 pub fn row_xori(a: Quad, imm: u32) -> Quad
     requires { imm < 2 ^ 10 }
     ensures { result ≡ xori_of a imm }
@@ -161,6 +179,7 @@ pub fn row_xori(a: Quad, imm: u32) -> Quad
 
 /// The or of the four words in word 0, and zeros after.
 #[tactic(auto, unfolding(crate::specs::Rows::orx_of))]
+#[inline(always)]
 pub fn row_orx(a: Quad) -> Quad
     ensures { result ≡ orx_of a }
 {

@@ -7,6 +7,7 @@ ghost use Rattle.spu_exec.specs.Places.{next_pc};
 use cell_base::{Quad, extended_word};
 
 /// The displacement counts quadwords from the address in RA.
+#[inline(always)]
 pub(crate) fn displaced(imm: u32, a: Quad) -> u32
     requires { imm < 2 ^ 10 }
     ensures { result ≡ displaced imm a }
@@ -15,6 +16,7 @@ pub(crate) fn displaced(imm: u32, a: Quad) -> u32
         .wrapping_add(extended_word(imm, 10).wrapping_mul(16))
 }
 
+#[inline(always)]
 pub(crate) fn indexed(a: Quad, b: Quad) -> u32
     ensures { result ≡ indexed a b }
 {
@@ -22,6 +24,7 @@ pub(crate) fn indexed(a: Quad, b: Quad) -> u32
 }
 
 /// The immediate counts words from address 0.
+#[inline(always)]
 pub(crate) fn absolute(imm: u32) -> u32
     requires { imm < 2 ^ 16 }
     ensures { result ≡ absolute imm }
@@ -30,6 +33,7 @@ pub(crate) fn absolute(imm: u32) -> u32
 }
 
 /// The immediate counts words from the instruction.
+#[inline(always)]
 pub(crate) fn relative(imm: u32, pc: u32) -> u32
     requires { imm < 2 ^ 16 }
     ensures { result ≡ relative imm pc }
@@ -38,6 +42,7 @@ pub(crate) fn relative(imm: u32, pc: u32) -> u32
 }
 
 /// The target of a direct branch.
+#[inline(always)]
 pub(crate) fn direct(at: u32) -> u32
     ensures { result ≡ direct at }
 {
@@ -45,6 +50,7 @@ pub(crate) fn direct(at: u32) -> u32
 }
 
 /// The target of an indirect branch.
+#[inline(always)]
 pub(crate) fn indirect(a: Quad) -> u32
     ensures { result ≡ indirect a }
 {
@@ -52,6 +58,7 @@ pub(crate) fn indirect(a: Quad) -> u32
 }
 
 /// The address after an instruction at `pc`, which is below 262,144; after the last one comes 0.
+#[inline(always)]
 pub fn next_pc(pc: u32) -> u32
     requires { pc < 262144 }
     ensures { result ≡ next_pc pc }

@@ -10,6 +10,7 @@ use cell_base::{ChannelOp, Quad, extended_word};
 use spu_decode::{Instr, Row};
 
 /// What comes after an instruction at `pc`; `a`, `b` and `t` are the quadwords of RA, RB and RT before it.
+#[inline(always)]
 #[tactic(auto, unfolding(spu_decode::specs::Table::entry_of))]
 pub(crate) fn flow_of(i: Instr, pc: u32, a: Quad, b: Quad, t: Quad) -> Flow
     requires fits { FieldsFit i }
@@ -52,6 +53,7 @@ pub(crate) fn flow_of(i: Instr, pc: u32, a: Quad, b: Quad, t: Quad) -> Flow
 }
 
 /// The target where the branch is taken, else the next instruction.
+#[inline(always)]
 fn branch_if(taken: bool, target: u32, pc: u32) -> Flow
     requires { pc < 262144 }
     ensures { result ≡ branch_if taken target pc }
@@ -64,6 +66,7 @@ fn branch_if(taken: bool, target: u32, pc: u32) -> Flow
 }
 
 /// A halt where it holds, else the next instruction.
+#[inline(always)]
 fn halt_if(holds: bool, pc: u32) -> Flow
     requires { pc < 262144 }
     ensures { result ≡ halt_if holds pc }
@@ -77,6 +80,7 @@ fn halt_if(holds: bool, pc: u32) -> Flow
 }
 
 /// Whether word 0 is zero.
+#[inline(always)]
 fn is_zero(t: Quad) -> bool
     ensures { result ≡ is_zero t }
 {
@@ -84,6 +88,7 @@ fn is_zero(t: Quad) -> bool
 }
 
 /// Whether the right halfword of word 0 is zero.
+#[inline(always)]
 fn is_half_zero(t: Quad) -> bool
     ensures { result ≡ is_half_zero t }
 {
@@ -91,6 +96,7 @@ fn is_half_zero(t: Quad) -> bool
 }
 
 /// Whether `x` is above `y`, both read as signed.
+#[inline(always)]
 fn signed_above(x: u32, y: u32) -> bool
     ensures { result ≡ signed_above x y }
 {

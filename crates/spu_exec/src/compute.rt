@@ -9,6 +9,7 @@ use cell_base::Quad;
 use spu_decode::Row;
 
 /// What RT becomes: `a`, `b`, `c` and `t` are the quadwords of RA, RB, RC and RT before the instruction.
+#[inline(always)]
 pub(crate) fn computed(row: Row, imm: u32, a: Quad, b: Quad, c: Quad, t: Quad) -> Option<Quad>
     requires { imm < 2 ^ immediate_bits (shape_of row).format }
     ensures { result ≡ computed row imm a b c t }
@@ -17,6 +18,7 @@ pub(crate) fn computed(row: Row, imm: u32, a: Quad, b: Quad, c: Quad, t: Quad) -
 }
 
 /// Constants and arithmetic.
+#[inline(always)]
 #[tactic(auto, unfolding(spu_decode::specs::Table::entry_of))]
 fn arithmetic(row: Row, imm: u32, a: Quad, b: Quad, c: Quad, t: Quad) -> Option<Quad>
     requires { imm < 2 ^ immediate_bits (shape_of row).format }
@@ -48,6 +50,7 @@ fn arithmetic(row: Row, imm: u32, a: Quad, b: Quad, c: Quad, t: Quad) -> Option<
 }
 
 /// Multiplies and compares.
+#[inline(always)]
 #[tactic(auto, unfolding(spu_decode::specs::Table::entry_of))]
 fn products(row: Row, imm: u32, a: Quad, b: Quad, c: Quad, t: Quad) -> Option<Quad>
     requires { imm < 2 ^ immediate_bits (shape_of row).format }
@@ -88,6 +91,7 @@ fn products(row: Row, imm: u32, a: Quad, b: Quad, c: Quad, t: Quad) -> Option<Qu
 }
 
 /// Counting, bytes, masks, shuffles and insertion controls.
+#[inline(always)]
 #[tactic(auto, unfolding(spu_decode::specs::Table::entry_of))]
 fn bytes(row: Row, imm: u32, a: Quad, b: Quad, c: Quad, t: Quad) -> Option<Quad>
     requires { imm < 2 ^ immediate_bits (shape_of row).format }
@@ -122,6 +126,7 @@ fn bytes(row: Row, imm: u32, a: Quad, b: Quad, c: Quad, t: Quad) -> Option<Quad>
 }
 
 /// Logic.
+#[inline(always)]
 #[tactic(auto, unfolding(spu_decode::specs::Table::entry_of))]
 fn logic(row: Row, imm: u32, a: Quad, b: Quad, c: Quad, t: Quad) -> Option<Quad>
     requires { imm < 2 ^ immediate_bits (shape_of row).format }
@@ -152,6 +157,7 @@ fn logic(row: Row, imm: u32, a: Quad, b: Quad, c: Quad, t: Quad) -> Option<Quad>
 }
 
 /// Shifts and rotates.
+#[inline(always)]
 #[tactic(auto, unfolding(spu_decode::specs::Table::entry_of))]
 fn shifts(row: Row, imm: u32, a: Quad, b: Quad, c: Quad, t: Quad) -> Option<Quad>
     requires { imm < 2 ^ immediate_bits (shape_of row).format }

@@ -47,6 +47,7 @@ pub fn exec(i: Instr, pc: u32, regs: &mut Regs, ls: &mut LocalStore) -> Flow
 }
 
 /// Puts a value into register `rt`, if there is one.
+#[inline(always)]
 fn set_value(regs: &mut Regs, rt: u8, value: Option<Quad>)
     requires { rt < 128 }
     ensures { regs.new ≡ with_value rt value regs.old }
@@ -57,6 +58,7 @@ fn set_value(regs: &mut Regs, rt: u8, value: Option<Quad>)
 }
 
 /// Puts a quadword into the store at an address, if there is one.
+#[inline(always)]
 fn store(ls: &mut LocalStore, at: Option<u32>, t: Quad)
     ensures { ls.new ≡ with_stored at t ls.old }
 {

@@ -11,6 +11,7 @@ use local_store::LocalStore;
 use spu_decode::{Instr, Row};
 
 /// What RT becomes, if the row sets it: by a load, by a link, or by a computation.
+#[inline(always)]
 #[tactic(auto, unfolding(spu_decode::specs::Table::entry_of))]
 pub(crate) fn value_of(
     i: Instr,
@@ -38,6 +39,7 @@ pub(crate) fn value_of(
 }
 
 /// The address at which a quadword is loaded, if the row loads one.
+#[inline(always)]
 #[tactic(auto, unfolding(spu_decode::specs::Table::entry_of))]
 pub(crate) fn loaded_at(i: Instr, pc: u32, a: Quad, b: Quad) -> Option<u32>
     requires { FieldsFit i }
@@ -53,6 +55,7 @@ pub(crate) fn loaded_at(i: Instr, pc: u32, a: Quad, b: Quad) -> Option<u32>
 }
 
 /// The address at which RT is stored, if the row stores it.
+#[inline(always)]
 #[tactic(auto, unfolding(spu_decode::specs::Table::entry_of))]
 pub(crate) fn stored_at(i: Instr, pc: u32, a: Quad, b: Quad) -> Option<u32>
     requires { FieldsFit i }

@@ -6,6 +6,7 @@ ghost use Rattle.spu_int.specs.Rows.{sum, difference, sum_with_carry, carry, one
 
 use cell_base::{Quad, ten_bit_halves, ten_bit_words};
 
+#[inline(always)]
 fn add_halves(x: u16, y: u16) -> u16
     ensures { result ≡ sum w16 x y }
 {
@@ -14,6 +15,7 @@ fn add_halves(x: u16, y: u16) -> u16
 
 /// The sums of the halfwords.
 #[tactic(auto, unfolding(crate::specs::Rows::ah_of))]
+#[inline(always)]
 pub fn row_ah(a: Quad, b: Quad) -> Quad
     ensures { result ≡ ah_of a b }
 {
@@ -22,6 +24,7 @@ pub fn row_ah(a: Quad, b: Quad) -> Quad
 
 /// The sums of the halfwords and the immediate.
 #[tactic(auto, unfolding(crate::specs::Rows::ahi_of))]
+#[inline(always)]
 pub fn row_ahi(a: Quad, imm: u32) -> Quad
     requires { imm < 2 ^ 10 }
     ensures { result ≡ ahi_of a imm }
@@ -29,6 +32,7 @@ pub fn row_ahi(a: Quad, imm: u32) -> Quad
     row_ah(a, ten_bit_halves(imm))
 }
 
+#[inline(always)]
 fn add_words(x: u32, y: u32) -> u32
     ensures { result ≡ sum w32 x y }
 {
@@ -37,6 +41,7 @@ fn add_words(x: u32, y: u32) -> u32
 
 /// The sums of the words.
 #[tactic(auto, unfolding(crate::specs::Rows::a_of))]
+#[inline(always)]
 pub fn row_a(a: Quad, b: Quad) -> Quad
     ensures { result ≡ a_of a b }
 {
@@ -45,6 +50,7 @@ pub fn row_a(a: Quad, b: Quad) -> Quad
 
 /// The sums of the words and the immediate.
 #[tactic(auto, unfolding(crate::specs::Rows::ai_of))]
+#[inline(always)]
 pub fn row_ai(a: Quad, imm: u32) -> Quad
     requires { imm < 2 ^ 10 }
     ensures { result ≡ ai_of a imm }
@@ -52,6 +58,7 @@ pub fn row_ai(a: Quad, imm: u32) -> Quad
     row_a(a, ten_bit_words(imm))
 }
 
+#[inline(always)]
 fn subtract_halves(x: u16, y: u16) -> u16
     ensures { result ≡ difference w16 x y }
 {
@@ -60,6 +67,7 @@ fn subtract_halves(x: u16, y: u16) -> u16
 
 /// The halfwords of `b` minus those of `a`.
 #[tactic(auto, unfolding(crate::specs::Rows::sfh_of))]
+#[inline(always)]
 pub fn row_sfh(a: Quad, b: Quad) -> Quad
     ensures { result ≡ sfh_of a b }
 {
@@ -68,6 +76,7 @@ pub fn row_sfh(a: Quad, b: Quad) -> Quad
 
 /// The immediate minus each halfword.
 #[tactic(auto, unfolding(crate::specs::Rows::sfhi_of))]
+#[inline(always)]
 pub fn row_sfhi(a: Quad, imm: u32) -> Quad
     requires { imm < 2 ^ 10 }
     ensures { result ≡ sfhi_of a imm }
@@ -75,6 +84,7 @@ pub fn row_sfhi(a: Quad, imm: u32) -> Quad
     row_sfh(a, ten_bit_halves(imm))
 }
 
+#[inline(always)]
 fn subtract_words(x: u32, y: u32) -> u32
     ensures { result ≡ difference w32 x y }
 {
@@ -83,6 +93,7 @@ fn subtract_words(x: u32, y: u32) -> u32
 
 /// The words of `b` minus those of `a`.
 #[tactic(auto, unfolding(crate::specs::Rows::sf_of))]
+#[inline(always)]
 pub fn row_sf(a: Quad, b: Quad) -> Quad
     ensures { result ≡ sf_of a b }
 {
@@ -91,6 +102,7 @@ pub fn row_sf(a: Quad, b: Quad) -> Quad
 
 /// The immediate minus each word.
 #[tactic(auto, unfolding(crate::specs::Rows::sfi_of))]
+#[inline(always)]
 pub fn row_sfi(a: Quad, imm: u32) -> Quad
     requires { imm < 2 ^ 10 }
     ensures { result ≡ sfi_of a imm }
@@ -98,6 +110,7 @@ pub fn row_sfi(a: Quad, imm: u32) -> Quad
     row_sf(a, ten_bit_words(imm))
 }
 
+#[inline(always)]
 fn add_with_carry(x: u32, y: u32, t: u32) -> u32
     ensures { result ≡ sum_with_carry x y t }
 {
@@ -106,12 +119,14 @@ fn add_with_carry(x: u32, y: u32, t: u32) -> u32
 
 /// The sums of the words and the lowest bit of the old target.
 #[tactic(auto, unfolding(crate::specs::Rows::addx_of))]
+#[inline(always)]
 pub fn row_addx(a: Quad, b: Quad, t: Quad) -> Quad
     ensures { result ≡ addx_of a b t }
 {
     a.zip3_words(b, t, add_with_carry)
 }
 
+#[inline(always)]
 fn take_with_borrow(x: u32, y: u32, t: u32) -> u32
     ensures { result ≡ sum_with_carry (2 ^ 32 - 1 - x) y t }
 {
@@ -120,12 +135,14 @@ fn take_with_borrow(x: u32, y: u32, t: u32) -> u32
 
 /// The words of `b`, plus the complements of those of `a`, plus the lowest bit of the old target.
 #[tactic(auto, unfolding(crate::specs::Rows::sfx_of))]
+#[inline(always)]
 pub fn row_sfx(a: Quad, b: Quad, t: Quad) -> Quad
     ensures { result ≡ sfx_of a b t }
 {
     a.zip3_words(b, t, take_with_borrow)
 }
 
+#[inline(always)]
 fn carry_of(x: u32, y: u32) -> u32
     ensures { result ≡ carry (x + y) }
 {
@@ -134,12 +151,14 @@ fn carry_of(x: u32, y: u32) -> u32
 
 /// 1 where the sum of two words needs more than a word, else 0.
 #[tactic(auto, unfolding(crate::specs::Rows::cg_of))]
+#[inline(always)]
 pub fn row_cg(a: Quad, b: Quad) -> Quad
     ensures { result ≡ cg_of a b }
 {
     a.zip_words(b, carry_of)
 }
 
+#[inline(always)]
 fn carry_with(x: u32, y: u32, t: u32) -> u32
     ensures { result ≡ carry (x + y + t % 2) }
 {
@@ -149,12 +168,14 @@ fn carry_with(x: u32, y: u32, t: u32) -> u32
 
 /// 1 where the sum of two words and the lowest bit of the old target needs more than a word, else 0.
 #[tactic(auto, unfolding(crate::specs::Rows::cgx_of))]
+#[inline(always)]
 pub fn row_cgx(a: Quad, b: Quad, t: Quad) -> Quad
     ensures { result ≡ cgx_of a b t }
 {
     a.zip3_words(b, t, carry_with)
 }
 
+#[inline(always)]
 fn no_borrow(x: u32, y: u32) -> u32
     ensures { result ≡ one_where (nat_le x y) }
 {
@@ -163,12 +184,14 @@ fn no_borrow(x: u32, y: u32) -> u32
 
 /// 1 where the word of `a` can be taken from that of `b` with no borrow, else 0.
 #[tactic(auto, unfolding(crate::specs::Rows::bg_of))]
+#[inline(always)]
 pub fn row_bg(a: Quad, b: Quad) -> Quad
     ensures { result ≡ bg_of a b }
 {
     a.zip_words(b, no_borrow)
 }
 
+#[inline(always)]
 fn no_borrow_with(x: u32, y: u32, t: u32) -> u32
     ensures { result ≡ one_where (if t % 2 == 1 then nat_le x y else nat_lt x y) }
 {
@@ -177,6 +200,7 @@ fn no_borrow_with(x: u32, y: u32, t: u32) -> u32
 
 /// As `row_bg`; where the lowest bit of the old target is 0, a borrow stands before, and the word of `b` has to be above.
 #[tactic(auto, unfolding(crate::specs::Rows::bgx_of))]
+#[inline(always)]
 pub fn row_bgx(a: Quad, b: Quad, t: Quad) -> Quad
     ensures { result ≡ bgx_of a b t }
 {

@@ -6,6 +6,7 @@ ghost use Rattle.spu_int.specs.Rows.{where_equal, where_signed_above, where_abov
 
 use cell_base::{Quad, low_bytes, ten_bit_halves, ten_bit_words};
 
+#[inline(always)]
 fn equal_byte(x: u8, y: u8) -> u8
     ensures { result ≡ where_equal w8 x y }
 {
@@ -14,6 +15,7 @@ fn equal_byte(x: u8, y: u8) -> u8
 
 /// Where the bytes are equal.
 #[tactic(auto, unfolding(crate::specs::Rows::ceqb_of))]
+#[inline(always)]
 pub fn row_ceqb(a: Quad, b: Quad) -> Quad
     ensures { result ≡ ceqb_of a b }
 {
@@ -22,6 +24,7 @@ pub fn row_ceqb(a: Quad, b: Quad) -> Quad
 
 /// Where the bytes equal the low eight bits of the immediate.
 #[tactic(auto, unfolding(crate::specs::Rows::ceqbi_of))]
+#[inline(always)]
 pub fn row_ceqbi(a: Quad, imm: u32) -> Quad
     requires { imm < 2 ^ 10 }
     ensures { result ≡ ceqbi_of a imm }
@@ -29,6 +32,7 @@ pub fn row_ceqbi(a: Quad, imm: u32) -> Quad
     row_ceqb(a, low_bytes(imm))
 }
 
+#[inline(always)]
 fn equal_half(x: u16, y: u16) -> u16
     ensures { result ≡ where_equal w16 x y }
 {
@@ -37,6 +41,7 @@ fn equal_half(x: u16, y: u16) -> u16
 
 /// Where the halfwords are equal.
 #[tactic(auto, unfolding(crate::specs::Rows::ceqh_of))]
+#[inline(always)]
 pub fn row_ceqh(a: Quad, b: Quad) -> Quad
     ensures { result ≡ ceqh_of a b }
 {
@@ -45,6 +50,7 @@ pub fn row_ceqh(a: Quad, b: Quad) -> Quad
 
 /// Where the halfwords equal the immediate.
 #[tactic(auto, unfolding(crate::specs::Rows::ceqhi_of))]
+#[inline(always)]
 pub fn row_ceqhi(a: Quad, imm: u32) -> Quad
     requires { imm < 2 ^ 10 }
     ensures { result ≡ ceqhi_of a imm }
@@ -52,6 +58,7 @@ pub fn row_ceqhi(a: Quad, imm: u32) -> Quad
     row_ceqh(a, ten_bit_halves(imm))
 }
 
+#[inline(always)]
 fn equal_word(x: u32, y: u32) -> u32
     ensures { result ≡ where_equal w32 x y }
 {
@@ -60,6 +67,7 @@ fn equal_word(x: u32, y: u32) -> u32
 
 /// Where the words are equal.
 #[tactic(auto, unfolding(crate::specs::Rows::ceq_of))]
+#[inline(always)]
 pub fn row_ceq(a: Quad, b: Quad) -> Quad
     ensures { result ≡ ceq_of a b }
 {
@@ -68,6 +76,7 @@ pub fn row_ceq(a: Quad, b: Quad) -> Quad
 
 /// Where the words equal the immediate.
 #[tactic(auto, unfolding(crate::specs::Rows::ceqi_of))]
+#[inline(always)]
 pub fn row_ceqi(a: Quad, imm: u32) -> Quad
     requires { imm < 2 ^ 10 }
     ensures { result ≡ ceqi_of a imm }
@@ -75,6 +84,7 @@ pub fn row_ceqi(a: Quad, imm: u32) -> Quad
     row_ceq(a, ten_bit_words(imm))
 }
 
+#[inline(always)]
 fn signed_above_byte(x: u8, y: u8) -> u8
     ensures { result ≡ where_signed_above w8 x y }
 {
@@ -87,6 +97,7 @@ fn signed_above_byte(x: u8, y: u8) -> u8
 
 /// Where the bytes of `a`, read as signed, are above those of `b`.
 #[tactic(auto, unfolding(crate::specs::Rows::cgtb_of))]
+#[inline(always)]
 pub fn row_cgtb(a: Quad, b: Quad) -> Quad
     ensures { result ≡ cgtb_of a b }
 {
@@ -95,6 +106,7 @@ pub fn row_cgtb(a: Quad, b: Quad) -> Quad
 
 /// Where the bytes, read as signed, are above the low eight bits of the immediate.
 #[tactic(auto, unfolding(crate::specs::Rows::cgtbi_of))]
+#[inline(always)]
 pub fn row_cgtbi(a: Quad, imm: u32) -> Quad
     requires { imm < 2 ^ 10 }
     ensures { result ≡ cgtbi_of a imm }
@@ -102,6 +114,7 @@ pub fn row_cgtbi(a: Quad, imm: u32) -> Quad
     row_cgtb(a, low_bytes(imm))
 }
 
+#[inline(always)]
 fn signed_above_half(x: u16, y: u16) -> u16
     ensures { result ≡ where_signed_above w16 x y }
 {
@@ -114,6 +127,7 @@ fn signed_above_half(x: u16, y: u16) -> u16
 
 /// Where the halfwords of `a`, read as signed, are above those of `b`.
 #[tactic(auto, unfolding(crate::specs::Rows::cgth_of))]
+#[inline(always)]
 pub fn row_cgth(a: Quad, b: Quad) -> Quad
     ensures { result ≡ cgth_of a b }
 {
@@ -122,6 +136,7 @@ pub fn row_cgth(a: Quad, b: Quad) -> Quad
 
 /// Where the halfwords, read as signed, are above the immediate.
 #[tactic(auto, unfolding(crate::specs::Rows::cgthi_of))]
+#[inline(always)]
 pub fn row_cgthi(a: Quad, imm: u32) -> Quad
     requires { imm < 2 ^ 10 }
     ensures { result ≡ cgthi_of a imm }
@@ -129,6 +144,7 @@ pub fn row_cgthi(a: Quad, imm: u32) -> Quad
     row_cgth(a, ten_bit_halves(imm))
 }
 
+#[inline(always)]
 fn signed_above_word(x: u32, y: u32) -> u32
     ensures { result ≡ where_signed_above w32 x y }
 {
@@ -141,6 +157,7 @@ fn signed_above_word(x: u32, y: u32) -> u32
 
 /// Where the words of `a`, read as signed, are above those of `b`.
 #[tactic(auto, unfolding(crate::specs::Rows::cgt_of))]
+#[inline(always)]
 pub fn row_cgt(a: Quad, b: Quad) -> Quad
     ensures { result ≡ cgt_of a b }
 {
@@ -149,6 +166,7 @@ pub fn row_cgt(a: Quad, b: Quad) -> Quad
 
 /// Where the words, read as signed, are above the immediate.
 #[tactic(auto, unfolding(crate::specs::Rows::cgti_of))]
+#[inline(always)]
 pub fn row_cgti(a: Quad, imm: u32) -> Quad
     requires { imm < 2 ^ 10 }
     ensures { result ≡ cgti_of a imm }
@@ -156,6 +174,7 @@ pub fn row_cgti(a: Quad, imm: u32) -> Quad
     row_cgt(a, ten_bit_words(imm))
 }
 
+#[inline(always)]
 fn above_byte(x: u8, y: u8) -> u8
     ensures { result ≡ where_above w8 x y }
 {
@@ -164,6 +183,7 @@ fn above_byte(x: u8, y: u8) -> u8
 
 /// Where the bytes of `a`, read as unsigned, are above those of `b`.
 #[tactic(auto, unfolding(crate::specs::Rows::clgtb_of))]
+#[inline(always)]
 pub fn row_clgtb(a: Quad, b: Quad) -> Quad
     ensures { result ≡ clgtb_of a b }
 {
@@ -172,6 +192,7 @@ pub fn row_clgtb(a: Quad, b: Quad) -> Quad
 
 /// Where the bytes, read as unsigned, are above the low eight bits of the immediate.
 #[tactic(auto, unfolding(crate::specs::Rows::clgtbi_of))]
+#[inline(always)]
 pub fn row_clgtbi(a: Quad, imm: u32) -> Quad
     requires { imm < 2 ^ 10 }
     ensures { result ≡ clgtbi_of a imm }
@@ -179,6 +200,7 @@ pub fn row_clgtbi(a: Quad, imm: u32) -> Quad
     row_clgtb(a, low_bytes(imm))
 }
 
+#[inline(always)]
 fn above_half(x: u16, y: u16) -> u16
     ensures { result ≡ where_above w16 x y }
 {
@@ -187,6 +209,7 @@ fn above_half(x: u16, y: u16) -> u16
 
 /// Where the halfwords of `a`, read as unsigned, are above those of `b`.
 #[tactic(auto, unfolding(crate::specs::Rows::clgth_of))]
+#[inline(always)]
 pub fn row_clgth(a: Quad, b: Quad) -> Quad
     ensures { result ≡ clgth_of a b }
 {
@@ -195,6 +218,7 @@ pub fn row_clgth(a: Quad, b: Quad) -> Quad
 
 /// Where the halfwords, read as unsigned, are above the immediate, which gets its sign and is then read as unsigned.
 #[tactic(auto, unfolding(crate::specs::Rows::clgthi_of))]
+#[inline(always)]
 pub fn row_clgthi(a: Quad, imm: u32) -> Quad
     requires { imm < 2 ^ 10 }
     ensures { result ≡ clgthi_of a imm }
@@ -202,6 +226,7 @@ pub fn row_clgthi(a: Quad, imm: u32) -> Quad
     row_clgth(a, ten_bit_halves(imm))
 }
 
+#[inline(always)]
 fn above_word(x: u32, y: u32) -> u32
     ensures { result ≡ where_above w32 x y }
 {
@@ -210,6 +235,7 @@ fn above_word(x: u32, y: u32) -> u32
 
 /// Where the words of `a`, read as unsigned, are above those of `b`.
 #[tactic(auto, unfolding(crate::specs::Rows::clgt_of))]
+#[inline(always)]
 pub fn row_clgt(a: Quad, b: Quad) -> Quad
     ensures { result ≡ clgt_of a b }
 {
@@ -218,6 +244,7 @@ pub fn row_clgt(a: Quad, b: Quad) -> Quad
 
 /// Where the words, read as unsigned, are above the immediate, which gets its sign and is then read as unsigned.
 #[tactic(auto, unfolding(crate::specs::Rows::clgti_of))]
+#[inline(always)]
 pub fn row_clgti(a: Quad, imm: u32) -> Quad
     requires { imm < 2 ^ 10 }
     ensures { result ≡ clgti_of a imm }

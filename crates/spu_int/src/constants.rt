@@ -7,6 +7,7 @@ use cell_base::{Quad, byte_mask, extended_word};
 
 /// The immediate, with its sign, in each word.
 #[tactic(auto, unfolding(crate::specs::Rows::il_of))]
+#[inline(always)]
 pub fn row_il(imm: u32) -> Quad
     requires { imm < 2 ^ 16 }
     ensures { result ≡ il_of imm }
@@ -16,6 +17,7 @@ pub fn row_il(imm: u32) -> Quad
 
 /// The immediate in each halfword.
 #[tactic(auto, unfolding(crate::specs::Rows::ilh_of))]
+#[inline(always)]
 pub fn row_ilh(imm: u32) -> Quad
     requires { imm < 2 ^ 16 }
     ensures { result ≡ ilh_of imm }
@@ -25,6 +27,7 @@ pub fn row_ilh(imm: u32) -> Quad
 
 /// The immediate in the left halfword of each word, with zeros after it.
 #[tactic(auto, unfolding(crate::specs::Rows::ilhu_of))]
+#[inline(always)]
 pub fn row_ilhu(imm: u32) -> Quad
     requires { imm < 2 ^ 16 }
     ensures { result ≡ ilhu_of imm }
@@ -34,6 +37,7 @@ pub fn row_ilhu(imm: u32) -> Quad
 
 /// The immediate, with zeros before it, in each word.
 #[tactic(auto, unfolding(crate::specs::Rows::ila_of))]
+#[inline(always)]
 pub fn row_ila(imm: u32) -> Quad
     requires { imm < 2 ^ 18 }
     ensures { result ≡ ila_of imm }
@@ -43,6 +47,7 @@ pub fn row_ila(imm: u32) -> Quad
 
 /// The old target, with the bits of the immediate set in each word.
 #[tactic(auto, unfolding(crate::specs::Rows::iohl_of))]
+#[inline(always)]
 pub fn row_iohl(imm: u32, t: Quad) -> Quad
     requires { imm < 2 ^ 16 }
     ensures { result ≡ iohl_of imm t }
@@ -52,6 +57,7 @@ pub fn row_iohl(imm: u32, t: Quad) -> Quad
 
 /// A byte of all ones for each bit of the immediate that is 1, and of all zeros for each that is 0.
 #[tactic(auto, unfolding(crate::specs::Rows::fsmbi_of))]
+#[inline(always)]
 pub fn row_fsmbi(imm: u32) -> Quad
     requires { imm < 2 ^ 16 }
     ensures { result ≡ fsmbi_of imm }

@@ -6,6 +6,7 @@ ghost use Rattle.spu_shift.specs.Rows.{left_shift, right_shift, signed_right_shi
 
 use cell_base::Quad;
 
+#[inline(always)]
 fn shift_left(x: u16, n: u16) -> u16
     ensures { result ≡ left_shift w16 x (n % 32) }
 {
@@ -14,6 +15,7 @@ fn shift_left(x: u16, n: u16) -> u16
 
 /// Each halfword shifted left by the low five bits of the count.
 #[tactic(auto, unfolding(crate::specs::Rows::shlh_of))]
+#[inline(always)]
 pub fn row_shlh(a: Quad, b: Quad) -> Quad
     ensures { result ≡ shlh_of a b }
 {
@@ -22,6 +24,7 @@ pub fn row_shlh(a: Quad, b: Quad) -> Quad
 
 /// Each halfword shifted left by the low five bits of the immediate.
 #[tactic(auto, unfolding(crate::specs::Rows::shlhi_of))]
+#[inline(always)]
 pub fn row_shlhi(a: Quad, imm: u32) -> Quad
     requires { imm < 2 ^ 7 }
     ensures { result ≡ shlhi_of a imm }
@@ -29,6 +32,7 @@ pub fn row_shlhi(a: Quad, imm: u32) -> Quad
     row_shlh(a, Quad::splat_halves(imm as u16))
 }
 
+#[inline(always)]
 fn rotate(x: u16, n: u16) -> u16
     ensures { result ≡ rotate_left w16 x (n % 16) }
 {
@@ -37,6 +41,7 @@ fn rotate(x: u16, n: u16) -> u16
 
 /// Each halfword rotated left by the low four bits of the count.
 #[tactic(auto, unfolding(crate::specs::Rows::roth_of))]
+#[inline(always)]
 pub fn row_roth(a: Quad, b: Quad) -> Quad
     ensures { result ≡ roth_of a b }
 {
@@ -45,6 +50,7 @@ pub fn row_roth(a: Quad, b: Quad) -> Quad
 
 /// Each halfword rotated left by the low four bits of the immediate.
 #[tactic(auto, unfolding(crate::specs::Rows::rothi_of))]
+#[inline(always)]
 pub fn row_rothi(a: Quad, imm: u32) -> Quad
     requires { imm < 2 ^ 7 }
     ensures { result ≡ rothi_of a imm }
@@ -52,6 +58,7 @@ pub fn row_rothi(a: Quad, imm: u32) -> Quad
     row_roth(a, Quad::splat_halves(imm as u16))
 }
 
+#[inline(always)]
 fn shift_right(x: u16, n: u16) -> u16
     ensures { result ≡ right_shift w16 x (negative w16 n % 32) }
 {
@@ -60,6 +67,7 @@ fn shift_right(x: u16, n: u16) -> u16
 
 /// Each halfword shifted right by the low five bits of the negative of the count.
 #[tactic(auto, unfolding(crate::specs::Rows::rothm_of))]
+#[inline(always)]
 pub fn row_rothm(a: Quad, b: Quad) -> Quad
     ensures { result ≡ rothm_of a b }
 {
@@ -68,6 +76,7 @@ pub fn row_rothm(a: Quad, b: Quad) -> Quad
 
 /// Each halfword shifted right by the low five bits of the negative of the immediate.
 #[tactic(auto, unfolding(crate::specs::Rows::rothmi_of))]
+#[inline(always)]
 pub fn row_rothmi(a: Quad, imm: u32) -> Quad
     requires { imm < 2 ^ 7 }
     ensures { result ≡ rothmi_of a imm }
@@ -75,6 +84,7 @@ pub fn row_rothmi(a: Quad, imm: u32) -> Quad
     row_rothm(a, Quad::splat_halves(imm as u16))
 }
 
+#[inline(always)]
 fn shift_right_signed(x: u16, n: u16) -> u16
     ensures { result ≡ signed_right_shift w16 x (negative w16 n % 32) }
 {
@@ -84,6 +94,7 @@ fn shift_right_signed(x: u16, n: u16) -> u16
 
 /// As `row_rothm`, filled with the sign.
 #[tactic(auto, unfolding(crate::specs::Rows::rotmah_of))]
+#[inline(always)]
 pub fn row_rotmah(a: Quad, b: Quad) -> Quad
     ensures { result ≡ rotmah_of a b }
 {
@@ -92,6 +103,7 @@ pub fn row_rotmah(a: Quad, b: Quad) -> Quad
 
 /// As `row_rothmi`, filled with the sign.
 #[tactic(auto, unfolding(crate::specs::Rows::rotmahi_of))]
+#[inline(always)]
 pub fn row_rotmahi(a: Quad, imm: u32) -> Quad
     requires { imm < 2 ^ 7 }
     ensures { result ≡ rotmahi_of a imm }

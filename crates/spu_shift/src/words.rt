@@ -6,6 +6,7 @@ ghost use Rattle.spu_shift.specs.Rows.{left_shift, right_shift, signed_right_shi
 
 use cell_base::Quad;
 
+#[inline(always)]
 fn shift_left(x: u32, n: u32) -> u32
     ensures { result ≡ left_shift w32 x (n % 64) }
 {
@@ -14,6 +15,7 @@ fn shift_left(x: u32, n: u32) -> u32
 
 /// Each word shifted left by the low six bits of the count.
 #[tactic(auto, unfolding(crate::specs::Rows::shl_of))]
+#[inline(always)]
 pub fn row_shl(a: Quad, b: Quad) -> Quad
     ensures { result ≡ shl_of a b }
 {
@@ -22,6 +24,7 @@ pub fn row_shl(a: Quad, b: Quad) -> Quad
 
 /// Each word shifted left by the low six bits of the immediate.
 #[tactic(auto, unfolding(crate::specs::Rows::shli_of))]
+#[inline(always)]
 pub fn row_shli(a: Quad, imm: u32) -> Quad
     requires { imm < 2 ^ 7 }
     ensures { result ≡ shli_of a imm }
@@ -29,6 +32,7 @@ pub fn row_shli(a: Quad, imm: u32) -> Quad
     row_shl(a, Quad::splat_words(imm))
 }
 
+#[inline(always)]
 fn rotate(x: u32, n: u32) -> u32
     ensures { result ≡ rotate_left w32 x (n % 32) }
 {
@@ -37,6 +41,7 @@ fn rotate(x: u32, n: u32) -> u32
 
 /// Each word rotated left by the low five bits of the count.
 #[tactic(auto, unfolding(crate::specs::Rows::rot_of))]
+#[inline(always)]
 pub fn row_rot(a: Quad, b: Quad) -> Quad
     ensures { result ≡ rot_of a b }
 {
@@ -45,6 +50,7 @@ pub fn row_rot(a: Quad, b: Quad) -> Quad
 
 /// Each word rotated left by the low five bits of the immediate.
 #[tactic(auto, unfolding(crate::specs::Rows::roti_of))]
+#[inline(always)]
 pub fn row_roti(a: Quad, imm: u32) -> Quad
     requires { imm < 2 ^ 7 }
     ensures { result ≡ roti_of a imm }
@@ -52,6 +58,7 @@ pub fn row_roti(a: Quad, imm: u32) -> Quad
     row_rot(a, Quad::splat_words(imm))
 }
 
+#[inline(always)]
 fn shift_right(x: u32, n: u32) -> u32
     ensures { result ≡ right_shift w32 x (negative w32 n % 64) }
 {
@@ -60,6 +67,7 @@ fn shift_right(x: u32, n: u32) -> u32
 
 /// Each word shifted right by the low six bits of the negative of the count.
 #[tactic(auto, unfolding(crate::specs::Rows::rotm_of))]
+#[inline(always)]
 pub fn row_rotm(a: Quad, b: Quad) -> Quad
     ensures { result ≡ rotm_of a b }
 {
@@ -68,6 +76,7 @@ pub fn row_rotm(a: Quad, b: Quad) -> Quad
 
 /// Each word shifted right by the low six bits of the negative of the immediate.
 #[tactic(auto, unfolding(crate::specs::Rows::rotmi_of))]
+#[inline(always)]
 pub fn row_rotmi(a: Quad, imm: u32) -> Quad
     requires { imm < 2 ^ 7 }
     ensures { result ≡ rotmi_of a imm }
@@ -75,6 +84,7 @@ pub fn row_rotmi(a: Quad, imm: u32) -> Quad
     row_rotm(a, Quad::splat_words(imm))
 }
 
+#[inline(always)]
 fn shift_right_signed(x: u32, n: u32) -> u32
     ensures { result ≡ signed_right_shift w32 x (negative w32 n % 64) }
 {
@@ -84,6 +94,7 @@ fn shift_right_signed(x: u32, n: u32) -> u32
 
 /// As `row_rotm`, filled with the sign.
 #[tactic(auto, unfolding(crate::specs::Rows::rotma_of))]
+#[inline(always)]
 pub fn row_rotma(a: Quad, b: Quad) -> Quad
     ensures { result ≡ rotma_of a b }
 {
@@ -92,6 +103,7 @@ pub fn row_rotma(a: Quad, b: Quad) -> Quad
 
 /// As `row_rotmi`, filled with the sign.
 #[tactic(auto, unfolding(crate::specs::Rows::rotmai_of))]
+#[inline(always)]
 pub fn row_rotmai(a: Quad, imm: u32) -> Quad
     requires { imm < 2 ^ 7 }
     ensures { result ≡ rotmai_of a imm }
