@@ -95,3 +95,9 @@ channel_of (Channel op) h = (op, refl)
 pub exec-refused : (b : Bool) (x y z : Processor) (flow : Flow) → OnFalse b (z ≡ y) → OnFalse b (IsSome (op_of flow)) → ((op : ChannelOp) → flow ≡ Channel op → y ≡ x) → OnFalse b (z ≡ x)
 exec-refused true x y z flow same only kept = tt
 exec-refused false x y z flow same only kept = let is = channel_of flow only in same ∙ kept is.0 is.1
+
+-- an instruction that asks for no channel is allowed, and a bad word too
+pub may-quiet : (lines : ℕ) (c : Processor) (P : Spe) (o : Option Instr) → ShowsSpe c P → is_running c.status ≡ true → instr_of (word_at c.store c.pc) ≡ o
+    → ((i : Instr) → o ≡ Some i → op_of (meaning i c.pc c.registers c.store).flow ≡ None) → true ≡ is_some (exec lines P)
+may-quiet lines c P None shows on is none = may-bad_word lines c P shows on is
+may-quiet lines c P (Some i) shows on is none = may-go_on lines c P i shows on is (sym (none i refl))

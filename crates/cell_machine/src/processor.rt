@@ -1,6 +1,8 @@
 //! One processor.
 
-ghost use Rattle.std.specs.Prelude.{◌≡◌, ℕ, ◌+◌, ◌<◌, ◌≤◌, length, is_some, None, IfOk, IsSome, IsSomeAnd, MatchBool, All};
+ghost use Rattle.std.specs.Prelude.{◌≡◌, ℕ, ◌+◌, ◌<◌, ◌≤◌, List, length, is_some, None, Some, false, IfOk, IsSome, IsSomeAnd, MatchBool, All};
+ghost use Rattle.spu_decode.specs.declared.Instr.{Instr};
+ghost use Rattle.spu_exec.specs.Meaning.{meaning};
 ghost use Rattle.std.specs.Bool.{OnFalse};
 ghost use Rattle.spu_exec.specs.Places.{IsPlace, LeadsToPlace, RegisterFits};
 ghost use Rattle.cell_base.specs.declared.steps.ChannelOp.{ChannelOp};
@@ -22,7 +24,7 @@ use cell_channels::Channels;
 use cell_signals::{Events, Signals};
 use local_store::LocalStore;
 use mailboxes::Mailbox;
-use spu_decode::decode;
+use spu_decode::{Row, decode, row_spelled};
 use spu_exec::{Flow, exec};
 use spu_regs::Regs;
 use std::alloc::Global;
@@ -69,6 +71,15 @@ fn is_or(or_modes: u32, spe: u8, register: u8) -> bool
     ensures { result ≡ has_bit or_modes (number_of spe register) }
 {
     (or_modes >> (2 * spe + register - 1)) & 1 == 1
+}
+
+/// Whether an instruction of this row may be a channel instruction.
+#[inline(always)]
+#[tactic(auto, unfolding(spu_exec::specs::Meaning::meaning))]
+fn may_operate(row: Option<Row>) -> bool
+    ensures { (i : Instr) (pc : ℕ) (registers : List (List ℕ)) (store : List ℕ) → row ≡ Some i.row → result ≡ false → op_of (meaning i pc registers store).flow ≡ None }
+{
+    matches!(row, Some(Row::Rdch | Row::Rchcnt | Row::Wrch))
 }
 
 impl Processor {
@@ -176,13 +187,18 @@ impl Processor {
     }
 
     /// Whether its next instruction is allowed.
+    #[inline(always)]
     pub(crate) fn may_exec(&self) -> bool
         ensures { (lines : ℕ) (P : Spe) → ShowsSpe self.now P → result ≡ is_some (exec lines P) }
     {
         if !self.is_running() {
             return false;
         }
-        let Some(instruction) = decode(self.store.word(self.pc)) else {
+        let word = self.store.word(self.pc);
+        if !may_operate(row_spelled(word)) {
+            return true;
+        }
+        let Some(instruction) = decode(word) else {
             return true;
         };
         match operation(instruction, &self.registers) {

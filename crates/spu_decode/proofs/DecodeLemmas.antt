@@ -103,3 +103,15 @@ instr_of-Spells w i e =
 -- and its fields fit
 pub instr_of-FieldsFit : (w : ℕ) (i : Instr) → instr_of w ≡ Some i → FieldsFit i
 instr_of-FieldsFit w i e = Spells-FieldsFit w i (instr_of-Spells w i e)
+
+-- the row of what a word spells
+row_of_some : (w : ℕ) (i : Instr) (row : Row) → instr_of w ≡ Some i → i.row ≡ row → Some row ≡ option_map (λ (j : Instr). j.row) (instr_of w)
+row_of_some w i row is same = ap Some (sym same) ∙ sym (ap (option_map (λ (j : Instr). j.row)) is)
+
+pub row_spelled-row : (w : ℕ) (row : Row) → w < 2 ^ 32 → ((r : Row) → (Some row ≡ Some r) ↔ Begins w r) → IsClear (shape_of row).format w → Some row ≡ option_map (λ (j : Instr). j.row) (instr_of w)
+row_spelled-row w row h only clear =
+    row_of_some w (fields_of row w) row
+    (Spells-instr_of w (fields_of row w) h (spells_from w (fields_of row w) row (row_fields_of row w) ((only row).0 refl) clear refl)) (row_fields_of row w)
+
+pub row_spelled-none : (w : ℕ) → ((i : Instr) → Spells w i → ⊥) → None ≡ option_map (λ (j : Instr). j.row) (instr_of w)
+row_spelled-none w none = sym (ap (option_map (λ (j : Instr). j.row)) (no_spelling-instr_of w none))

@@ -2,6 +2,7 @@
 #![tactic(auto)]
 
 ghost use Rattle.std.specs.Prelude.{◌≡◌, ℕ, ◌+◌, ◌-◌, ◌*◌, ◌/◌, ◌%◌, ◌^◌, ◌<◌, ◌≤◌, ◌↔◌, slice_index, slice_get, IfSome};
+ghost use Rattle.std.specs.Option.{option_map};
 ghost use Rattle.spu_decode.specs.Spelling.{shape_of, Spells, Begins, FieldsFit, word_of, instr_of};
 ghost use Rattle.spu_decode.specs.declared.Instr.{Instr};
 ghost use Rattle.spu_decode.specs.declared.row.Row.{Row};
@@ -34,6 +35,7 @@ pub struct Instr {
 }
 
 /// The instruction that a word spells, or `None` where no row spells it. Bits that the row does not name are ignored.
+#[inline(always)]
 pub fn decode(w: u32) -> Option<Instr>
     ensures exact { (i : Instr) → (result ≡ Some i) ↔ Spells w i }
     ensures means { result ≡ instr_of w }
@@ -45,6 +47,21 @@ pub fn decode(w: u32) -> Option<Instr>
     let shape = row_shape(row);
     if is_clear(shape.format, w) {
         Some(keep_named(shape.operands, read_fields(shape.format, row, w)))
+    } else {
+        None
+    }
+}
+
+/// The row of the instruction that a word spells, or `None` where no row spells it.
+#[inline(always)]
+pub fn row_spelled(w: u32) -> Option<Row>
+    ensures { result ≡ option_map (λ i. i.row) (instr_of w) }
+{
+    let Some(row) = row_of(w) else {
+        return None;
+    };
+    if is_clear(row_shape(row).format, w) {
+        Some(row)
     } else {
         None
     }
