@@ -111,6 +111,9 @@ fn join_runs(runs: &mut Vec<Run>, other: &[Run]) -> Result<(), AllocError>
     ensures ok { OnOk result ((at : At) → list_any (in_run at) runs.new.items ≡ (list_any (in_run at) runs.old.items || list_any (in_run at) other.now)) }
     ensures room { vec_len runs.old + length other.now ≤ vec_capacity runs.old → IsOk result }
 {
+    if other.is_empty() {
+        return Ok(());
+    }
     if runs.is_empty() {
         return runs.extend_from_slice(other);
     }
@@ -133,6 +136,9 @@ fn join_parts(parts: &mut Vec<Part>, other: &[Part]) -> Result<(), AllocError>
     ensures ok { OnOk result ((at : At) → list_any (in_part at) parts.new.items ≡ (list_any (in_part at) parts.old.items || list_any (in_part at) other.now)) }
     ensures room { vec_len parts.old + length other.now ≤ vec_capacity parts.old → IsOk result }
 {
+    if other.is_empty() {
+        return Ok(());
+    }
     if parts.is_empty() {
         return parts.extend_from_slice(other);
     }
@@ -155,6 +161,9 @@ fn join_rest(rest: &mut Vec<Fact>, other: &[Fact]) -> Result<(), AllocError>
     ensures ok { OnOk result ((at : At) → list_any (λ f. covers f at) rest.new.items ≡ (list_any (λ f. covers f at) rest.old.items || list_any (λ f. covers f at) other.now)) }
     ensures room { vec_len rest.old + length other.now ≤ vec_capacity rest.old → IsOk result }
 {
+    if other.is_empty() {
+        return Ok(());
+    }
     if rest.is_empty() {
         return rest.extend_from_slice(other);
     }
@@ -180,6 +189,9 @@ fn has_command(runs: &[Run], chain: u8, cmd: u32) -> bool
 fn drop_parts(parts: &mut Vec<Part>, runs: &[Run])
     ensures { (at : At) → (list_any (in_run at) runs.now || list_any (in_part at) parts.new.items) ≡ (list_any (in_run at) runs.now || list_any (in_part at) parts.old.items) }
 {
+    if parts.is_empty() {
+        return;
+    }
     parts.retain(|p| !has_command(runs, p.chain, p.cmd));
 }
 
@@ -204,6 +216,9 @@ fn is_needed(f: &Fact, runs: &[Run], parts: &[Part]) -> bool
 fn drop_ones(rest: &mut Vec<Fact>, runs: &[Run], parts: &[Part])
     ensures { (at : At) → ((list_any (in_run at) runs.now || list_any (in_part at) parts.now) || list_any (λ f. covers f at) rest.new.items) ≡ ((list_any (in_run at) runs.now || list_any (in_part at) parts.now) || list_any (λ f. covers f at) rest.old.items) }
 {
+    if rest.is_empty() {
+        return;
+    }
     rest.retain(|f| is_needed(f, runs, parts));
 }
 
