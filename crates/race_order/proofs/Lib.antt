@@ -44,6 +44,7 @@ pub mod Moved
 pub mod Growing
 pub mod InPlace
 pub mod Untouched
+pub mod OwnSteps
 pub mod Moving
 pub mod Telling
 pub mod Turns

@@ -18,6 +18,7 @@ mod moves;
 mod numbers;
 mod orderer;
 mod passes;
+mod plain;
 mod progress;
 mod roles;
 mod sets;

@@ -20,6 +20,7 @@ use Rattle.race_order.proofs.LivesNext.{ShowsNear, have_room, are_outstanding, a
 use Rattle.race_order.proofs.Nexts.{after}
 use Rattle.race_order.proofs.Standings.{moves_same, keep_next, own_next, last_next, queued_next, near_stands, lives_stand}
 use Rattle.race_order.proofs.Stands.{fact_fits, counts_fit, counts_next, names_next, orderly_next, read_same, write_same}
+use Rattle.race_order.proofs.OwnSteps.{knows_own}
 use Rattle.race_order.proofs.orderer.Orderer.take.Goals as goal
 
 pub fill-requires-clause-fits : goal.fill-requires-clause-fits
@@ -61,6 +62,10 @@ take_in-requires-clause-brought g c =
           subst (FitsChains (3 * c.args.self.now.spes + 1)) (sym c.fact.ensures)
           (fact_fits c.args.self.now.spes c.name-at.result c.args.step c.requires.1.0.within);
     }
+
+pub take_in-requires-clause-own : goal.take_in-requires-clause-own
+take_in-requires-clause-own g c = λ p a plain k.
+    knows_own c.args.self.now.boxes c.moves_line-whole.result c.args.step c.args.effect p (sets_have c.args.self.now.sets) a (has_at c.fill.new.known a) plain.step plain.note plain.whole (c.in_ok-fill.ensures.has a) k
 
 pub returns-clause-stands : goal.returns-clause-stands
 returns-clause-stands g c =

@@ -1,0 +1,42 @@
+use Rattle.std.proofs.Common.{◌≡◌, ◌||◌, List, ap, subst, ◌∙◌}
+use Rattle.std.specs.List.{list_any}
+use Rattle.race_order.specs.declared.lives.Live.{Live}
+use Rattle.race_order.specs.Bringing.{has_brought}
+use Rattle.race_order.specs.Lives.{touch_brings}
+use Rattle.race_order.specs.Passes.{AreMoved, done_any}
+use Rattle.race_order.specs.Tables.{sets_have, AreOf}
+use Rattle.race_order.proofs.applying.apply_any.Goals as goal
+use Rattle.race_order.proofs.applying.apply_any.Goals.{In_ok-pass_fixed}
+
+pub returns-clause-stepped : goal.returns-clause-stepped
+returns-clause-stepped c =
+    let b = c.args.brought.now in
+    record {
+      touched = sets_have c.touch_all.new.sets;
+      issued = sets_have c.pass_issue.new.sets;
+      stalled = sets_have c.go_on_all.new.sets;
+      done = sets_have c.pass_done.new.sets;
+      is_touched = λ r a.
+          c.in_ok-touch_all.ensures.has r a
+          ∙ ap (λ x. x || list_any (touch_brings b.spes b.step b.effect.now.note (has_brought c.args.brought.now) r a) c.args.lives.now) (c.in_ok-enter_all.ensures.has r a);
+      is_issued = c.in_ok-pass_issue.ensures.has;
+      is_stalled = c.in_ok-done.ensures.has;
+      is_done = subst (λ (next : List Live). AreMoved (λ g. list_any (done_any g next) next) (sets_have c.go_on_all.new.sets) (sets_have c.pass_done.new.sets)) c.in_ok-done.ensures.next c.in_ok-pass_done.ensures.has;
+      is_fixed = c.in_ok-pass_fixed.ensures.has;
+    }
+
+-- the spare set stays of as many chains
+same_chains : (c : In_ok-pass_fixed) → c.pass_done.new.spare.chains ≡ c.args.spare.now.chains
+same_chains c = c.pass_done.ensures.spare ∙ (c.go_on_all.ensures.spare ∙ c.pass_issue.ensures.spare)
+
+pub returns-clause-next : goal.returns-clause-next
+returns-clause-next c = c.in_ok-done.ensures.next
+
+pub returns-clause-done : goal.returns-clause-done
+returns-clause-done c = c.in_ok-done.ensures.done
+
+pub returns-clause-chains : goal.returns-clause-chains
+returns-clause-chains c = subst (λ n. AreOf n c.pass_fixed.new.sets) (same_chains c ∙ c.requires.spare) c.in_ok-pass_fixed.ensures.chains
+
+pub returns-clause-spare : goal.returns-clause-spare
+returns-clause-spare c = c.pass_fixed.ensures.spare ∙ same_chains c
