@@ -46,6 +46,17 @@ fn find(crowds: &[Crowd], entry: &Entry) -> Option<usize>
     None
 }
 
+/// The same, looked for at a place first.
+fn find_near(crowds: &[Crowd], entry: &Entry, near: usize) -> Option<usize>
+    ensures inside { IfSome result (λ i. i < length crowds.now) }
+    ensures same { IfSome result (λ i. (d : ACrowd) → HasSameBytes (slice_index_or crowds.now i d).entry entry.now) }
+{
+    if near < crowds.len() && has_same_bytes(&crowds[near].entry, entry) {
+        return Some(near);
+    }
+    find(crowds, entry)
+}
+
 /// Adds the bytes of the entry with its step and the others, to a crowd that has those bytes if there is one.
 fn put(
     alloc: Global,
@@ -114,21 +125,23 @@ pub fn trim(alloc: Global, crowds: &mut Vec<Crowd>, new: &Entry) -> Result<(), R
     Ok(())
 }
 
-/// Adds the new entry, in the place of one of a step before it where one is found that has its bytes.
+/// Adds the new entry, in the place of one of a step before it where one is found that has its bytes. It is looked for at a place first, and the answer is
+/// where the entry behind it may be.
 pub fn join(
     alloc: Global,
     crowds: &mut Vec<Crowd>,
     new: &Entry,
+    near: usize,
     walk: &Walk,
-) -> Result<(), RaceError>
+) -> Result<usize, RaceError>
     requires { IsAt walk.now new.now.step }
     ensures { OnOk result (IsJoined (IsOrdered walk.now.machine) new.now crowds.old.items crowds.new.items) }
 {
-    if let Some(i) = find(crowds.as_slice(), new) {
+    if let Some(i) = find_near(crowds.as_slice(), new, near) {
         let crowds = crowds.as_mut_slice();
         crowds[i].take(new.step, walk)?;
-        return Ok(());
+        return Ok(i.wrapping_add(1));
     }
     crowds.push(Crowd::of(alloc, *new))?;
-    Ok(())
+    Ok(0)
 }

@@ -16,6 +16,8 @@ use std::alloc::Global;
 pub struct Line {
     pub writes: Vec<Crowd>,
     pub reads: Vec<Crowd>,
+    /// Where the bytes that are read next are looked for first.
+    pub near: usize,
 }
 
 impl Line {
@@ -27,6 +29,7 @@ impl Line {
         Line {
             writes: Vec::new(alloc),
             reads: Vec::new(alloc),
+            near: 0,
         }
     }
 
@@ -73,7 +76,7 @@ impl Line {
         if any_clashes(self.writes.as_slice(), new, walk) {
             return Ok(true);
         }
-        join(alloc, &mut self.reads, new, walk)?;
+        self.near = join(alloc, &mut self.reads, new, self.near, walk)?;
         Ok(false)
     }
 }

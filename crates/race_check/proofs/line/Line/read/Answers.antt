@@ -13,5 +13,5 @@ returns-then-any_clashes c =
 pub returns : goal.returns
 returns c =
     let before = IsOrdered c.args.walk.now.machine in
-    let after : Line = record { writes = c.args.self.now.writes; reads = c.join.new.crowds } in
-    read before c.args.new.now c.args.self.now after (subst (λ crowds. Tells before c.args.new.now crowds false) c.as_slice.ensures.value c.if-any_clashes.ensures) refl c.in_ok-join.ensures
+    let after : Line = record { writes = c.args.self.now.writes; reads = c.join.new.crowds; near = c.in_ok-self.field-0 } in
+    read before c.args.new.now c.args.self.now after (subst (λ crowds. Tells before c.args.new.now crowds false) c.as_slice.ensures.value c.if-any_clashes.ensures) refl c.in_ok-self.ensures

@@ -14,7 +14,7 @@ returns-then-any_clashes-2 c =
 pub returns : goal.returns
 returns c =
     let before = IsOrdered c.args.walk.now.machine in
-    let after : Line = record { writes = c.push.new.self; reads = c.trim.new.crowds } in
+    let after : Line = record { writes = c.push.new.self; reads = c.trim.new.crowds; near = c.args.self.now.near } in
     written before c.args.new.now c.args.self.now after c.trim-2.new.crowds.items
     (subst (λ crowds. Tells before c.args.new.now crowds false) c.as_slice.ensures.value c.if-any_clashes.ensures)
     (subst (λ crowds. Tells before c.args.new.now crowds false) c.as_slice-2.ensures.value c.if-any_clashes-2.ensures)
