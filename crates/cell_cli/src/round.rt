@@ -7,7 +7,6 @@
 
 use spe_workers::Gate;
 use std::array;
-use std::hash::{DefaultHasher, Hasher};
 use std::random::RandomSource;
 use std::sync::Wait;
 use std::sync::atomic::{AtomicU64, Ordering};
@@ -69,11 +68,10 @@ impl<'a, R: Wait + RandomSource> RoundGate<'a, R> {
 impl<'a, R: Wait> RoundGate<'a, R> {
     /// A number by chance for a turn of a worker.
     fn chance(&self, worker: u32, turn: u32) -> u64 {
-        let mut hasher = DefaultHasher::new();
-        hasher.write_u64(self.seed);
-        hasher.write_u32(worker);
-        hasher.write_u32(turn);
-        hasher.finish()
+        let place = u64::from(turn) << 8 | u64::from(worker % 256);
+        let mixed = (self.seed ^ place).wrapping_mul(0x9E37_79B9_7F4A_7C15);
+        let mixed = (mixed ^ mixed >> 32).wrapping_mul(0xD6E8_FEB8_6659_FD93);
+        mixed ^ mixed >> 32
     }
 
     /// Sleeps until the worker of this word is handed the baton, for a moment at most.
