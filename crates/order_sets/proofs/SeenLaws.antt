@@ -1,5 +1,5 @@
 -- A set has a step exactly where one of its parts has it.
-use Rattle.std.proofs.Common.{◌≡◌, ◌≢◌, ℕ, zero, suc, ◌+◌, ◌-◌, max, replicate, ◌++◌, ◌==◌, Bool, true, false, ◌||◌, ◌&&◌, List, [], ◌∷◌, map, refl, ap, ap₂, sym, ◌∙◌, arith}
+use Rattle.std.proofs.Common.{◌≡◌, ◌≢◌, ℕ, zero, suc, ◌+◌, ◌-◌, max, replicate, ◌++◌, ◌==◌, Bool, true, false, ◌||◌, ◌&&◌, List, [], ◌∷◌, refl, ap, ap₂, sym, ◌∙◌, arith}
 use Rattle.std.specs.Prelude.{nat_lt, nat_le, slice_index, flat_map}
 use Rattle.std.specs.List.{list_any}
 use Rattle.std.proofs.lemmas.Bool.Decides.{nat_tests}
@@ -13,7 +13,7 @@ use Rattle.order_sets.specs.declared.parts.Part.{Part}
 use Rattle.order_sets.specs.declared.run.Run.{Run}
 use Rattle.order_sets.specs.Facts.{covers}
 use Rattle.order_sets.specs.Holds.{in_run, in_part}
-use Rattle.order_sets.specs.Seen.{below_ends, commands, of_run, of_part, steps_of}
+use Rattle.order_sets.specs.Seen.{below_ends, commands, elements, of_run, of_part, steps_of}
 use Rattle.order_sets.specs.Stands.{has_at}
 use Rattle.order_sets.proofs.AnySet.{first_more}
 
@@ -57,25 +57,29 @@ runs_have : (runs : List Run) (at : At) → cover (flat_map of_run runs) at ≡ 
 runs_have [] at = refl
 runs_have (r ∷ runs) at = list_any-append (λ f. covers f at) (of_run r) (flat_map of_run runs) ∙ ap₂ (λ a b. a || b) (run_has r at) (runs_have runs at)
 
-pub part_has : (p : Part) (at : At) → covers (of_part p) at ≡ in_part at p
-part_has p at = grind (arith, nat_tests)
+elements_have : (below chain cmd n : ℕ) (at : At) → cover (elements below chain cmd n) at ≡ ((chain == at.chain && (nat_le cmd at.cmd && nat_lt at.cmd (cmd + n))) && nat_lt at.elem below)
+elements_have below chain cmd zero at = grind (arith, nat_tests)
+elements_have below chain cmd (suc n) at = rw (elements_have below chain (cmd + 1) n at) (grind (arith, nat_tests))
 
-parts_have : (parts : List Part) (at : At) → cover (map of_part parts) at ≡ list_any (in_part at) parts
+part_has : (p : Part) (at : At) → cover (of_part p) at ≡ in_part at p
+part_has p at = rw (elements_have p.below p.run.chain p.run.first (p.run.last + 1 - p.run.first) at) (grind (arith, nat_tests))
+
+parts_have : (parts : List Part) (at : At) → cover (flat_map of_part parts) at ≡ list_any (in_part at) parts
 parts_have [] at = refl
-parts_have (p ∷ parts) at = ap₂ (λ a b. a || b) (part_has p at) (parts_have parts at)
+parts_have (p ∷ parts) at = list_any-append (λ f. covers f at) (of_part p) (flat_map of_part parts) ∙ ap₂ (λ a b. a || b) (part_has p at) (parts_have parts at)
 
 -- an end, a run, a part or another fact has the step
 abbrev pub parts_have_it : List ℕ → List Run → List Part → List Fact → At → Bool
 parts_have_it ends runs parts rest at = nat_lt at.place (slice_index ends at.chain) || (list_any (in_run at) runs || (list_any (in_part at) parts || cover rest at))
 
 pub has_it : (ends : List ℕ) (runs : List Run) (parts : List Part) (rest : List Fact) (at : At)
-    → cover (below_ends 0 ends ++ (flat_map of_run runs ++ (map of_part parts ++ rest))) at ≡ parts_have_it ends runs parts rest at
+    → cover (below_ends 0 ends ++ (flat_map of_run runs ++ (flat_map of_part parts ++ rest))) at ≡ parts_have_it ends runs parts rest at
 has_it ends runs parts rest at =
     list_any-append (λ f. covers f at) (below_ends 0 ends) _
     ∙ ap₂ (λ a b. a || b) (all_ends_have ends at)
     (list_any-append (λ f. covers f at) (flat_map of_run runs) _
     ∙ ap₂ (λ a b. a || b) (runs_have runs at)
-    (list_any-append (λ f. covers f at) (map of_part parts) _
+    (list_any-append (λ f. covers f at) (flat_map of_part parts) _
     ∙ ap (λ a. a || cover rest at) (parts_have parts at)))
 
 pub was : (known : Inside) (value : Known) (at : At) → steps_of known ≡ value → parts_have_it known.ends.items known.runs.items known.parts.items known.rest.items at ≡ has_at value at

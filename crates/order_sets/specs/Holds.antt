@@ -11,11 +11,15 @@ abbrev pub in_run : At → Run → Bool
 in_run at r = r.chain == at.chain && (nat_le r.first at.cmd && nat_le at.cmd r.last)
 
 abbrev pub in_part : At → Part → Bool
-in_part at p = p.chain == at.chain && (p.cmd == at.cmd && nat_lt at.elem p.below)
+in_part at p = in_run at p.run && nat_lt at.elem p.below
 
 -- the outer run has all commands of the inner one
 abbrev pub is_inside : Run → Run → Bool
 is_inside outer inner = inner.chain == outer.chain && (nat_le outer.first inner.first && nat_le inner.last outer.last)
+
+-- the outer part has all elements of the inner one
+abbrev pub is_part_inside : Part → Part → Bool
+is_part_inside outer inner = nat_le inner.below outer.below && is_inside outer.run inner.run
 
 -- the fact is more than a step that a run or a part has
 abbrev pub is_needed : List Run → List Part → Fact → Bool

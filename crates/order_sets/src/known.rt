@@ -125,8 +125,9 @@ fn add_parts(parts: &mut Vec<Part>, other: &[Part]) -> Result<(), AllocError>
     ensures ok { OnOk result ((at : At) → list_any (in_part at) parts.new.items ≡ (list_any (in_part at) parts.old.items || list_any (in_part at) other.now)) }
     ensures room { vec_len parts.old + length other.now ≤ vec_capacity parts.old → IsOk result }
 {
-    for p in other {
-        parts::add(parts, *p)?;
+    // Sets that were joined before mostly have the same parts at the same places.
+    for (i, p) in other.iter().enumerate() {
+        parts::add_near(parts, i, *p)?;
     }
     Ok(())
 }
@@ -170,29 +171,14 @@ fn join_rest(rest: &mut Vec<Fact>, other: &[Fact]) -> Result<(), AllocError>
     add_rest(rest, other)
 }
 
-/// Whether a run has the command.
-fn has_command(runs: &[Run], chain: u8, cmd: u32) -> bool
-    ensures { (elem place : ℕ) → result ≡ list_any (in_run (record { chain = chain; cmd = cmd; elem = elem; place = place })) runs.now }
-{
-    runs::has(
-        runs,
-        At {
-            chain,
-            cmd,
-            elem: 0,
-            place: 0,
-        },
-    )
-}
-
-/// Drops the elements of commands that a run has whole.
+/// Drops the parts whose commands one run has whole.
 fn drop_parts(parts: &mut Vec<Part>, runs: &[Run])
     ensures { (at : At) → (list_any (in_run at) runs.now || list_any (in_part at) parts.new.items) ≡ (list_any (in_run at) runs.now || list_any (in_part at) parts.old.items) }
 {
     if parts.is_empty() {
         return;
     }
-    parts.retain(|p| !has_command(runs, p.chain, p.cmd));
+    parts.retain(|p| !runs::covers(runs, &p.run));
 }
 
 /// Whether a run or a part has the step.
@@ -287,7 +273,7 @@ impl Known {
             },
             Fact::Whole { chain, cmd } => runs::add(&mut self.runs, runs::single(chain, cmd))?,
             Fact::Elements { chain, cmd, below } => {
-                parts::add(&mut self.parts, Part { chain, cmd, below })?
+                parts::add(&mut self.parts, parts::single(chain, cmd, below))?
             }
             Fact::One { .. } => rest::add(&mut self.rest, f)?,
         }

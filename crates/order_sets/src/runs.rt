@@ -22,15 +22,22 @@ pub(crate) fn single(chain: u8, cmd: u32) -> Run
     }
 }
 
+/// Whether the run has the step's command.
+pub(crate) fn is_in(run: &Run, at: At) -> bool
+    ensures { result ≡ in_run at run.now }
+{
+    run.chain == at.chain && run.first <= at.cmd && at.cmd <= run.last
+}
+
 /// Whether a run has the step's command.
 pub(crate) fn has(runs: &[Run], at: At) -> bool
     ensures { result ≡ list_any (in_run at) runs.now }
 {
-    runs.iter().any(|r| r.chain == at.chain && r.first <= at.cmd && at.cmd <= r.last)
+    runs.iter().any(|r| is_in(r, at))
 }
 
 /// Whether the two runs overlap, or the one goes on from the other.
-fn touch(a: &Run, b: &Run) -> bool
+pub(crate) fn touch(a: &Run, b: &Run) -> bool
     ensures { IsTrue result ↔ Touch a.now b.now }
 {
     a.chain == b.chain
@@ -39,14 +46,14 @@ fn touch(a: &Run, b: &Run) -> bool
 }
 
 /// Whether the first run has no command that the second one hasn't.
-fn is_inside(inner: &Run, outer: &Run) -> bool
+pub(crate) fn is_inside(inner: &Run, outer: &Run) -> bool
     ensures { result ≡ is_inside outer.now inner.now }
 {
     inner.chain == outer.chain && outer.first <= inner.first && inner.last <= outer.last
 }
 
 /// The run that has what either of two runs has.
-fn merged(a: &Run, b: &Run) -> Run
+pub(crate) fn merged(a: &Run, b: &Run) -> Run
     requires { Touch a.now b.now }
     ensures { (at : At) → in_run at result ≡ (in_run at a.now || in_run at b.now) }
 {
@@ -72,8 +79,9 @@ fn grown(runs: &[Run], run: Run) -> Run
 }
 
 /// Whether one of the runs has no command less than this one.
-fn covers(runs: &[Run], run: &Run) -> bool
-    ensures { IsTrue result → (at : At) → in_run at run.now ≡ true → list_any (in_run at) runs.now ≡ true }
+pub(crate) fn covers(runs: &[Run], run: &Run) -> bool
+    ensures one { result ≡ list_any (λ r. is_inside r run.now) runs.now }
+    ensures has { IsTrue result → (at : At) → in_run at run.now ≡ true → list_any (in_run at) runs.now ≡ true }
 {
     runs.iter().any(|r| is_inside(run, r))
 }

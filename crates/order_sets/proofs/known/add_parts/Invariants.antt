@@ -6,9 +6,9 @@ use Rattle.order_sets.specs.Holds.{in_part}
 use Rattle.order_sets.proofs.known.add_parts.Given as goal
 
 -- the old ones and the others so far, no more than one for each of these
-abbrev pub invariant-loop-p : goal.invariant-loop-p
-invariant-loop-p l = record {
-  has : (at : At) → list_any (in_part at) l.parts.items ≡ (list_any (in_part at) l.fn.parts.items || list_any (in_part at) (take l.p-index l.other));
-  len : vec_len l.parts ≤ vec_len l.fn.parts + l.p-index;
+abbrev pub invariant-loop-i : goal.invariant-loop-i
+invariant-loop-i l = record {
+  has : (at : At) → list_any (in_part at) l.parts.items ≡ (list_any (in_part at) l.fn.parts.items || list_any (in_part at) (take l.i l.other));
+  len : vec_len l.parts ≤ vec_len l.fn.parts + l.i;
   capacity : vec_capacity l.fn.parts ≤ vec_capacity l.parts;
 }

@@ -1,11 +1,13 @@
-use Rattle.std.proofs.Common.{◌||◌, arith, ap, ◌∙◌}
+use Rattle.std.proofs.Common.{filter, ◌||◌, rules, ap, sym, ◌∙◌}
+use Rattle.std.proofs.lemmas.Fn.{filter_same}
 use Rattle.std.specs.List.{list_any}
-use Rattle.order_sets.proofs.AnySet.{any_set}
-use Rattle.order_sets.specs.Holds.{in_part}
+use Rattle.order_sets.specs.Holds.{in_part, is_part_inside}
+use Rattle.order_sets.proofs.SetLaws.{is_kept, part_added}
 use Rattle.order_sets.proofs.parts.add.Goals as goal
 
-pub returns-then-is_same-clause-ok : goal.returns-then-is_same-clause-ok
-returns-then-is_same-clause-ok c = λ at.
-    any_set (in_part at) c.loop-i.parts.items c.loop-i.i c.raised.result c.index-then-is_same.result.now (in_part at c.args.part) (omega arith)
-    (c.raised.ensures at ∙ ap (λ r. in_part at r || in_part at c.args.part) c.index-then-is_same.ensures)
-    ∙ ap (λ rs. list_any (in_part at) rs.items || in_part at c.args.part) c.loop-i.invariant
+pub returns-clause-ok : goal.returns-clause-ok
+returns-clause-ok c = λ at.
+    let whole = c.grown-whole.result in
+    let kept = filter_same _ (is_kept is_part_inside whole) _ (λ x b f k. search rules) _ _ c.retain.ensures.filtered in
+    ap (list_any (in_part at)) (kept ∙ ap (filter (is_kept is_part_inside whole)) c.in_ok-push.ensures.items)
+    ∙ part_added c.args.part whole c.args.parts.now.items at (c.grown-whole.ensures.more at) (λ inside. ap (λ l. list_any (in_part at) l || in_part at c.args.part) (sym c.as_slice-2.ensures.value) ∙ c.grown-whole.ensures.only at inside)

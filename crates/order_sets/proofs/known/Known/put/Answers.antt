@@ -6,7 +6,7 @@ use Rattle.std.specs.Vec.{with_items}
 use Rattle.order_sets.specs.declared.facts.Fact.TheVariants.{Upto}
 use Rattle.order_sets.specs.Facts.{covers}
 use Rattle.order_sets.specs.Holds.{in_run, in_part}
-use Rattle.order_sets.proofs.SeenLaws.{has_it, was, part_has, end_raised, more_ends, more_runs, more_parts, more_rest}
+use Rattle.order_sets.proofs.SeenLaws.{has_it, was, end_raised, more_ends, more_runs, more_parts, more_rest}
 use Rattle.order_sets.proofs.known.Known.put.Goals as goal
 
 pub returns-in-Some-clause-ok : goal.returns-in-Some-clause-ok
@@ -28,7 +28,7 @@ returns-in_ok-add-in-Whole-clause-ok c = λ at.
 pub returns-in_ok-add-in-Elements-clause-ok : goal.returns-in_ok-add-in-Elements-clause-ok
 returns-in_ok-add-in-Elements-clause-ok c = λ at.
     has_it c.self.inside.ends.items c.self.inside.runs.items c.add-in-Elements.new.parts.items c.self.inside.rest.items at
-    ∙ (more_parts c.self.inside c.add-in-Elements.new.parts.items at _ (c.in_ok-add-in-Elements.ensures.ok at ∙ ap (λ b. list_any (in_part at) c.self.inside.parts.items || b) (sym (part_has _ at)))
+    ∙ (more_parts c.self.inside c.add-in-Elements.new.parts.items at _ (c.in_ok-add-in-Elements.ensures.ok at ∙ ap (λ b. list_any (in_part at) c.self.inside.parts.items || b) (c.single-in-Elements.ensures at))
     ∙ ap₂ (λ b f. b || covers f at) (was c.self.inside _ at c.self.view_is) (sym c.in-Elements.is))
 
 pub returns-in_ok-add-in-One-clause-ok : goal.returns-in_ok-add-in-One-clause-ok
