@@ -213,10 +213,10 @@ module _ (Rule : Trace → ℕ → ℕ → Type 0) (plain : (t : Trace) (i j : �
     source_here r h = record { event = e; at = here; joins = subst (λ t. Joins t e r) (sym (take_before trace e)) h }
 
     -- each set is the past of its sources again
-    pub set_kept : (known : At → Bool) → Answers known → ((a : At) → IsOld trace a → IsOld longer_trace a) → (IsOld trace (stamp n (length trace) e) → ⊥)
+    pub set_kept : (brought : At → Bool) → Holds Rule n IsOld longer_trace brought (λ k. k ≡ length trace) → ((a : At) → IsOld trace a → IsOld longer_trace a) → (IsOld trace (stamp n (length trace) e) → ⊥)
         → (r : Role) (s : At → Bool) → Holds Rule n IsOld trace s (Source trace r)
-        → Holds Rule n IsOld longer_trace (λ a. s a || (is_among r (write_roles trace e) && (known a || covers (fact_of n (length trace) e) a))) (Source longer_trace r)
-    set_kept known answers grows new r s h = by (is_among r (write_roles trace e)) refl
+        → Holds Rule n IsOld longer_trace (λ a. s a || (is_among r (write_roles trace e) && brought a)) (Source longer_trace r)
+    set_kept brought pointed grows new r s h = by (is_among r (write_roles trace e)) refl
       where
         later : Holds Rule n IsOld longer_trace s (Source trace r)
         later = holds_later Rule n IsOld trace e s (Source trace r) grows new h
@@ -224,12 +224,12 @@ module _ (Rule : Trace → ℕ → ℕ → Type 0) (plain : (t : Trace) (i j : �
         inside : (k : ℕ) → Source longer_trace r k → k < length longer_trace
         inside k u = slice_get_within longer_trace k u.event u.at
 
-        by : (b : Bool) → is_among r (write_roles trace e) ≡ b → Holds Rule n IsOld longer_trace (λ a. s a || (b && (known a || covers (fact_of n (length trace) e) a))) (Source longer_trace r)
+        by : (b : Bool) → is_among r (write_roles trace e) ≡ b → Holds Rule n IsOld longer_trace (λ a. s a || (b && brought a)) (Source longer_trace r)
         by true q =
-            holds_as Rule n IsOld longer_trace (λ a. s a || (known a || covers (fact_of n (length trace) e) a)) (λ k. Source trace r k ⊎ (k ≡ length trace)) (Source longer_trace r) inside
+            holds_as Rule n IsOld longer_trace (λ a. s a || brought a) (λ k. Source trace r k ⊎ (k ≡ length trace)) (Source longer_trace r) inside
             (λ k u. record { source = k; is = into k u; ordered = inl refl })
             (λ k u. record { source = k; is = from k (source_cases r k u); ordered = inl refl })
-            (holds_both Rule n IsOld longer_trace s (λ a. known a || covers (fact_of n (length trace) e) a) (Source trace r) (λ k. k ≡ length trace) later (point known answers))
+            (holds_both Rule n IsOld longer_trace s brought (Source trace r) (λ k. k ≡ length trace) later pointed)
           where
             into : (k : ℕ) → Source trace r k ⊎ (k ≡ length trace) → Source longer_trace r k
             into k (inl u) = source_later r k u

@@ -15,7 +15,7 @@ use Rattle.race_order.specs.declared.roles.Class.TheVariants.{Tag}
 use Rattle.race_order.specs.declared.roles.QueueRole.{QueueRole}
 use Rattle.race_order.specs.declared.roles.QueueRole.TheVariants.{Base, Waits, Complete, Fixed, Stalled}
 use Rattle.race_order.specs.Sources.{is_in}
-use Rattle.race_order.proofs.Nexts.{GoesAhead, IssuesNow, Fixes, after}
+use Rattle.race_order.proofs.Nexts.{GoesAhead, IssuesNow, Fixes}
 use Rattle.race_order.specs.Lives.{is_touched, goes_in, own_has, moved, touch_brings}
 use Rattle.race_order.specs.Ordering.{issued_in, issue_list, fix_list, spe_in}
 use Rattle.race_order.specs.Bringing.{nexts, AreStepped}
@@ -48,7 +48,7 @@ pub record AreLists (trace : Trace) (e : Event) (into : List QueueRole) (issue f
   pub issues : (g : Move → Bool) → (list_any g issue ≡ true) ↔ IsIssue e g
   pub fixes : (g : Move → Bool) → (list_any g fix ≡ true) ↔ IsFix e g
 
-module _ (n : ℕ) (trace : Trace) (e : Event) (known : At → Bool) (lives : List Live) (sets : View) (into : List QueueRole) (lists : AreLists trace e into (issue_list (issued_in e.step e.effect.note)) (fix_list e.effect.fixed (spe_in e.step))) (final : View) (passed : AreStepped n e.step e.effect (after n trace e known) lives into sets final) where
+module _ (n : ℕ) (trace : Trace) (e : Event) (brought : At → Bool) (lives : List Live) (sets : View) (into : List QueueRole) (lists : AreLists trace e into (issue_list (issued_in e.step e.effect.note)) (fix_list e.effect.fixed (spe_in e.step))) (final : View) (passed : AreStepped n e.step e.effect (brought) lives into sets final) where
   abbrev next_of : Live → Live
   next_of l = moved l e.step e.effect.note
 
@@ -61,8 +61,8 @@ module _ (n : ℕ) (trace : Trace) (e : Event) (known : At → Bool) (lives : Li
 
   pub data Cause (r : QueueRole) (a : At) : Type 0 where
     CStay : sets r a ≡ true → Cause r a
-    CInto : is_among r into ≡ true → after n trace e known a ≡ true → Cause r a
-    CTouch : (l : Live) → In l → is_touched l e.step e.effect.note ≡ true → r ≡ Waits l.spe l.cmd → ((goes_in l e.step e.effect.note ≡ true) × (after n trace e known a ≡ true)) ⊎ (own_has n (next_of l) a ≡ true) → Cause r a
+    CInto : is_among r into ≡ true → brought a ≡ true → Cause r a
+    CTouch : (l : Live) → In l → is_touched l e.step e.effect.note ≡ true → r ≡ Waits l.spe l.cmd → ((goes_in l e.step e.effect.note ≡ true) × (brought a ≡ true)) ⊎ (own_has n (next_of l) a ≡ true) → Cause r a
     CIssue : (p d : ℕ) (command : Command) (class : Class) → IssuesNow e p d command → GoesAhead command class → r ≡ Waits p d → passed.issued (Complete p class) a ≡ true → Cause r a
     CStall : (l : Live) → In l → l.progress.stalled ≡ false → (next_of l).progress.stalled ≡ true → r ≡ Stalled l.spe l.progress.command.tag → passed.stalled (Waits l.spe l.cmd) a ≡ true → Cause r a
     CClass : (l : Live) (class : Class) → In l → (next_of l).progress.done ≡ true → is_in class (next_of l).progress.command ≡ true → r ≡ Complete l.spe class → passed.done (Waits l.spe l.cmd) a ≡ true → Cause r a
@@ -74,24 +74,24 @@ module _ (n : ℕ) (trace : Trace) (e : Event) (known : At → Bool) (lives : Li
   not_true false x = refl
 
   cause2 : (r : QueueRole) (a : At) → passed.touched r a ≡ true → Cause r a
-  cause2 r a x = by (or_cases (with_into into (after n trace e known) sets r a) (list_any (touch_brings n e.step e.effect.note (after n trace e known) r a) lives) (sym (passed.is_touched r a) ∙ x))
+  cause2 r a x = by (or_cases (with_into into (brought) sets r a) (list_any (touch_brings n e.step e.effect.note (brought) r a) lives) (sym (passed.is_touched r a) ∙ x))
     where
-      first : (sets r a ≡ true) ⊎ ((is_among r into && after n trace e known a) ≡ true) → Cause r a
+      first : (sets r a ≡ true) ⊎ ((is_among r into && brought a) ≡ true) → Cause r a
       first (inl y) = CStay y
-      first (inr y) = let b = and_parts (is_among r into) (after n trace e known a) y in CInto b.0 b.1
+      first (inr y) = let b = and_parts (is_among r into) (brought a) y in CInto b.0 b.1
 
-      by : (with_into into (after n trace e known) sets r a ≡ true) ⊎ (list_any (touch_brings n e.step e.effect.note (after n trace e known) r a) lives ≡ true) → Cause r a
-      by (inl y) = first (or_cases (sets r a) (is_among r into && after n trace e known a) y)
-      by (inr y) = touched (picked (touch_brings n e.step e.effect.note (after n trace e known) r a) lives y)
+      by : (with_into into (brought) sets r a ≡ true) ⊎ (list_any (touch_brings n e.step e.effect.note (brought) r a) lives ≡ true) → Cause r a
+      by (inl y) = first (or_cases (sets r a) (is_among r into && brought a) y)
+      by (inr y) = touched (picked (touch_brings n e.step e.effect.note (brought) r a) lives y)
         where
-          touched : Picked (touch_brings n e.step e.effect.note (after n trace e known) r a) lives → Cause r a
+          touched : Picked (touch_brings n e.step e.effect.note (brought) r a) lives → Cause r a
           touched p =
-              let u = and_parts (is_touched p.one e.step e.effect.note) (same_role (Waits p.one.spe p.one.cmd) r && ((goes_in p.one e.step e.effect.note && after n trace e known a) || own_has n (next_of p.one) a)) p.passes in
-              let v = and_parts (same_role (Waits p.one.spe p.one.cmd) r) ((goes_in p.one e.step e.effect.note && after n trace e known a) || own_has n (next_of p.one) a) u.1 in
-              CTouch p.one record { place = p.place; at = p.at } u.0 (sym (same_role_is r (Waits p.one.spe p.one.cmd) v.0)) (what (or_cases (goes_in p.one e.step e.effect.note && after n trace e known a) (own_has n (next_of p.one) a) v.1))
+              let u = and_parts (is_touched p.one e.step e.effect.note) (same_role (Waits p.one.spe p.one.cmd) r && ((goes_in p.one e.step e.effect.note && brought a) || own_has n (next_of p.one) a)) p.passes in
+              let v = and_parts (same_role (Waits p.one.spe p.one.cmd) r) ((goes_in p.one e.step e.effect.note && brought a) || own_has n (next_of p.one) a) u.1 in
+              CTouch p.one record { place = p.place; at = p.at } u.0 (sym (same_role_is r (Waits p.one.spe p.one.cmd) v.0)) (what (or_cases (goes_in p.one e.step e.effect.note && brought a) (own_has n (next_of p.one) a) v.1))
             where
-              what : ((goes_in p.one e.step e.effect.note && after n trace e known a) ≡ true) ⊎ (own_has n (next_of p.one) a ≡ true) → ((goes_in p.one e.step e.effect.note ≡ true) × (after n trace e known a ≡ true)) ⊎ (own_has n (next_of p.one) a ≡ true)
-              what (inl w) = let z = and_parts (goes_in p.one e.step e.effect.note) (after n trace e known a) w in inl (z.0, z.1)
+              what : ((goes_in p.one e.step e.effect.note && brought a) ≡ true) ⊎ (own_has n (next_of p.one) a ≡ true) → ((goes_in p.one e.step e.effect.note ≡ true) × (brought a ≡ true)) ⊎ (own_has n (next_of p.one) a ≡ true)
+              what (inl w) = let z = and_parts (goes_in p.one e.step e.effect.note) (brought a) w in inl (z.0, z.1)
               what (inr w) = inr w
 
   cause3 : (r : QueueRole) (a : At) → passed.issued r a ≡ true → Cause r a
@@ -177,16 +177,16 @@ module _ (n : ℕ) (trace : Trace) (e : Event) (known : At → Bool) (lives : Li
   up2 r a x = passed.is_issued.has r a (or_left (passed.touched r a) _ x)
 
   pub up0 : (r : QueueRole) (a : At) → sets r a ≡ true → passed.touched r a ≡ true
-  up0 r a x = passed.is_touched r a ∙ or_left (with_into into (after n trace e known) sets r a) _ (or_left (sets r a) _ x)
+  up0 r a x = passed.is_touched r a ∙ or_left (with_into into (brought) sets r a) _ (or_left (sets r a) _ x)
 
-  pub up_into : (r : QueueRole) (a : At) → is_among r into ≡ true → after n trace e known a ≡ true → passed.touched r a ≡ true
-  up_into r a x y = passed.is_touched r a ∙ or_left (with_into into (after n trace e known) sets r a) _ (or_right (sets r a) _ (and_from _ _ x y))
+  pub up_into : (r : QueueRole) (a : At) → is_among r into ≡ true → brought a ≡ true → passed.touched r a ≡ true
+  up_into r a x y = passed.is_touched r a ∙ or_left (with_into into (brought) sets r a) _ (or_right (sets r a) _ (and_from _ _ x y))
 
-  pub up_touch : (l : Live) (a : At) → In l → is_touched l e.step e.effect.note ≡ true → ((goes_in l e.step e.effect.note && after n trace e known a) || own_has n (next_of l) a) ≡ true → passed.touched (Waits l.spe l.cmd) a ≡ true
+  pub up_touch : (l : Live) (a : At) → In l → is_touched l e.step e.effect.note ≡ true → ((goes_in l e.step e.effect.note && brought a) || own_has n (next_of l) a) ≡ true → passed.touched (Waits l.spe l.cmd) a ≡ true
   up_touch l a i x y =
       passed.is_touched (Waits l.spe l.cmd) a
-      ∙ or_right (with_into into (after n trace e known) sets (Waits l.spe l.cmd) a) _
-      (pick (touch_brings n e.step e.effect.note (after n trace e known) (Waits l.spe l.cmd) a) lives i.place l i.at (and_from _ _ x (and_from _ _ (same_role_itself (Waits l.spe l.cmd)) y)))
+      ∙ or_right (with_into into (brought) sets (Waits l.spe l.cmd) a) _
+      (pick (touch_brings n e.step e.effect.note (brought) (Waits l.spe l.cmd) a) lives i.place l i.at (and_from _ _ x (and_from _ _ (same_role_itself (Waits l.spe l.cmd)) y)))
 
   pub up_issue : (p d : ℕ) (command : Command) (class : Class) (a : At) → IssuesNow e p d command → GoesAhead command class → passed.touched (Complete p class) a ≡ true → passed.issued (Waits p d) a ≡ true
   up_issue p d command class a h g x =

@@ -28,7 +28,7 @@ use Rattle.race_order.specs.declared.roles.QueueRole.{QueueRole}
 use Rattle.race_order.specs.declared.roles.QueueRole.TheVariants.{Base, Waits, Complete, Fixed, Stalled}
 use Rattle.race_order.specs.Premises.{MayStep, QueueMay, IsQueued}
 use Rattle.race_order.specs.Sources.{is_in, IsKept, IsOwn, HaveOwn}
-use Rattle.race_order.proofs.Nexts.{is_delivery, Completes, Stalls, GoesInto, after}
+use Rattle.race_order.proofs.Nexts.{is_delivery, Completes, Stalls, GoesInto}
 use Rattle.race_order.proofs.Local.{Touches, WaitsLocal, Stays, Itself, AtIssue, FromEarlier, Own, CompleteLocal, WasComplete, IsNow, FixedLocal, WasFixed, FixedNow, StalledLocal, WasStalled, StalledNow, AreLocal}
 use Rattle.race_order.specs.Lives.{is_touched, goes_in, moves_own_line, delivers, own_has, moved, acks, acked_by, reads_of, touch_brings}
 use Rattle.race_order.proofs.CountedRules.{queued_take}
@@ -85,12 +85,12 @@ of_spe p c (Retire q d) h = ap Some (eqb-true q p (and_parts (q == p) (d == c) h
 of_spe p c (Atomic q) h = cc
 of_spe p c Host h = cc
 
-module _ (n : ℕ) (trace : Trace) (e : Event) (orderly : IsOrderly n (trace ++ (e ∷ []))) (queued : IsQueued (trace ++ (e ∷ []))) (known : At → Bool) (lives : List Live) (shows : ShowsNear (spe_in e.step) lives trace) (sets : View) (have : HaveOwn n sets trace) (into : List QueueRole) (lists : AreLists trace e into (issue_list (issued_in e.step e.effect.note)) (fix_list e.effect.fixed (spe_in e.step))) (final : View) (passed : AreStepped n e.step e.effect (after n trace e known) lives into sets final) where
+module _ (n : ℕ) (trace : Trace) (e : Event) (orderly : IsOrderly n (trace ++ (e ∷ []))) (queued : IsQueued (trace ++ (e ∷ []))) (brought : At → Bool) (lives : List Live) (shows : ShowsNear (spe_in e.step) lives trace) (sets : View) (have : HaveOwn n sets trace) (into : List QueueRole) (lists : AreLists trace e into (issue_list (issued_in e.step e.effect.note)) (fix_list e.effect.fixed (spe_in e.step))) (final : View) (passed : AreStepped n e.step e.effect (brought) lives into sets final) where
   abbrev T : Trace
   T = trace ++ (e ∷ [])
 
   abbrev InLives : Live → Type 0
-  InLives l = In n trace e known lives sets into lists final passed l
+  InLives l = In n trace e brought lives sets into lists final passed l
 
   abbrev next_of : Live → Live
   next_of l = moved l e.step e.effect.note
@@ -225,21 +225,21 @@ module _ (n : ℕ) (trace : Trace) (e : Event) (orderly : IsOrderly n (trace ++ 
   never y = cc
 
   up4_of : (r : QueueRole) (a : At) → passed.issued r a ≡ true → passed.stalled r a ≡ true
-  up4_of r a x = up3 n trace e known lives sets into lists final passed r a x
+  up4_of r a x = up3 n trace e brought lives sets into lists final passed r a x
 
   up6_of : (r : QueueRole) (a : At) → passed.stalled r a ≡ true → final r a ≡ true
-  up6_of r a x = up5 n trace e known lives sets into lists final passed r a (up4 n trace e known lives sets into lists final passed r a x)
+  up6_of r a x = up5 n trace e brought lives sets into lists final passed r a (up4 n trace e brought lives sets into lists final passed r a x)
 
   up6 : (r : QueueRole) (a : At) → passed.issued r a ≡ true → final r a ≡ true
   up6 r a x = up6_of r a (up4_of r a x)
 
   from2 : (r : QueueRole) (a : At) → passed.touched r a ≡ true → passed.issued r a ≡ true
-  from2 r a x = up2 n trace e known lives sets into lists final passed r a x
+  from2 r a x = up2 n trace e brought lives sets into lists final passed r a x
 
-  touch3 : (l : Live) (a : At) → InLives l → is_touched l e.step e.effect.note ≡ true → ((goes_in l e.step e.effect.note ≡ true) × (after n trace e known a ≡ true)) ⊎ (own_has n (next_of l) a ≡ true) → passed.issued (Waits l.spe l.cmd) a ≡ true
-  touch3 l a i x w = from2 (Waits l.spe l.cmd) a (up_touch n trace e known lives sets into lists final passed l a i x (what w))
+  touch3 : (l : Live) (a : At) → InLives l → is_touched l e.step e.effect.note ≡ true → ((goes_in l e.step e.effect.note ≡ true) × (brought a ≡ true)) ⊎ (own_has n (next_of l) a ≡ true) → passed.issued (Waits l.spe l.cmd) a ≡ true
+  touch3 l a i x w = from2 (Waits l.spe l.cmd) a (up_touch n trace e brought lives sets into lists final passed l a i x (what w))
     where
-      what : ((goes_in l e.step e.effect.note ≡ true) × (after n trace e known a ≡ true)) ⊎ (own_has n (next_of l) a ≡ true) → ((goes_in l e.step e.effect.note && after n trace e known a) || own_has n (next_of l) a) ≡ true
+      what : ((goes_in l e.step e.effect.note ≡ true) × (brought a ≡ true)) ⊎ (own_has n (next_of l) a ≡ true) → ((goes_in l e.step e.effect.note && brought a) || own_has n (next_of l) a) ≡ true
       what (inl y) = or_left _ _ (and_from _ _ y.0 y.1)
       what (inr y) = or_right _ _ y
 
@@ -254,18 +254,18 @@ module _ (n : ℕ) (trace : Trace) (e : Event) (orderly : IsOrderly n (trace ++ 
 
   -- a step changes no Complete set before commands are complete
   complete2 : (p : ℕ) (class : Class) (a : At) → passed.touched (Complete p class) a ≡ true → sets (Complete p class) a ≡ true
-  complete2 p class a x = by (or_cases (with_into into (after n trace e known) sets (Complete p class) a) (list_any (touch_brings n e.step e.effect.note (after n trace e known) (Complete p class) a) lives) (sym (passed.is_touched (Complete p class) a) ∙ x))
+  complete2 p class a x = by (or_cases (with_into into (brought) sets (Complete p class) a) (list_any (touch_brings n e.step e.effect.note (brought) (Complete p class) a) lives) (sym (passed.is_touched (Complete p class) a) ∙ x))
     where
-      first : (sets (Complete p class) a ≡ true) ⊎ ((is_among (Complete p class) into && after n trace e known a) ≡ true) → sets (Complete p class) a ≡ true
+      first : (sets (Complete p class) a ≡ true) ⊎ ((is_among (Complete p class) into && brought a) ≡ true) → sets (Complete p class) a ≡ true
       first (inl y) = y
-      first (inr y) = absurd (lists.complete p class (and_parts (is_among (Complete p class) into) (after n trace e known a) y).0)
+      first (inr y) = absurd (lists.complete p class (and_parts (is_among (Complete p class) into) (brought a) y).0)
 
-      by : (with_into into (after n trace e known) sets (Complete p class) a ≡ true) ⊎ (list_any (touch_brings n e.step e.effect.note (after n trace e known) (Complete p class) a) lives ≡ true) → sets (Complete p class) a ≡ true
-      by (inl y) = first (or_cases (sets (Complete p class) a) (is_among (Complete p class) into && after n trace e known a) y)
-      by (inr y) = touched (picked (touch_brings n e.step e.effect.note (after n trace e known) (Complete p class) a) lives y)
+      by : (with_into into (brought) sets (Complete p class) a ≡ true) ⊎ (list_any (touch_brings n e.step e.effect.note (brought) (Complete p class) a) lives ≡ true) → sets (Complete p class) a ≡ true
+      by (inl y) = first (or_cases (sets (Complete p class) a) (is_among (Complete p class) into && brought a) y)
+      by (inr y) = touched (picked (touch_brings n e.step e.effect.note (brought) (Complete p class) a) lives y)
         where
-          touched : Picked (touch_brings n e.step e.effect.note (after n trace e known) (Complete p class) a) lives → sets (Complete p class) a ≡ true
-          touched q = let u = and_parts (is_touched q.one e.step e.effect.note) (false && ((goes_in q.one e.step e.effect.note && after n trace e known a) || own_has n (next_of q.one) a)) q.passes in absurd (never u.1)
+          touched : Picked (touch_brings n e.step e.effect.note (brought) (Complete p class) a) lives → sets (Complete p class) a ≡ true
+          touched q = let u = and_parts (is_touched q.one e.step e.effect.note) (false && ((goes_in q.one e.step e.effect.note && brought a) || own_has n (next_of q.one) a)) q.passes in absurd (never u.1)
 
   complete3 : (p : ℕ) (class : Class) (a : At) → passed.issued (Complete p class) a ≡ true → sets (Complete p class) a ≡ true
   complete3 p class a x = by (or_cases _ _ (passed.is_issued.only (Complete p class) a x))
@@ -279,13 +279,13 @@ module _ (n : ℕ) (trace : Trace) (e : Event) (orderly : IsOrderly n (trace ++ 
 
   -- what the set of a touched command has in the end it had before the sets of others went into it
   down : (p c : ℕ) (s : Progress) (a : At) → Touches trace e p c → Has T p c s → Held p c s → final (Waits p c) a ≡ true → passed.issued (Waits p c) a ≡ true
-  down p c s a y has hd t = by (cause n trace e known lives sets into lists final passed (Waits p c) a t)
+  down p c s a y has hd t = by (cause n trace e brought lives sets into lists final passed (Waits p c) a t)
     where
-      by : Cause n trace e known lives sets into lists final passed (Waits p c) a → passed.issued (Waits p c) a ≡ true
-      by (CStay u) = from2 (Waits p c) a (up0 n trace e known lives sets into lists final passed (Waits p c) a u)
-      by (CInto u z) = from2 (Waits p c) a (up_into n trace e known lives sets into lists final passed (Waits p c) a u z)
+      by : Cause n trace e brought lives sets into lists final passed (Waits p c) a → passed.issued (Waits p c) a ≡ true
+      by (CStay u) = from2 (Waits p c) a (up0 n trace e brought lives sets into lists final passed (Waits p c) a u)
+      by (CInto u z) = from2 (Waits p c) a (up_into n trace e brought lives sets into lists final passed (Waits p c) a u z)
       by (CTouch l i u q w) = subst (λ r. passed.issued r a ≡ true) (sym q) (touch3 l a i u w)
-      by (CIssue p' d' command class h g q u) = subst (λ r. passed.issued r a ≡ true) (sym q) (up_issue n trace e known lives sets into lists final passed p' d' command class a h g (up0 n trace e known lives sets into lists final passed (Complete p' class) a (complete3 p' class a u)))
+      by (CIssue p' d' command class h g q u) = subst (λ r. passed.issued r a ≡ true) (sym q) (up_issue n trace e brought lives sets into lists final passed p' d' command class a h g (up0 n trace e brought lives sets into lists final passed (Complete p' class) a (complete3 p' class a u)))
       by (CClass l class i d' of q u) = cc
       by (CWaits l d' i j dn ah q u) =
           let b = before_of l d' i j ah in
@@ -307,10 +307,10 @@ module _ (n : ℕ) (trace : Trace) (e : Event) (orderly : IsOrderly n (trace ++ 
       by (inl y) = y
       by (inr y) = fixed ((lists.fixes (brings final (Complete p class) a)).0 y)
 
-  base_is : (w : Role) (a : At) → final (Base w) a ≡ (sets (Base w) a || (is_among_base w (write_roles trace e) && after n trace e known a))
-  base_is w a = bool_iff _ _ (λ t. to (cause n trace e known lives sets into lists final passed (Base w) a t)) (λ t. from (or_cases (sets (Base w) a) (is_among_base w (write_roles trace e) && after n trace e known a) t))
+  base_is : (w : Role) (a : At) → final (Base w) a ≡ (sets (Base w) a || (is_among_base w (write_roles trace e) && brought a))
+  base_is w a = bool_iff _ _ (λ t. to (cause n trace e brought lives sets into lists final passed (Base w) a t)) (λ t. from (or_cases (sets (Base w) a) (is_among_base w (write_roles trace e) && brought a) t))
     where
-      to : Cause n trace e known lives sets into lists final passed (Base w) a → (sets (Base w) a || (is_among_base w (write_roles trace e) && after n trace e known a)) ≡ true
+      to : Cause n trace e brought lives sets into lists final passed (Base w) a → (sets (Base w) a || (is_among_base w (write_roles trace e) && brought a)) ≡ true
       to (CStay y) = or_left _ _ y
       to (CInto y z) = or_right _ _ (and_from _ _ ((lists.base w).0 y) z)
       to (CTouch l i y q u) = cc
@@ -320,9 +320,9 @@ module _ (n : ℕ) (trace : Trace) (e : Event) (orderly : IsOrderly n (trace ++ 
       to (CStall l i s1 s2 q y) = cc
       to (CFixed p' tag low f q y) = cc
 
-      from : (sets (Base w) a ≡ true) ⊎ ((is_among_base w (write_roles trace e) && after n trace e known a) ≡ true) → final (Base w) a ≡ true
-      from (inl y) = up6 (Base w) a (from2 (Base w) a (up0 n trace e known lives sets into lists final passed (Base w) a y))
-      from (inr y) = let u = and_parts (is_among_base w (write_roles trace e)) (after n trace e known a) y in up6 (Base w) a (from2 (Base w) a (up_into n trace e known lives sets into lists final passed (Base w) a ((lists.base w).1 u.0) u.1))
+      from : (sets (Base w) a ≡ true) ⊎ ((is_among_base w (write_roles trace e) && brought a) ≡ true) → final (Base w) a ≡ true
+      from (inl y) = up6 (Base w) a (from2 (Base w) a (up0 n trace e brought lives sets into lists final passed (Base w) a y))
+      from (inr y) = let u = and_parts (is_among_base w (write_roles trace e)) (brought a) y in up6 (Base w) a (from2 (Base w) a (up_into n trace e brought lives sets into lists final passed (Base w) a ((lists.base w).1 u.0) u.1))
 
   -- what is done of a command that stands in the list
   own_from : (l : Live) (a : At) → InLives l → IsOwn n T l.spe l.cmd a → own_has n (next_of l) a ≡ true
@@ -354,28 +354,28 @@ module _ (n : ℕ) (trace : Trace) (e : Event) (orderly : IsOrderly n (trace ++ 
           let v = and_parts (a.chain == 2 * n + l.spe) (a.cmd == l.cmd) u.1 in
           record { progress = (next_of l).progress; has = next_has l i; chain = eqb-true a.chain (2 * n + l.spe) v.0; cmd = eqb-true a.cmd l.cmd v.1; over = inl u.0 }
 
-  waits_to : (p d : ℕ) (a : At) → Cause n trace e known lives sets into lists final passed (Waits p d) a → WaitsLocal n sets final trace e known p d a
+  waits_to : (p d : ℕ) (a : At) → Cause n trace e brought lives sets into lists final passed (Waits p d) a → WaitsLocal n sets final trace e brought p d a
   waits_to p d a (CStay y) = Stays y
   waits_to p d a (CInto y z) = Itself (inl ((lists.waits p d).0 y)) z
-  waits_to p d a (CTouch l i y q w) = subst₂ (λ v u. WaitsLocal n sets final trace e known v u a) (let f : l.spe ≡ p = cc in f) (let g : l.cmd ≡ d = cc in g) (what w)
+  waits_to p d a (CTouch l i y q w) = subst₂ (λ v u. WaitsLocal n sets final trace e brought v u a) (let f : l.spe ≡ p = cc in f) (let g : l.cmd ≡ d = cc in g) (what w)
     where
-      what : ((goes_in l e.step e.effect.note ≡ true) × (after n trace e known a ≡ true)) ⊎ (own_has n (next_of l) a ≡ true) → WaitsLocal n sets final trace e known l.spe l.cmd a
+      what : ((goes_in l e.step e.effect.note ≡ true) × (brought a ≡ true)) ⊎ (own_has n (next_of l) a ≡ true) → WaitsLocal n sets final trace e brought l.spe l.cmd a
       what (inl u) = Itself (goes_of l i u.0) u.1
       what (inr u) = Own (touches_of l i y) (own_to l a i u)
   waits_to p d a (CIssue p' d' command class h g q y) =
-      subst₂ (λ v u. WaitsLocal n sets final trace e known v u a) (let f : p' ≡ p = cc in f) (let k : d' ≡ d = cc in k) (AtIssue command class h g (complete3 p' class a y))
+      subst₂ (λ v u. WaitsLocal n sets final trace e brought v u a) (let f : p' ≡ p = cc in f) (let k : d' ≡ d = cc in k) (AtIssue command class h g (complete3 p' class a y))
   waits_to p d a (CClass l class i dn of q y) = cc
   waits_to p d a (CWaits l d' i j dn ah q y) =
       let b = before_of l d' i j ah in
-      subst₂ (λ v u. WaitsLocal n sets final trace e known v u a) (let f : d'.spe ≡ p = cc in f) (let k : d'.cmd ≡ d = cc in k)
-      (subst (λ v. WaitsLocal n sets final trace e known v d'.cmd a) b.0
-      (FromEarlier l.cmd (completes_touched trace e l.spe l.cmd (completes_of l i dn)) (completes_of l i dn) b.1 (up5 n trace e known lives sets into lists final passed (Waits l.spe l.cmd) a y)))
+      subst₂ (λ v u. WaitsLocal n sets final trace e brought v u a) (let f : d'.spe ≡ p = cc in f) (let k : d'.cmd ≡ d = cc in k)
+      (subst (λ v. WaitsLocal n sets final trace e brought v d'.cmd a) b.0
+      (FromEarlier l.cmd (completes_touched trace e l.spe l.cmd (completes_of l i dn)) (completes_of l i dn) b.1 (up5 n trace e brought lives sets into lists final passed (Waits l.spe l.cmd) a y)))
   waits_to p d a (CStall l i s1 s2 q y) = cc
   waits_to p d a (CFixed p' tag low f q y) = cc
 
-  waits_from : (p d : ℕ) (a : At) → IsKept trace (Waits p d) → WaitsLocal n sets final trace e known p d a → final (Waits p d) a ≡ true
-  waits_from p d a kept (Stays y) = up6 (Waits p d) a (from2 (Waits p d) a (up0 n trace e known lives sets into lists final passed (Waits p d) a y))
-  waits_from p d a kept (Itself (inl h) z) = up6 (Waits p d) a (from2 (Waits p d) a (up_into n trace e known lives sets into lists final passed (Waits p d) a ((lists.waits p d).1 h) z))
+  waits_from : (p d : ℕ) (a : At) → IsKept trace (Waits p d) → WaitsLocal n sets final trace e brought p d a → final (Waits p d) a ≡ true
+  waits_from p d a kept (Stays y) = up6 (Waits p d) a (from2 (Waits p d) a (up0 n trace e brought lives sets into lists final passed (Waits p d) a y))
+  waits_from p d a kept (Itself (inl h) z) = up6 (Waits p d) a (from2 (Waits p d) a (up_into n trace e brought lives sets into lists final passed (Waits p d) a ((lists.waits p d).1 h) z))
   waits_from p d a kept (Itself (inr (inl h)) z) =
       let of : ((p == p) && (d == d)) ≡ true = and_from _ _ (eq-eqb p p refl) (eq-eqb d d refl) in
       let m : MayStep trace p d e.step e.effect.note = may.step p d (ap (is_of p d) h ∙ of) in
@@ -401,7 +401,7 @@ module _ (n : ℕ) (trace : Trace) (e : Event) (orderly : IsOrderly n (trace ++ 
       beyond (inl x) = or_left _ _ (line_own trace queued_before e p d may_own.progress may_own.has h.is x)
       beyond (inr x) = or_right (moves_own_line live_own e.step) _ (is_delivers p d e.step e.effect.note h.is x)
   waits_from p d a kept (AtIssue command class h g y) =
-      up6 (Waits p d) a (up_issue n trace e known lives sets into lists final passed p d command class a h g (up0 n trace e known lives sets into lists final passed (Complete p class) a y))
+      up6 (Waits p d) a (up_issue n trace e brought lives sets into lists final passed p d command class a h g (up0 n trace e brought lives sets into lists final passed (Complete p class) a y))
   waits_from p d a kept (FromEarlier c t x b y) = by (came trace e p d b.second b.second_is)
     where
       hc : Held p c x.progress
@@ -412,8 +412,8 @@ module _ (n : ℕ) (trace : Trace) (e : Event) (orderly : IsOrderly n (trace ++ 
 
       go : Held p d b.second → final (Waits p d) a ≡ true
       go hd =
-          up5 n trace e known lives sets into lists final passed (Waits p d) a
-          (up_waits n trace e known lives sets into lists final passed record { spe = p; cmd = c; progress = hc.was } record { spe = p; cmd = d; progress = hd.was } a (find p c hc.was (who_of p c t) hc.has hc.live) (find p d hd.was (who_of p c t) hd.has hd.live)
+          up5 n trace e brought lives sets into lists final passed (Waits p d) a
+          (up_waits n trace e brought lives sets into lists final passed record { spe = p; cmd = c; progress = hc.was } record { spe = p; cmd = d; progress = hd.was } a (find p c hc.was (who_of p c t) hc.has hc.live) (find p d hd.was (who_of p c t) hd.has hd.live)
           (ap (λ (v : Progress). v.done) hc.becomes ∙ x.now.done)
           (and_from _ _ (eq-eqb p p refl)
           (and_from _ _ (lt-ltb c d b.lower)
@@ -446,27 +446,27 @@ module _ (n : ℕ) (trace : Trace) (e : Event) (orderly : IsOrderly n (trace ++ 
       let i : InLives record { spe = p; cmd = d; progress = h.progress } = find p d h.progress (ap spe_in h.is) h.has (kept h.progress h.has) in
       up6 (Waits p d) a (touch3 record { spe = p; cmd = d; progress = h.progress } a i (or_right (is_of p d e.step) _ k) (inr (own_from record { spe = p; cmd = d; progress = h.progress } a i o)))
 
-  complete_to : (p : ℕ) (class : Class) (a : At) → Cause n trace e known lives sets into lists final passed (Complete p class) a → CompleteLocal sets final trace e p class a
+  complete_to : (p : ℕ) (class : Class) (a : At) → Cause n trace e brought lives sets into lists final passed (Complete p class) a → CompleteLocal sets final trace e p class a
   complete_to p class a (CStay y) = WasComplete y
   complete_to p class a (CInto y z) = absurd (lists.complete p class y)
   complete_to p class a (CTouch l i y q w) = cc
   complete_to p class a (CIssue p' d' command class' h g q y) = cc
   complete_to p class a (CClass l class' i dn of q y) =
       subst₂ (λ v u. CompleteLocal sets final trace e v u a) (let f : l.spe ≡ p = cc in f) (let k : class' ≡ class = cc in k)
-      (IsNow l.cmd (completes_touched trace e l.spe l.cmd (completes_of l i dn)) (completes_of l i dn) of (up5 n trace e known lives sets into lists final passed (Waits l.spe l.cmd) a y))
+      (IsNow l.cmd (completes_touched trace e l.spe l.cmd (completes_of l i dn)) (completes_of l i dn) of (up5 n trace e brought lives sets into lists final passed (Waits l.spe l.cmd) a y))
   complete_to p class a (CWaits l d' i j dn ah q y) = cc
   complete_to p class a (CStall l i s1 s2 q y) = cc
   complete_to p class a (CFixed p' tag low f q y) = cc
 
   complete_from : (p : ℕ) (class : Class) (a : At) → CompleteLocal sets final trace e p class a → final (Complete p class) a ≡ true
-  complete_from p class a (WasComplete y) = up6 (Complete p class) a (from2 (Complete p class) a (up0 n trace e known lives sets into lists final passed (Complete p class) a y))
+  complete_from p class a (WasComplete y) = up6 (Complete p class) a (from2 (Complete p class) a (up0 n trace e brought lives sets into lists final passed (Complete p class) a y))
   complete_from p class a (IsNow c t x of y) =
-      up5 n trace e known lives sets into lists final passed (Complete p class) a
-      (up_class n trace e known lives sets into lists final passed record { spe = p; cmd = c; progress = (completes_held p c x).was } class a
+      up5 n trace e brought lives sets into lists final passed (Complete p class) a
+      (up_class n trace e brought lives sets into lists final passed record { spe = p; cmd = c; progress = (completes_held p c x).was } class a
       (find p c (completes_held p c x).was (who_of p c t) (completes_held p c x).has (completes_held p c x).live)
       (ap (λ (v : Progress). v.done) (completes_held p c x).becomes ∙ x.now.done) (ap (λ (v : Progress). is_in class v.command) (completes_held p c x).becomes ∙ of) (up4_of (Waits p c) a (down p c x.progress a t x.now.has (completes_held p c x) y)))
 
-  fixed_to : (p g : ℕ) (a : At) → Cause n trace e known lives sets into lists final passed (Fixed p g) a → FixedLocal sets final e p g a
+  fixed_to : (p g : ℕ) (a : At) → Cause n trace e brought lives sets into lists final passed (Fixed p g) a → FixedLocal sets final e p g a
   fixed_to p g a (CStay y) = WasFixed y
   fixed_to p g a (CInto y z) = absurd (lists.fixed p g y)
   fixed_to p g a (CTouch l i y q w) = cc
@@ -493,7 +493,7 @@ module _ (n : ℕ) (trace : Trace) (e : Event) (orderly : IsOrderly n (trace ++ 
   same_tag : (l : Live) → InLives l → (next_of l).progress.command.tag ≡ l.progress.command.tag
   same_tag l i = ap (λ (v : Command). v.tag) (stepped_steps l.spe l.cmd l.progress (live_has l i).1 e.step e.effect.note).grows.command
 
-  stalled_to : (p g : ℕ) (a : At) → Cause n trace e known lives sets into lists final passed (Stalled p g) a → StalledLocal sets final trace e p g a
+  stalled_to : (p g : ℕ) (a : At) → Cause n trace e brought lives sets into lists final passed (Stalled p g) a → StalledLocal sets final trace e p g a
   stalled_to p g a (CStay y) = WasStalled y
   stalled_to p g a (CInto y z) = absurd (lists.stalled p g y)
   stalled_to p g a (CTouch l i y q w) = cc
@@ -506,25 +506,25 @@ module _ (n : ℕ) (trace : Trace) (e : Event) (orderly : IsOrderly n (trace ++ 
   stalled_to p g a (CFixed p' tag low f q y) = cc
 
   stalled_from : (p g : ℕ) (a : At) → StalledLocal sets final trace e p g a → final (Stalled p g) a ≡ true
-  stalled_from p g a (WasStalled y) = up6 (Stalled p g) a (from2 (Stalled p g) a (up0 n trace e known lives sets into lists final passed (Stalled p g) a y))
+  stalled_from p g a (WasStalled y) = up6 (Stalled p g) a (from2 (Stalled p g) a (up0 n trace e brought lives sets into lists final passed (Stalled p g) a y))
   stalled_from p g a (StalledNow c t x tag y) =
       let i : InLives record { spe = p; cmd = c; progress = (stalls_held p c x).was } = find p c (stalls_held p c x).was (who_of p c t) (stalls_held p c x).has (stalls_held p c x).live in
       let k : (stalls_held p c x).was.command.tag ≡ g = sym (same_tag record { spe = p; cmd = c; progress = (stalls_held p c x).was } i) ∙ (ap (λ (v : Progress). v.command.tag) (stalls_held p c x).becomes ∙ tag) in
       subst (λ v. final (Stalled p v) a ≡ true) k
       (up6_of (Stalled p (stalls_held p c x).was.command.tag) a
-      (up_stall n trace e known lives sets into lists final passed record { spe = p; cmd = c; progress = (stalls_held p c x).was } a i (x.before (stalls_held p c x).was (stalls_held p c x).has) (ap (λ (v : Progress). v.stalled) (stalls_held p c x).becomes ∙ x.stalled) (down p c x.progress a t x.has (stalls_held p c x) y)))
+      (up_stall n trace e brought lives sets into lists final passed record { spe = p; cmd = c; progress = (stalls_held p c x).was } a i (x.before (stalls_held p c x).was (stalls_held p c x).has) (ap (λ (v : Progress). v.stalled) (stalls_held p c x).becomes ∙ x.stalled) (down p c x.progress a t x.has (stalls_held p c x) y)))
 
   -- the passes change exactly what the step has to change
-  pub passes_local : AreLocal n sets final trace e known
+  pub passes_local : AreLocal n sets final trace e brought
   passes_local =
       record {
         base = base_is;
-        waits = λ p d a kept. (λ t. waits_to p d a (cause n trace e known lives sets into lists final passed (Waits p d) a t), λ w. waits_from p d a kept w);
-        complete = λ p class a. (λ t. complete_to p class a (cause n trace e known lives sets into lists final passed (Complete p class) a t), λ w. complete_from p class a w);
-        fixed = λ p g a low. (λ t. fixed_to p g a (cause n trace e known lives sets into lists final passed (Fixed p g) a t), λ w. fixed_from p g a low w);
-        stalled = λ p g a. (λ t. stalled_to p g a (cause n trace e known lives sets into lists final passed (Stalled p g) a t), λ w. stalled_from p g a w);
+        waits = λ p d a kept. (λ t. waits_to p d a (cause n trace e brought lives sets into lists final passed (Waits p d) a t), λ w. waits_from p d a kept w);
+        complete = λ p class a. (λ t. complete_to p class a (cause n trace e brought lives sets into lists final passed (Complete p class) a t), λ w. complete_from p class a w);
+        fixed = λ p g a low. (λ t. fixed_to p g a (cause n trace e brought lives sets into lists final passed (Fixed p g) a t), λ w. fixed_from p g a low w);
+        stalled = λ p g a. (λ t. stalled_to p g a (cause n trace e brought lives sets into lists final passed (Stalled p g) a t), λ w. stalled_from p g a w);
       }
     where
       fixed_from : (p g : ℕ) (a : At) → g < 32 → FixedLocal sets final e p g a → final (Fixed p g) a ≡ true
-      fixed_from p g a low (WasFixed y) = up6 (Fixed p g) a (from2 (Fixed p g) a (up0 n trace e known lives sets into lists final passed (Fixed p g) a y))
-      fixed_from p g a low (FixedNow f y) = up_fixed n trace e known lives sets into lists final passed p g a low f (complete5 p (Tag g) a y)
+      fixed_from p g a low (WasFixed y) = up6 (Fixed p g) a (from2 (Fixed p g) a (up0 n trace e brought lives sets into lists final passed (Fixed p g) a y))
+      fixed_from p g a low (FixedNow f y) = up_fixed n trace e brought lives sets into lists final passed p g a low f (complete5 p (Tag g) a y)

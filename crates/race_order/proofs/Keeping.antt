@@ -26,12 +26,11 @@ use Rattle.race_order.specs.Pasts.{Past, Holds}
 use Rattle.race_order.proofs.Places.{get_last, get_later, longer, take_front, take_before, place_of, same_get}
 use Rattle.race_order.proofs.Among.{Among, Every, Found, among_every}
 use Rattle.race_order.proofs.Holding.{holds_later, past_of}
-use Rattle.race_order.proofs.Advance.{point}
 use Rattle.race_order.proofs.Histories.{status_next, same_progress, Later, later_at, later_next, issued_there, Came, Newly, Kept, Moved, came}
 use Rattle.race_order.proofs.Elements.{may_at}
 use Rattle.race_order.proofs.Queues.{of_here, resumes_here, resumes_there, no_step_after, no_resume_after, queue_full}
 use Rattle.race_order.proofs.PastLaws.{past_grows, chain_queue}
-use Rattle.race_order.proofs.Answering.{by_plain, made, IsKnown, answers, new_step}
+use Rattle.race_order.proofs.Answering.{made, new_step}
 use Rattle.race_order.proofs.Wholes.{complete_waits, part_waits, waits_more}
 use Rattle.race_order.specs.Pasts.{IsPast, Over}
 use Rattle.race_order.specs.Premises.{MayStep, QueueMay, IsQueued, IsNext, IsQuiet}
@@ -43,7 +42,7 @@ use Rattle.race_order.specs.Sources.{is_in, QueueSource, WaitSource, Begun, Earl
 use Rattle.race_order.specs.Lines.{moves_line}
 use Rattle.race_order.proofs.WholeLines.{IsDone, beyond_done}
 use Rattle.race_order.proofs.Sees.{LooksAt}
-use Rattle.race_order.proofs.Nexts.{is_delivery, looks_beyond, Completes, IssuesNow, GoesInto, GoesAhead, OfAll, OfTag, OfBarred, OfBarriers, after, WaitsNext, Stays, Itself, AtIssue, FromEarlier, Own, AreNext}
+use Rattle.race_order.proofs.Nexts.{is_delivery, looks_beyond, Completes, IssuesNow, GoesInto, GoesAhead, OfAll, OfTag, OfBarred, OfBarriers, WaitsNext, Stays, Itself, AtIssue, FromEarlier, Own, AreNext}
 
 -- the classes that go ahead of a command have exactly the commands that go before it
 ahead_reason : (c d : Command) (class : Class) → GoesAhead d class → is_in class c ≡ true → GoesBefore c d
@@ -129,7 +128,7 @@ issued_now trace e p d command none h =
           ∙ (ap (λ (b : Bool). if b then issued_as d (Issue d command) else None) (eq-eqb p p refl) ∙ ap (λ (b : Bool). if b then Some (begun command) else None) (eq-eqb d d refl))));
     }
 
-module _ (n : ℕ) (trace : Trace) (e : Event) (orderly : IsOrderly n (trace ++ (e ∷ []))) (queued : IsQueued (trace ++ (e ∷ []))) (sets next : QueueRole → At → Bool) (holds : (r : QueueRole) → IsKept trace r → Holds Rule n (IsPast n) trace (sets r) (QueueSource trace r)) (known : At → Bool) (is : IsKnown sets trace e known) (nx : AreNext n sets next trace e known) where
+module _ (n : ℕ) (trace : Trace) (e : Event) (orderly : IsOrderly n (trace ++ (e ∷ []))) (queued : IsQueued (trace ++ (e ∷ []))) (sets next : QueueRole → At → Bool) (holds : (r : QueueRole) → IsKept trace r → Holds Rule n (IsPast n) trace (sets r) (QueueSource trace r)) (brought : At → Bool) (pointed : Holds Rule n (IsPast n) (trace ++ (e ∷ [])) brought (λ k. k ≡ length trace)) (nx : AreNext n sets next trace e brought) where
   abbrev T : Trace
   T = trace ++ (e ∷ [])
 
@@ -147,9 +146,6 @@ module _ (n : ℕ) (trace : Trace) (e : Event) (orderly : IsOrderly n (trace ++ 
 
   pub later_set : (r : QueueRole) → IsKept trace r → Holds Rule n (IsPast n) T (sets r) (QueueSource trace r)
   later_set r kept = holds_later Rule n (IsPast n) trace e (sets r) (QueueSource trace r) (past_grows n trace e) (new_step n trace e orderly queued) (holds r kept)
-
-  pub pointed : Holds Rule n (IsPast n) T (after n trace e known) (λ k. k ≡ length trace)
-  pointed = point Rule by_plain n (IsPast n) (made n) trace e orderly known (answers n trace e orderly queued sets holds known is)
 
   pub has_front : (p c : ℕ) (s : Progress) → Has trace p c s → Has (take (length trace) T) p c s
   has_front p c s h = subst (λ t. Has t p c s) (sym front) h
@@ -255,7 +251,7 @@ module _ (n : ℕ) (trace : Trace) (e : Event) (orderly : IsOrderly n (trace ++ 
 
   module _ (p d : ℕ) (live_d : IsKept trace (Waits p d)) (ih : (c : ℕ) → c < d → IsKept trace (Waits p c) → HoldsWaits p c) where
     abbrev Becomes : At → Type 0
-    Becomes a = WaitsNext n sets next trace e known p d a
+    Becomes a = WaitsNext n sets next trace e brought p d a
 
     wait_past : (i : ℕ) (a : At) → IsStamp n T i a → Becomes a → Past Rule T (WaitSource T p d) i
     wait_past i a st (Stays t) =

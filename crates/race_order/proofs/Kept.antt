@@ -28,7 +28,7 @@ use Rattle.race_order.proofs.Queues.{element_there}
 use Rattle.race_order.proofs.PastLaws.{past_grows, left_some}
 use Rattle.race_order.proofs.Halts.{no_element_after, stalled_waits, element_waits}
 use Rattle.race_order.proofs.Elements.{element_here, of_itself, read_stepped}
-use Rattle.race_order.proofs.Answering.{by_plain, made, IsKnown, answers, new_step}
+use Rattle.race_order.proofs.Answering.{by_plain, made, new_step}
 use Rattle.race_order.proofs.Wholes.{complete_waits, part_waits}
 use Rattle.race_order.proofs.Keeping.{later_set, waits_kept, part_front, part_later, part_inside}
 use Rattle.race_order.specs.Pasts.{IsPast}
@@ -40,7 +40,7 @@ use Rattle.race_order.specs.declared.roles.QueueRole.TheVariants.{Base, Waits, C
 use Rattle.race_order.specs.Sources.{is_in, QueueSource, WaitSource, CompleteSource, FixedSource, StalledSource, IsPartOf, IsKept}
 use Rattle.race_order.proofs.Nexts.{Completes, Stalls, Fixes, CompleteNext, WasComplete, IsNow, FixedNext, WasFixed, FixedNow, StalledNext, WasStalled, StalledNow, AreNext}
 
-module _ (n : ℕ) (trace : Trace) (e : Event) (orderly : IsOrderly n (trace ++ (e ∷ []))) (queued : IsQueued (trace ++ (e ∷ []))) (sets next : QueueRole → At → Bool) (holds : (r : QueueRole) → IsKept trace r → Holds Rule n (IsPast n) trace (sets r) (QueueSource trace r)) (known : At → Bool) (is : IsKnown sets trace e known) (nx : AreNext n sets next trace e known) where
+module _ (n : ℕ) (trace : Trace) (e : Event) (orderly : IsOrderly n (trace ++ (e ∷ []))) (queued : IsQueued (trace ++ (e ∷ []))) (sets next : QueueRole → At → Bool) (holds : (r : QueueRole) → IsKept trace r → Holds Rule n (IsPast n) trace (sets r) (QueueSource trace r)) (brought : At → Bool) (pointed : Holds Rule n (IsPast n) (trace ++ (e ∷ [])) brought (λ k. k ≡ length trace)) (nx : AreNext n sets next trace e brought) where
   abbrev T : Trace
   T = trace ++ (e ∷ [])
 
@@ -48,10 +48,10 @@ module _ (n : ℕ) (trace : Trace) (e : Event) (orderly : IsOrderly n (trace ++ 
   front = take_before trace e
 
   later : (r : QueueRole) → IsKept trace r → Holds Rule n (IsPast n) T (sets r) (QueueSource trace r)
-  later r kept = later_set n trace e orderly queued sets next holds known is nx r kept
+  later r kept = later_set n trace e orderly queued sets next holds brought pointed nx r kept
 
   waits : (p c : ℕ) → IsKept trace (Waits p c) → Holds Rule n (IsPast n) T (next (Waits p c)) (WaitSource T p c)
-  waits p c live = waits_kept n trace e orderly queued sets next holds known is nx p c live
+  waits p c live = waits_kept n trace e orderly queued sets next holds brought pointed nx p c live
 
   complete_later : (p k : ℕ) (class : Class) → CompleteSource trace p class k → CompleteSource T p class k
   complete_later p k class s =
@@ -62,7 +62,7 @@ module _ (n : ℕ) (trace : Trace) (e : Event) (orderly : IsOrderly n (trace ++ 
         progress = l.progress;
         complete = record { has = l.has; done = ap (λ (v : Progress). v.done) same ∙ s.complete.done };
         of = ap (λ (v : Progress). is_in class v.command) same ∙ s.of;
-        part = part_later n trace e orderly queued sets next holds known is nx p s.command k s.part;
+        part = part_later n trace e orderly queued sets next holds brought pointed nx p s.command k s.part;
       }
 
   -- a command that is complete was so before, or is now
@@ -81,13 +81,13 @@ module _ (n : ℕ) (trace : Trace) (e : Event) (orderly : IsOrderly n (trace ++ 
             progress = t;
             complete = record { has = h; done = d };
             of = ap (λ (v : Progress). is_in class v.command) (sym same) ∙ s.of;
-            part = part_front n trace e orderly queued sets next holds known is nx p s.command k t h d s.part;
+            part = part_front n trace e orderly queued sets next holds brought pointed nx p s.command k t h d s.part;
           }
       by (Moved t h live f st) = inr record { progress = s.progress; now = s.complete; before = λ u g. subst (λ (v : Progress). v.done ≡ false) (same_progress trace p s.command t u h g) live }
 
   pub complete_kept : (p : ℕ) (class : Class) → Holds Rule n (IsPast n) T (next (Complete p class)) (CompleteSource T p class)
   complete_kept p class =
-      record { inside = λ k s. part_inside n trace e orderly queued sets next holds known is nx p s.command k s.part; sound = λ i a st t. sound i a st ((nx.complete p class a).0 t); full = λ i a st x. (nx.complete p class a).1 (full i a st x (complete_cases p x.source class x.is)); old = λ a t. old a ((nx.complete p class a).0 t) }
+      record { inside = λ k s. part_inside n trace e orderly queued sets next holds brought pointed nx p s.command k s.part; sound = λ i a st t. sound i a st ((nx.complete p class a).0 t); full = λ i a st x. (nx.complete p class a).1 (full i a st x (complete_cases p x.source class x.is)); old = λ a t. old a ((nx.complete p class a).0 t) }
     where
       sound : (i : ℕ) (a : At) → IsStamp n T i a → CompleteNext sets next trace e p class a → Past Rule T (CompleteSource T p class) i
       sound i a st (WasComplete t) = past_of Rule T (CompleteSource trace p class) (CompleteSource T p class) i (λ k s. record { source = k; is = complete_later p k class s; ordered = inl refl }) ((later (Complete p class) tt).sound i a st t)
@@ -141,7 +141,7 @@ module _ (n : ℕ) (trace : Trace) (e : Event) (orderly : IsOrderly n (trace ++ 
         where
           by : FixedSource trace p g k ⊎ (Fixes e p × CompleteSource T p (Tag g) k) → k < length T
           by (inl x) = (later (Fixed p g) low).inside k x
-          by (inr x) = part_inside n trace e orderly queued sets next holds known is nx p x.1.command k x.1.part
+          by (inr x) = part_inside n trace e orderly queued sets next holds brought pointed nx p x.1.command k x.1.part
 
       now : (k : ℕ) → Fixes e p → CompleteSource T p (Tag g) k → FixedSource T p g k
       now k f s = record { place = length trace; fixed = record { event = e; at = get_last trace e; is = f.is; fixed = f.fixed }; source = subst (λ t. CompleteSource t p (Tag g) k) (sym whole) s }
@@ -161,7 +161,7 @@ module _ (n : ℕ) (trace : Trace) (e : Event) (orderly : IsOrderly n (trace ++ 
   pub base_kept : (r : Role) → Holds Rule n (IsPast n) T (next (Base r)) (Source T r)
   base_kept r =
       subst (λ s. Holds Rule n (IsPast n) T s (Source T r)) (sym (fun_ext (λ a. nx.base r a)))
-      (set_kept Rule by_plain n (IsPast n) (made n) trace e orderly known (answers n trace e orderly queued sets holds known is) (past_grows n trace e) (new_step n trace e orderly queued) r (sets (Base r)) (holds (Base r) tt))
+      (set_kept Rule by_plain n (IsPast n) (made n) trace e orderly brought pointed (past_grows n trace e) (new_step n trace e orderly queued) r (sets (Base r)) (holds (Base r) tt))
 
   -- a step that stalls a list is one of its steps, and so far the element that it finishes isn't done
   stall_fresh : (p c m : ℕ) (s : Progress) → Has trace p c s → s.stalled ≡ false → (t : Progress) → t ≡ stepped p c s e.step e.effect.note → Steps p c s t e.step → t.stalled ≡ true → t.read ≡ m + 1 → 0 < t.read → (k : ℕ) (r : Resumes T k p c) → r.progress.read ≤ m

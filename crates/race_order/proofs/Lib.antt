@@ -35,6 +35,7 @@ pub mod Causes
 pub mod Composed
 pub mod LivesOf
 pub mod LivesNext
+pub mod Naming
 pub mod Tags
 pub mod Listings
 pub mod Standings

@@ -81,22 +81,22 @@ module _ (trace : Trace) (e : Event) where
       by (inl y) = y
       by (inr y) = absurd (both_ways _ (x.before x.progress y) x.stalled)
 
-  module _ (n : ℕ) (sets next : QueueRole → At → Bool) (known : At → Bool) (have : HaveOwn n sets trace) (nx : AreLocal n sets next trace e known) where
-    waits_to : (p d : ℕ) (a : At) → WaitsLocal n sets next trace e known p d a → WaitsNext n sets next trace e known p d a
+  module _ (n : ℕ) (sets next : QueueRole → At → Bool) (brought : At → Bool) (have : HaveOwn n sets trace) (nx : AreLocal n sets next trace e brought) where
+    waits_to : (p d : ℕ) (a : At) → WaitsLocal n sets next trace e brought p d a → WaitsNext n sets next trace e brought p d a
     waits_to p d a (Local.Stays t) = Next.Stays t
     waits_to p d a (Local.Itself g t) = Next.Itself g t
     waits_to p d a (Local.AtIssue command class h ahead t) = Next.AtIssue command class h ahead t
     waits_to p d a (Local.FromEarlier c y x b t) = Next.FromEarlier c x b t
     waits_to p d a (Local.Own y o) = Next.Own o
 
-    waits_from : (p d : ℕ) (a : At) → IsKept trace (Waits p d) → WaitsNext n sets next trace e known p d a → WaitsLocal n sets next trace e known p d a
+    waits_from : (p d : ℕ) (a : At) → IsKept trace (Waits p d) → WaitsNext n sets next trace e brought p d a → WaitsLocal n sets next trace e brought p d a
     waits_from p d a kept (Next.Stays t) = Local.Stays t
     waits_from p d a kept (Next.Itself g t) = Local.Itself g t
     waits_from p d a kept (Next.AtIssue command class h ahead t) = Local.AtIssue command class h ahead t
     waits_from p d a kept (Next.FromEarlier c x b t) = Local.FromEarlier c (completes_touched p c x) x b t
     waits_from p d a kept (Next.Own o) = by (touched_or_same p d o.progress o.has)
       where
-        by : Touches trace e p d ⊎ Has trace p d o.progress → WaitsLocal n sets next trace e known p d a
+        by : Touches trace e p d ⊎ Has trace p d o.progress → WaitsLocal n sets next trace e brought p d a
         by (inl y) = Local.Own y o
         by (inr y) = Local.Stays (have.own p d a kept record { progress = o.progress; has = y; chain = o.chain; cmd = o.cmd; over = o.over })
 
@@ -125,7 +125,7 @@ module _ (trace : Trace) (e : Event) where
     stalled_from p g a (Next.StalledNow c x tag t) = Local.StalledNow c (stalls_touched p c x) x tag t
 
     -- local changes are all changes
-    pub local_next : AreNext n sets next trace e known
+    pub local_next : AreNext n sets next trace e brought
     local_next =
         record {
           base = nx.base;

@@ -1,7 +1,6 @@
 -- What the sets become by a step.
-use Rattle.std.specs.Prelude.{◌≡◌, ℕ, ◌<◌, ◌⊎◌, ◌↔◌, Bool, true, false, ◌&&◌, ◌||◌, [], ◌∷◌, ◌++◌, length}
+use Rattle.std.specs.Prelude.{◌≡◌, ℕ, ◌<◌, ◌⊎◌, ◌↔◌, Bool, true, false, ◌&&◌, ◌||◌, [], ◌∷◌, ◌++◌}
 use Rattle.order_sets.specs.declared.facts.At.{At}
-use Rattle.order_sets.specs.Facts.{covers}
 use Rattle.cell_base.specs.declared.steps.Step.TheVariants.{Exec, Elem}
 use Rattle.mfc_command.specs.declared.command.Kind.TheVariants.{Barrier}
 use Rattle.mfc_command.specs.declared.command.Mark.TheVariants.{Fenced, Barred}
@@ -13,7 +12,7 @@ use Rattle.race_order.specs.Lines.{moves_line}
 use Rattle.race_order.specs.declared.progress.Progress.{Progress}
 use Rattle.race_order.specs.Queue.{Has, Before}
 use Rattle.race_order.specs.declared.roles.Role.{Role}
-use Rattle.race_order.specs.Roles.{write_roles, is_among, fact_of}
+use Rattle.race_order.specs.Roles.{write_roles, is_among}
 use Rattle.race_order.specs.Premises.{is_spe}
 use Rattle.race_order.specs.declared.roles.Class.{Class}
 use Rattle.race_order.specs.declared.roles.Class.TheVariants.{All, Tag, BarredTag, Barriers}
@@ -74,16 +73,12 @@ pub data GoesAhead (d : Command) : Class → Type 0 where
   OfBarred : GoesAhead d (BarredTag d.tag)
   OfBarriers : GoesAhead d Barriers
 
--- what is known after the step
-abbrev pub after : ℕ → Trace → Event → (At → Bool) → At → Bool
-after n trace e known a = known a || covers (fact_of n (length trace) e) a
-
-pub data WaitsNext (n : ℕ) (sets next : QueueRole → At → Bool) (trace : Trace) (e : Event) (known : At → Bool) (p d : ℕ) (a : At) : Type 0 where
-  Stays : sets (Waits p d) a ≡ true → WaitsNext n sets next trace e known p d a
-  Itself : GoesInto trace e p d → after n trace e known a ≡ true → WaitsNext n sets next trace e known p d a
-  AtIssue : (command : Command) (class : Class) → IssuesNow e p d command → GoesAhead command class → sets (Complete p class) a ≡ true → WaitsNext n sets next trace e known p d a
-  FromEarlier : (c : ℕ) → Completes trace e p c → Before (trace ++ (e ∷ [])) p c d → next (Waits p c) a ≡ true → WaitsNext n sets next trace e known p d a
-  Own : IsOwn n (trace ++ (e ∷ [])) p d a → WaitsNext n sets next trace e known p d a
+pub data WaitsNext (n : ℕ) (sets next : QueueRole → At → Bool) (trace : Trace) (e : Event) (brought : At → Bool) (p d : ℕ) (a : At) : Type 0 where
+  Stays : sets (Waits p d) a ≡ true → WaitsNext n sets next trace e brought p d a
+  Itself : GoesInto trace e p d → brought a ≡ true → WaitsNext n sets next trace e brought p d a
+  AtIssue : (command : Command) (class : Class) → IssuesNow e p d command → GoesAhead command class → sets (Complete p class) a ≡ true → WaitsNext n sets next trace e brought p d a
+  FromEarlier : (c : ℕ) → Completes trace e p c → Before (trace ++ (e ∷ [])) p c d → next (Waits p c) a ≡ true → WaitsNext n sets next trace e brought p d a
+  Own : IsOwn n (trace ++ (e ∷ [])) p d a → WaitsNext n sets next trace e brought p d a
 
 pub data CompleteNext (sets next : QueueRole → At → Bool) (trace : Trace) (e : Event) (p : ℕ) (class : Class) (a : At) : Type 0 where
   WasComplete : sets (Complete p class) a ≡ true → CompleteNext sets next trace e p class a
@@ -97,10 +92,10 @@ pub data StalledNext (sets next : QueueRole → At → Bool) (trace : Trace) (e 
   WasStalled : sets (Stalled p g) a ≡ true → StalledNext sets next trace e p g a
   StalledNow : (c : ℕ) (x : Stalls trace e p c) → x.progress.command.tag ≡ g → next (Waits p c) a ≡ true → StalledNext sets next trace e p g a
 
--- the sets after the step
-pub record AreNext (n : ℕ) (sets next : QueueRole → At → Bool) (trace : Trace) (e : Event) (known : At → Bool) : Type 0 where
-  pub base : (r : Role) (a : At) → next (Base r) a ≡ (sets (Base r) a || (is_among r (write_roles trace e) && after n trace e known a))
-  pub waits : (p d : ℕ) (a : At) → IsKept trace (Waits p d) → (next (Waits p d) a ≡ true) ↔ WaitsNext n sets next trace e known p d a
+-- the sets after the step, which brings those steps
+pub record AreNext (n : ℕ) (sets next : QueueRole → At → Bool) (trace : Trace) (e : Event) (brought : At → Bool) : Type 0 where
+  pub base : (r : Role) (a : At) → next (Base r) a ≡ (sets (Base r) a || (is_among r (write_roles trace e) && brought a))
+  pub waits : (p d : ℕ) (a : At) → IsKept trace (Waits p d) → (next (Waits p d) a ≡ true) ↔ WaitsNext n sets next trace e brought p d a
   pub complete : (p : ℕ) (class : Class) (a : At) → (next (Complete p class) a ≡ true) ↔ CompleteNext sets next trace e p class a
   pub fixed : (p g : ℕ) (a : At) → g < 32 → (next (Fixed p g) a ≡ true) ↔ FixedNext sets next e p g a
   pub stalled : (p g : ℕ) (a : At) → (next (Stalled p g) a ≡ true) ↔ StalledNext sets next trace e p g a

@@ -16,7 +16,7 @@ use Rattle.race_order.specs.declared.roles.Role.TheVariants.{OfExec}
 use Rattle.race_order.specs.Roles.{step_reads, step_writes, line_roles}
 use Rattle.race_order.specs.Listed.{note_reads_by, note_writes_by}
 use Rattle.race_order.specs.Ordering.{own_waits, seen_in, self_roles, issued_in, fix_list, spe_in}
-use Rattle.race_order.specs.Lives.{is_touched, acked_by, touch_brings}
+use Rattle.race_order.specs.Lives.{is_touched, touch_brings}
 use Rattle.race_order.specs.Passes.{View}
 use Rattle.race_order.specs.Bringing.{looked, entered, IsPlain}
 use Rattle.race_order.specs.Tables.{same_role}

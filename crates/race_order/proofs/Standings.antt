@@ -1,5 +1,5 @@
 -- An orderer stands for the longer run after a step.
-use Rattle.std.proofs.Common.{◌≡◌, ℕ, ◌+◌, ◌*◌, ◌-◌, ◌<◌, Bool, true, false, List, [], ◌∷◌, ◌++◌, map, length, take, get_or, Option, Some, None, ◌⊎◌, inl, inr, refl, sym, ap, ◌∙◌, subst, subst₂, ◌&&◌, ◌==◌, arith}
+use Rattle.std.proofs.Common.{◌≡◌, ℕ, ◌+◌, ◌*◌, ◌-◌, ◌<◌, Bool, true, false, List, [], ◌∷◌, ◌++◌, map, length, take, get_or, Option, Some, None, ◌⊎◌, inl, inr, refl, sym, ap, ◌∙◌, subst, subst₂, ◌&&◌, ◌||◌, ◌==◌, arith}
 use Rattle.std.proofs.lemmas.Bool.{cases_eq, and_from, and_parts, eq-eqb, eqb-true, both_ways, false_from_ne_true}
 use Rattle.std.specs.Prelude.{slice_get, filter, not, ◌≢◌, Vec}
 use Rattle.std.specs.declared.alloc.Global.{Global}
@@ -8,6 +8,8 @@ use Rattle.cell_base.specs.declared.steps.Step.TheVariants.{Exec, Piece, Elem, R
 use Rattle.cell_machine.proofs.Same.{some_same}
 use Rattle.std.proofs.lemmas.Option.{get_or_from_slice_get}
 use Rattle.order_sets.specs.declared.facts.At.{At}
+use Rattle.order_sets.specs.declared.facts.Fact.{Fact}
+use Rattle.order_sets.specs.Facts.{covers}
 use Rattle.race_order.specs.Trace.{Event, Trace, is_of}
 use Rattle.race_order.specs.Stamps.{stamp, chain_of, IsStamp}
 use Rattle.race_order.proofs.Places.{get_there}
@@ -25,7 +27,8 @@ use Rattle.race_order.specs.declared.lives.Live.{Live}
 use Rattle.race_order.specs.declared.roles.QueueRole.{QueueRole}
 use Rattle.race_order.specs.declared.roles.QueueRole.TheVariants.{Base, Waits, Complete, Fixed, Stalled}
 use Rattle.race_order.specs.Premises.{MayStep, IsQueued, QueueMay}
-use Rattle.race_order.proofs.Nexts.{AreNext, after}
+use Rattle.race_order.proofs.Naming.{Names, named_point}
+use Rattle.race_order.proofs.Nexts.{AreNext}
 use Rattle.race_order.proofs.Nexts as Next
 use Rattle.race_order.specs.Sources.{HaveOwn, IsKept, QueueSource}
 use Rattle.race_order.specs.Lives.{ShowsLives, lives_of, near, moved, moves_own_line, moves_line_by}
@@ -36,7 +39,7 @@ use Rattle.race_order.specs.Ordering.{issued_in, spe_in}
 use Rattle.race_order.specs.Ordering.{issued_in}
 use Rattle.race_order.specs.Lines.{moves_line}
 use Rattle.race_order.proofs.WholeLines.{own_line, line_own}
-use Rattle.race_order.proofs.Answering.{by_plain, made, IsKnown, answers}
+use Rattle.race_order.proofs.Answering.{by_plain, made, answers}
 use Rattle.race_order.proofs.Composed.{passes_local}
 use Rattle.race_order.proofs.Locals.{local_next}
 use Rattle.race_order.proofs.Passed.{Picked, picked, pick}
@@ -81,8 +84,8 @@ module _ (n : ℕ) (trace : Trace) (e : Event) (orderly : IsOrderly n (trace ++ 
   abbrev T : Trace
   T = trace ++ (e ∷ [])
 
-  isk : IsKnown sets trace e known
-  isk = is_known trace e sets known known_is
+  ans : Answers Rule by_plain n (IsPast n) (made n) trace e orderly known
+  ans = answers n trace e orderly queued sets kept.holds known (is_known trace e sets known known_is)
 
   pub last_next : IsLast n T known
   last_next =
@@ -91,26 +94,29 @@ module _ (n : ℕ) (trace : Trace) (e : Event) (orderly : IsOrderly n (trace ++ 
             (λ t. subst (Ordered Rule T i) last (ans.sound i a st t), λ o. ans.full i a st (subst (Ordered Rule T i) (sym last) o));
       }
     where
-      ans : Answers Rule by_plain n (IsPast n) (made n) trace e orderly known
-      ans = answers n trace e orderly queued sets kept.holds known isk
-
       last : length trace ≡ length T - 1
       last = let k : length T ≡ length trace + 1 = longer trace e in omega arith
 
-  module _ (may : QueueMay trace e) (final : View) (passed : AreKept n e.step e.effect (after n trace e known) lives (into_list trace e) sets final) where
-    nx : AreNext n sets passed.all trace e known
-    nx = local_next trace e n sets passed.all known have (passes_local n trace e orderly queued known lives shows sets have (into_list trace e) (are_lists trace e) passed.all passed.stepped)
+  module _ (may : QueueMay trace e) (fact : Fact) (names : Names n trace e fact) (final : View) (passed : AreKept n e.step e.effect (λ a. known a || covers fact a) lives (into_list trace e) sets final) where
+    abbrev brought : At → Bool
+    brought a = known a || covers fact a
+
+    pointed : Holds Rule n (IsPast n) T brought (λ k. k ≡ length trace)
+    pointed = named_point n trace e orderly queued known ans fact names
+
+    nx : AreNext n sets passed.all trace e brought
+    nx = local_next trace e n sets passed.all brought have (passes_local n trace e orderly queued brought lives shows sets have (into_list trace e) (are_lists trace e) passed.all passed.stepped)
 
     same : (r : QueueRole) → IsKept T r → (a : At) → final r a ≡ passed.all r a
     same r k a = passed.kept r a (kept_not_over trace e may lives shows r k)
 
     pub keep_next : Keep n T final
     keep_next =
-        record { holds = λ r k. subst (λ s. Holds Rule n (IsPast n) T s (QueueSource T r)) (sym (fun_ext (λ a. same r k a))) (all_kept n trace e orderly queued sets passed.all kept.holds known isk nx r (kept_before n trace e orderly queued sets passed.all kept.holds known isk nx r k)) }
+        record { holds = λ r k. subst (λ s. Holds Rule n (IsPast n) T s (QueueSource T r)) (sym (fun_ext (λ a. same r k a))) (all_kept n trace e orderly queued sets passed.all kept.holds brought pointed nx r (kept_before n trace e orderly queued sets passed.all kept.holds brought pointed nx r k)) }
 
     pub own_next : HaveOwn n final T
     own_next =
-        record { own = λ p d a k o. same (Waits p d) k a ∙ (nx.waits p d a (kept_before n trace e orderly queued sets passed.all kept.holds known isk nx (Waits p d) k)).1 (Next.Own o) }
+        record { own = λ p d a k o. same (Waits p d) k a ∙ (nx.waits p d a (kept_before n trace e orderly queued sets passed.all kept.holds brought pointed nx (Waits p d) k)).1 (Next.Own o) }
 
 pub queued_next : (trace : Trace) (e : Event) → IsQueued trace → QueueMay trace e → IsQueued (trace ++ (e ∷ []))
 queued_next trace e o may i f at = by (place_of trace e i f at)

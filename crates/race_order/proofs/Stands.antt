@@ -15,7 +15,7 @@ use Rattle.cell_base.specs.declared.steps.Step.TheVariants.{Exec, Piece, Elem, R
 use Rattle.race_order.specs.Stamps.{stamp, chain_of}
 use Rattle.race_order.specs.Counted.{Shows, Fits, one_more, counts_after_put, counts_after_take}
 use Rattle.race_order.specs.Listed.{read_roles_by, write_roles_by, note_reads_by, note_writes_by, box_of}
-use Rattle.race_order.specs.Roles.{read_roles, write_roles, note_reads, note_writes, step_reads, step_writes, line_roles, put_role, take_role, fact_by}
+use Rattle.race_order.specs.Roles.{read_roles, write_roles, note_reads, note_writes, step_reads, step_writes, line_roles, put_role, take_role, fact_in}
 use Rattle.race_order.specs.Tables.{FitsChains}
 use Rattle.race_order.specs.Orderly.{MayCome, IsOrderly, IsNoted, IsWithin}
 use Rattle.race_order.specs.Standing.{AreNamed}
@@ -143,10 +143,11 @@ chain_low n (Atomic p) w = omega arith
 chain_low n Host w = omega arith
 
 -- what names a step in a set is of one of the chains
-pub fact_fits : (n : ℕ) (a : At) (s : Step) → IsWithin n s → FitsChains (3 * n + 1) (fact_by n a s)
-fact_fits n a (Exec p) w = omega arith
-fact_fits n a (Piece p c x k) w = tt
-fact_fits n a (Elem p c) w = tt
-fact_fits n a (Retire p c) w = tt
-fact_fits n a (Atomic p) w = omega arith
-fact_fits n a Host w = omega arith
+pub fact_fits : (n : ℕ) (only : Bool) (a : At) (s : Step) → IsWithin n s → FitsChains (3 * n + 1) (fact_in n only a s)
+fact_fits n true a s w = tt
+fact_fits n false a (Exec p) w = omega arith
+fact_fits n false a (Piece p c x k) w = tt
+fact_fits n false a (Elem p c) w = tt
+fact_fits n false a (Retire p c) w = tt
+fact_fits n false a (Atomic p) w = omega arith
+fact_fits n false a Host w = omega arith

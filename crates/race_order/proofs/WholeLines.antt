@@ -1,4 +1,4 @@
--- A PUTQLLUC has one step, its piece, which completes it; and so has a command that delivers a signal.
+-- A command of one piece has one step, its piece, which completes it; so has a PUTQLLUC. What delivers a signal completes its command.
 use Rattle.std.proofs.Common.{◌≡◌, ℕ, zero, suc, ◌-◌, ◌<◌, ◌≤◌, ◌==◌, ◌&&◌, ◌⊎◌, inl, inr, not, Bool, true, false, length, take, Some, None, refl, sym, ap, ap₂, ◌∙◌, subst, subst₂, arith}
 use Rattle.std.specs.Prelude.{slice_get, if◌then◌else◌}
 use Rattle.std.specs.List.{list_any}
@@ -13,7 +13,7 @@ use Rattle.cell_machine.specs.declared.effect.Note.TheVariants.{Issue, Ack, Sign
 use Rattle.race_order.specs.Trace.{Event, Trace, IsStepOf, is_of}
 use Rattle.race_order.specs.Lines.{is_queued_line, issues_line, moves_line}
 use Rattle.race_order.specs.declared.progress.Progress.{Progress}
-use Rattle.race_order.specs.Status.{status, next_status, stepped, finished, after_piece, after_element, after_ack, is_transfer, is_last, is_by}
+use Rattle.race_order.specs.Status.{status, next_status, stepped, begun, finished, after_piece, after_element, after_ack, is_transfer, is_last, is_by, has_one_piece}
 use Rattle.race_order.specs.Queue.{Has, ReadsElement}
 use Rattle.race_order.specs.Commands.{IsIssued}
 use Rattle.race_order.specs.Premises.{MayStep, FitsProgress, IsDelivery, IsQueued, IsOnePiece}
@@ -70,6 +70,18 @@ moved_left p c s (Retire q d) note left transfer none live = at (is_by p c q d) 
 moved_left p c s (Atomic q) note left transfer none live = left
 moved_left p c s Host note left transfer none live = left
 
+-- ---- which commands have one piece
+
+one_transfers : (command : Command) → has_one_piece command ≡ true → is_transfer command ≡ true
+one_transfers command one = by (is_transfer command) refl
+  where
+    by : (b : Bool) → is_transfer command ≡ b → is_transfer command ≡ true
+    by true q = q
+    by false q = let none : false ≡ true = sym (ap (λ (b : Bool). (if b then parts_of command.ea command.size else 0) == 1) q) ∙ one in absurd cc
+
+one_has : (command : Command) → (is_transfer command ≡ true) × (parts_of command.ea command.size ≡ 1) → has_one_piece command ≡ true
+one_has command h = eq-eqb (begun command).left 1 (ap (λ (b : Bool). if b then parts_of command.ea command.size else 0) h.0 ∙ h.1)
+
 -- ---- what its issue tells
 
 record IssuesLine (p c : ℕ) (step : Step) (note : Note) : Type 0 where
@@ -109,31 +121,32 @@ module _ (T : Trace) (queued : IsQueued T) where
 
   -- ---- its piece
 
-  pub line_left : (p c i : ℕ) (s : Progress) → i ≤ length T → Has (take i T) p c s → is_queued_line s.command.kind ≡ true → s.done ≡ false → s.left ≡ 1
-  line_left p c zero s low h line live = absurd (never h.is)
+  -- as long as a command of one piece isn't complete, its piece is left
+  pub piece_left : (p c i : ℕ) (s : Progress) → i ≤ length T → Has (take i T) p c s → has_one_piece s.command ≡ true → s.done ≡ false → s.left ≡ 1
+  piece_left p c zero s low h one live = absurd (never h.is)
     where
       never : None ≡ Some s → ⊥
       never x = cc
-  line_left p c (suc i) s low h line live =
+  piece_left p c (suc i) s low h one live =
       let g : (x : Event) × (slice_get T i ≡ Some x) = get_there T i (omega arith) in
-      at g.0 g.1 (came (take i T) g.0 p c s (subst (λ u. Has u p c s) (take_step T i g.0 g.1) h)) (λ t x y z. line_left p c i t (omega arith) x y z)
+      at g.0 g.1 (came (take i T) g.0 p c s (subst (λ u. Has u p c s) (take_step T i g.0 g.1) h)) (λ t x y z. piece_left p c i t (omega arith) x y z)
     where
-      one : (is_transfer s.command ≡ true) × (parts_of s.command.ea s.command.size ≡ 1)
-      one = one_piece p c (suc i) s low h line
-
-      at : (e : Event) → slice_get T i ≡ Some e → Came (take i T) e p c s → ((t : Progress) → Has (take i T) p c t → is_queued_line t.command.kind ≡ true → t.done ≡ false → t.left ≡ 1) → s.left ≡ 1
-      at e here (Newly n x y z) rest = ap (λ (v : Progress). v.left) z ∙ (ap (λ (b : Bool). if b then parts_of s.command.ea s.command.size else 0) one.0 ∙ one.1)
+      at : (e : Event) → slice_get T i ≡ Some e → Came (take i T) e p c s → ((t : Progress) → Has (take i T) p c t → has_one_piece t.command ≡ true → t.done ≡ false → t.left ≡ 1) → s.left ≡ 1
+      at e here (Newly n x y z) rest = ap (λ (v : Progress). v.left) z ∙ eqb-true (begun s.command).left 1 one
       at e here (Kept t x d same) rest = absurd (both_ways _ live (ap (λ (v : Progress). v.done) same ∙ d))
       at e here (Moved t x d f st) rest =
           let same : s.command ≡ t.command = st.grows.command in
-          let left : t.left ≡ 1 = rest t x (subst (λ (v : Command). is_queued_line v.kind ≡ true) same line) d in
-          let transfer : is_transfer t.command ≡ true = subst (λ v. is_transfer v ≡ true) same one.0 in
+          let left : t.left ≡ 1 = rest t x (subst (λ (v : Command). has_one_piece v ≡ true) same one) d in
+          let transfer : is_transfer t.command ≡ true = subst (λ v. is_transfer v ≡ true) same (one_transfers s.command one) in
           ap (λ (v : Progress). v.left) f ∙ moved_left p c t e.step e.effect.note left transfer (no_element transfer) (subst (λ (v : Progress). v.done ≡ false) f live)
         where
           no_element : is_transfer t.command ≡ true → e.step ≡ Elem p c → ⊥
           no_element transfer q =
               let r : ReadsElement T i p c t.read = record { step = record { event = e; at = here; is = q }; progress = t; has = x; number = refl } in
               both_ways _ (elem_fits T queued i p c t.read r).0 transfer
+
+  pub line_left : (p c i : ℕ) (s : Progress) → i ≤ length T → Has (take i T) p c s → is_queued_line s.command.kind ≡ true → s.done ≡ false → s.left ≡ 1
+  line_left p c i s low h line live = piece_left p c i s low h (one_has s.command (one_piece p c i s low h line)) live
 
 -- ---- the steps that look beyond the queues
 
@@ -170,6 +183,28 @@ module _ (T : Trace) (queued : IsQueued T) (p d k : ℕ) (st : IsStepOf T k p d)
             ∙ (ap (λ (b : Bool). (if b then after_piece m.progress else m.progress).done) of ∙ piece_done m.progress left transfer);
       }
 
+  -- a step of a transfer of which one piece is left
+  last_done : m.progress.left ≡ 1 → is_transfer m.progress.command ≡ true → IsDone (take (suc k) T) p d
+  last_done left transfer = by st.event.step refl
+    where
+      fits : (s : Step) → st.event.step ≡ s → FitsProgress m.progress s st.event.effect.note
+      fits s f = subst (λ x. FitsProgress m.progress x st.event.effect.note) f m.fits
+
+      by : (s : Step) → st.event.step ≡ s → IsDone (take (suc k) T) p d
+      by (Piece q c e j) f = last_piece q c e j f (sym (ap (is_of p d) f) ∙ st.is) left transfer
+      by (Elem q c) f = absurd (both_ways _ (fits (Elem q c) f).0 transfer)
+      by (Retire q c) f = let none : m.progress.left ≡ 0 = (fits (Retire q c) f).0 in let one : m.progress.left ≡ 1 = left in absurd (omega arith)
+      by (Exec q) f = let g : false ≡ true = sym (ap (is_of p d) f) ∙ st.is in absurd cc
+      by (Atomic q) f = let g : false ≡ true = sym (ap (is_of p d) f) ∙ st.is in absurd cc
+      by Host f = let g : false ≡ true = sym (ap (is_of p d) f) ∙ st.is in absurd cc
+
+  -- a step of a command of one piece
+  pub only_done : (s : Progress) → Has (take k T) p d s → has_one_piece s.command ≡ true → IsDone (take (suc k) T) p d
+  only_done s has one =
+      let low : k < length T = inside in
+      let here : has_one_piece m.progress.command ≡ true = subst (λ (v : Progress). has_one_piece v.command ≡ true) (same_progress (take k T) p d s m.progress has m.has) one in
+      last_done (piece_left T queued p d k m.progress (omega arith) m.has here m.live) (one_transfers m.progress.command here)
+
   line_done : moves_line (take k T) st.event.step ≡ true → IsDone (take (suc k) T) p d
   line_done moves = by st.event.step refl
     where
@@ -179,8 +214,7 @@ module _ (T : Trace) (queued : IsQueued T) (p d k : ℕ) (st : IsStepOf T k p d)
           let low : k < length T = inside in
           let called : issued_line p d (take k T) ≡ true = subst₂ (λ x y. issued_line x y (take k T) ≡ true) (eqb-true q p a.0) (eqb-true c d a.1) (sym (ap (moves_line (take k T)) f) ∙ moves) in
           let line : is_queued_line m.progress.command.kind ≡ true = line_kind (take k T) (queued_take T k (omega arith) queued) p d m.progress m.has called in
-          let left : m.progress.left ≡ 1 = line_left T queued p d k m.progress (omega arith) m.has line m.live in
-          last_piece q c e j f of left (one_piece T queued p d k m.progress (omega arith) m.has line).0
+          only_done m.progress m.has (one_has m.progress.command (one_piece T queued p d k m.progress (omega arith) m.has line))
 
       by : (s : Step) → st.event.step ≡ s → IsDone (take (suc k) T) p d
       by (Piece q c e j) f = is_done q c e j f (sym (ap (is_of p d) f) ∙ st.is)
@@ -191,21 +225,7 @@ module _ (T : Trace) (queued : IsQueued T) (p d k : ℕ) (st : IsStepOf T k p d)
       by Host f = let g : false ≡ true = sym (ap (moves_line (take k T)) f) ∙ moves in absurd cc
 
   signal_done : is_delivery st.event.effect.note ≡ true → IsDone (take (suc k) T) p d
-  signal_done delivers = by st.event.step refl
-    where
-      last : (is_transfer m.progress.command ≡ true) × (m.progress.left ≡ 1)
-      last = delivers_last m.progress st.event.effect.note delivers m.delivery
-
-      fits : (s : Step) → st.event.step ≡ s → FitsProgress m.progress s st.event.effect.note
-      fits s f = subst (λ x. FitsProgress m.progress x st.event.effect.note) f m.fits
-
-      by : (s : Step) → st.event.step ≡ s → IsDone (take (suc k) T) p d
-      by (Piece q c e j) f = last_piece q c e j f (sym (ap (is_of p d) f) ∙ st.is) last.1 last.0
-      by (Elem q c) f = absurd (both_ways _ (fits (Elem q c) f).0 last.0)
-      by (Retire q c) f = let none : m.progress.left ≡ 0 = (fits (Retire q c) f).0 in let one : m.progress.left ≡ 1 = last.1 in absurd (omega arith)
-      by (Exec q) f = let g : false ≡ true = sym (ap (is_of p d) f) ∙ st.is in absurd cc
-      by (Atomic q) f = let g : false ≡ true = sym (ap (is_of p d) f) ∙ st.is in absurd cc
-      by Host f = let g : false ≡ true = sym (ap (is_of p d) f) ∙ st.is in absurd cc
+  signal_done delivers = let last : (is_transfer m.progress.command ≡ true) × (m.progress.left ≡ 1) = delivers_last m.progress st.event.effect.note delivers m.delivery in last_done last.1 last.0
 
   pub beyond_done : looks_beyond (take k T) st.event ≡ true → IsDone (take (suc k) T) p d
   beyond_done h = by (or_cases (moves_line (take k T) st.event.step) (is_delivery st.event.effect.note) h)

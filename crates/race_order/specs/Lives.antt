@@ -11,7 +11,7 @@ use Rattle.cell_machine.specs.declared.effect.Note.{Note}
 use Rattle.cell_machine.specs.declared.effect.Note.TheVariants.{Ack, Signal}
 use Rattle.race_order.specs.declared.progress.Progress.{Progress}
 use Rattle.race_order.specs.Trace.{Trace, is_of}
-use Rattle.race_order.specs.Status.{stepped, is_by, elements_done}
+use Rattle.race_order.specs.Status.{stepped, is_by, elements_done, has_one_piece}
 use Rattle.race_order.specs.Queue.{Has}
 use Rattle.race_order.specs.Lines.{is_queued_line}
 use Rattle.race_order.specs.declared.lives.Live.{Live}
@@ -53,6 +53,19 @@ moves_line_by lives (Exec p) = false
 moves_line_by lives (Elem p c) = false
 moves_line_by lives (Retire p c) = false
 moves_line_by lives Host = false
+
+-- the step is the piece of the command, which has one
+abbrev pub is_only_piece : ℕ → ℕ → Live → Bool
+is_only_piece p c l = is_by l.spe l.cmd p c && has_one_piece l.progress.command
+
+-- whether a step is the only one of its command, where these are the outstanding commands of its processor
+abbrev pub is_only_step : List Live → Step → Bool
+is_only_step lives (Piece p c e k) = list_any (is_only_piece p c) lives
+is_only_step lives (Exec p) = false
+is_only_step lives (Elem p c) = false
+is_only_step lives (Retire p c) = false
+is_only_step lives (Atomic p) = false
+is_only_step lives Host = false
 
 abbrev pub is_touched : Live → Step → Note → Bool
 is_touched l step note = is_of l.spe l.cmd step || acks l.spe l.progress step note

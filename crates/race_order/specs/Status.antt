@@ -24,6 +24,10 @@ is_transfer c = is_single c.kind && not (c.size == 0)
 abbrev pub begun : Command → Progress
 begun c = record { command = c; read = 0; left = if is_transfer c then parts_of c.ea c.size else 0; flagged = false; stalled = false; done = false }
 
+-- whether one piece completes it
+abbrev pub has_one_piece : Command → Bool
+has_one_piece c = (begun c).left == 1
+
 -- whether all elements, of eight bytes each, were read
 abbrev pub is_last : Progress → Bool
 is_last s = 8 * s.read == s.command.size

@@ -14,12 +14,12 @@ ghost use Rattle.race_order.specs.declared.roles.QueueRole.TheVariants.{Waits};
 ghost use Rattle.race_order.specs.Bringing.{has_brought, IsOfChains};
 ghost use Rattle.race_order.specs.Lines.{is_queued_line};
 ghost use Rattle.race_order.specs.Ordering.{spe_in};
-ghost use Rattle.race_order.specs.Lives.{acked_by, acks, reads_of, delivers, goes_in, moves_own_line, moves_line_by, near, is_touched, moved, own_has, HaveRoom, AreWithin, AreOutstanding, touch_brings, lives_of};
+ghost use Rattle.race_order.specs.Lives.{acked_by, acks, reads_of, delivers, goes_in, moves_own_line, moves_line_by, is_only_piece, is_only_step, near, is_touched, moved, own_has, HaveRoom, AreWithin, AreOutstanding, touch_brings, lives_of};
 ghost use Rattle.race_order.specs.Tables.{same_role, sets_have, AreOf};
 
 use crate::brought::Brought;
 use crate::error::OrderError;
-use crate::progress::{Progress, done_elements, step_on};
+use crate::progress::{Progress, done_elements, has_one_piece, step_on};
 use crate::roles::QueueRole;
 use crate::sets::Sets;
 use cell_base::Step;
@@ -147,6 +147,33 @@ pub(crate) fn moves_line(lives: &Vec<Vec<Live>>, step: Step) -> bool
     match step {
         Step::Atomic { .. } => true,
         Step::Piece { spe, cmd, .. } => has_line(lives[usize::from(spe)].as_slice(), spe, cmd),
+        _ => false,
+    }
+}
+
+/// Whether the piece is of the command, and its only one.
+fn is_only_piece(live: &Live, spe: u8, cmd: u32) -> bool
+    ensures { result ≡ is_only_piece spe cmd live.now }
+{
+    (spe == live.spe && cmd == live.cmd) && has_one_piece(live.progress.command)
+}
+
+/// Whether it is the only piece of one of the commands.
+fn has_only_piece(lives: &[Live], spe: u8, cmd: u32) -> bool
+    ensures { result ≡ list_any (is_only_piece spe cmd) lives.now }
+{
+    lives.iter().any(|l| is_only_piece(l, spe, cmd))
+}
+
+/// Whether the step is the only one of its command, where these are the outstanding commands of each processor.
+pub(crate) fn is_only_step(lives: &Vec<Vec<Live>>, step: Step) -> bool
+    requires { (p : ℕ) → spe_in step ≡ Some p → p < length lives.now.items }
+    ensures { result ≡ is_only_step (near lives.now.items (spe_in step)) step }
+{
+    match step {
+        Step::Piece { spe, cmd, .. } => {
+            has_only_piece(lives[usize::from(spe)].as_slice(), spe, cmd)
+        }
         _ => false,
     }
 }

@@ -18,7 +18,7 @@ use crate::boxes::Boxes;
 use crate::brought::Brought;
 use crate::error::OrderError;
 use crate::gathering::fill;
-use crate::lives::{Live, moves_line, no_lives};
+use crate::lives::{Live, is_only_step, moves_line, no_lives};
 use crate::sets::Sets;
 use crate::stamps::{fact, name};
 use cell_base::Step;
@@ -86,7 +86,7 @@ impl Orderer {
             effect: &effect,
             whole,
             known: &self.last,
-            fact: fact(self.spes, at, step),
+            fact: fact(self.spes, at, step, is_only_step(&self.lives, step)),
         };
         take_in(
             &mut self.sets,

@@ -2,7 +2,7 @@
 
 ghost use Rattle.std.specs.Prelude.{◌≡◌, ◌+◌, ◌*◌, ◌<◌, ◌^◌, ◌==◌, ◌&&◌};
 ghost use Rattle.mfc_command.specs.Parts.{parts_of};
-ghost use Rattle.race_order.specs.Status.{is_single, is_transfer, begun, is_last, finished, after_piece, with_element, after_element, after_ack, stepped, elements_done};
+ghost use Rattle.race_order.specs.Status.{is_single, is_transfer, begun, has_one_piece, is_last, finished, after_piece, with_element, after_element, after_ack, stepped, elements_done};
 
 use cell_base::Step;
 use cell_machine::Note;
@@ -68,6 +68,13 @@ pub fn begin(command: Command) -> Progress
         stalled: false,
         done: false,
     }
+}
+
+/// Whether one piece completes the command.
+pub(crate) fn has_one_piece(command: Command) -> bool
+    ensures { result ≡ has_one_piece command }
+{
+    begin(command).left == 1
 }
 
 fn last_read(progress: &Progress) -> bool

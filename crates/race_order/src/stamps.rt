@@ -2,7 +2,7 @@
 
 ghost use Rattle.std.specs.Prelude.{◌≡◌, ◌+◌, ◌*◌, ◌≤◌};
 ghost use Rattle.race_order.specs.Stamps.{chain_of, cmd_of, elem_noted, elem_of, stamp, event_of};
-ghost use Rattle.race_order.specs.Roles.{fact_by};
+ghost use Rattle.race_order.specs.Roles.{fact_in};
 ghost use Rattle.race_order.specs.Orderly.{IsWithin};
 
 use cell_base::Step;
@@ -68,12 +68,19 @@ pub(crate) fn name(spes: u8, place: u32, step: Step, effect: &Effect) -> At
     }
 }
 
-/// What names the step in a set.
-pub(crate) fn fact(spes: u8, at: At, step: Step) -> Fact
+/// What names the step in a set. The only step of a command is named by the command: the names of commands that follow one another take one
+/// place together, those of steps one each.
+pub(crate) fn fact(spes: u8, at: At, step: Step, only: bool) -> Fact
     requires spes { spes ≤ 16 }
     requires within { IsWithin spes step }
-    ensures { result ≡ fact_by spes at step }
+    ensures { result ≡ fact_in spes only at step }
 {
+    if only {
+        return Fact::Whole {
+            chain: at.chain,
+            cmd: at.cmd,
+        };
+    }
     match step {
         Step::Exec { spe } => Fact::Upto {
             chain: spe,

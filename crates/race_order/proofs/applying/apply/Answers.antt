@@ -1,4 +1,4 @@
-use Rattle.std.proofs.Common.{◌≡◌, ◌||◌, ◌&&◌, Some, None, false, sym, ap, subst, ◌∙◌}
+use Rattle.std.proofs.Common.{◌≡◌, ◌||◌, ◌&&◌, false, sym, ap, subst, ◌∙◌}
 use Rattle.std.specs.List.{list_any}
 use Rattle.std.proofs.lemmas.List.Folds.{list_any_none}
 use Rattle.race_order.specs.declared.lives.Live.{Live}

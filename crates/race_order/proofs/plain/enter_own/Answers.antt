@@ -1,4 +1,3 @@
-use Rattle.std.proofs.Common.{◌≡◌, ap, ◌∙◌}
 use Rattle.order_sets.specs.Stands.{has_at}
 use Rattle.order_sets.specs.Facts.{covers}
 use Rattle.race_order.specs.Tables.{sets_have}
