@@ -1,6 +1,6 @@
 -- Reservations by versions: how many stores touched each line, and which line each processor reserved, at which of its versions.
 use Rattle.std.specs.Prelude.{ℕ, ◌+◌, ◌==◌, ◌&&◌, Bool, false, if◌then◌else◌, List, Option, Some, None, replicate, slice_index_or, slice_set}
-use Rattle.std.specs.Option.{option_map_or}
+use Rattle.std.specs.Option.{option_and_then, option_map_or}
 
 -- a line, with the version that it had when it was reserved
 pub record Reserved : Type 0 where
@@ -29,6 +29,14 @@ is_current lines line r = r.line == line && r.version == version_of lines line
 -- whether processor p holds the line
 unfoldable pub is_reserved : Versions → ℕ → ℕ → Bool
 is_reserved v p line = option_map_or (is_current v.lines line) (reserved_by v p) false
+
+-- the line that it is of, where that has the same version still
+abbrev pub current_line : List ℕ → Reserved → Option ℕ
+current_line lines r = if is_current lines r.line r then Some r.line else None
+
+-- the line that processor p holds
+abbrev pub line_held : Versions → ℕ → Option ℕ
+line_held v p = option_and_then (current_line v.lines) (reserved_by v p)
 
 -- a store raises the version of its line
 abbrev pub raised : List ℕ → ℕ → List ℕ

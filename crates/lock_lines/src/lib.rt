@@ -5,7 +5,7 @@ ghost use Rattle.std.specs.Prelude.{◌≡◌, ℕ, ◌<◌, ◌≤◌, ◌==◌
 ghost use Rattle.cell_base.specs.Bits.{has_bit};
 ghost use Rattle.lock_lines.specs.Logs.{Logs, no_logs, held};
 ghost use Rattle.lock_lines.specs.Calls.{IsAbove, after_store, after_getllar, after_putllc, answer_of};
-ghost use Rattle.lock_lines.specs.Versions.{Versions, opening_versions, is_reserved, stored_to, got, put};
+ghost use Rattle.lock_lines.specs.Versions.{Versions, opening_versions, is_reserved, line_held, stored_to, got, put};
 ghost use Rattle.lock_lines.specs.Marks.{is_marked, IsLineCleared, IsSpeCleared, IsMarkedAlone};
 
 use std::alloc::{AllocError, Global};
@@ -136,6 +136,19 @@ impl LockLines {
         ensures marked { result ≡ is_marked self.now.words spe line }
     {
         (self.words[line as usize] >> spe) & 1 == 1
+    }
+
+    /// The line that the processor holds. None comes exactly where it holds none.
+    pub fn line_held(&self, spe: u8) -> Option<u32>
+        requires { spe < self.now.spes }
+        ensures { (v : Versions) → StandsForVersions self.now v → result ≡ line_held v spe }
+    {
+        let line = self.last[usize::from(spe)];
+        if self.held(spe, line) {
+            Some(line)
+        } else {
+            None
+        }
     }
 
     /// The processors that hold the line, as bits, of which that of processor p has the value 2^p.

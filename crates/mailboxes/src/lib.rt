@@ -54,6 +54,13 @@ impl<const N: usize> Mailbox<N> {
         self.values.is_empty()
     }
 
+    /// The values, the oldest first.
+    pub fn values(&self) -> &[u32]
+        ensures { result.now ≡ self.now }
+    {
+        self.values.as_slice()
+    }
+
     /// Puts a value behind the others, or hands it back exactly where `N` values are there.
     pub fn put(&mut self, value: u32) -> Result<(), Full>
         ensures variant { IsOk result ↔ (length self.old < N) }

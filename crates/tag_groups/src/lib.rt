@@ -17,8 +17,8 @@ pub struct TagStatus {
 #[derive(Clone, Copy, Debug, PartialEq, Eq)]
 pub struct Request {
     /// 0 asks at once, 1 for any group, every other number for all.
-    how: u32,
-    mask: u32,
+    pub how: u32,
+    pub mask: u32,
 }
 
 /// No status was fixed.
@@ -90,6 +90,13 @@ impl Tags {
         }
     }
 
+    /// The request that is pending, if there is one.
+    pub fn asked(&self) -> Option<Request>
+        ensures { result ≡ self.now.request }
+    {
+        self.request
+    }
+
     /// Whether a request is pending.
     pub fn pending(&self) -> bool
         ensures { result ≡ is_some self.now.request }
@@ -105,6 +112,13 @@ impl Tags {
             Some(request) => is_met(&request, busy),
             None => false,
         }
+    }
+
+    /// The status that is fixed and wasn't read yet, if there is one.
+    pub fn status(&self) -> Option<TagStatus>
+        ensures { result ≡ self.now.status }
+    {
+        self.status
     }
 
     /// Whether a status is fixed and wasn't read yet.
