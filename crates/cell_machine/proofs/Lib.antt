@@ -56,3 +56,6 @@ pub mod Fixed
 pub mod InstructionEffects
 pub mod StepEffects
 pub mod MachineEffects
+pub mod Showing
+pub mod LineHeld
+pub mod Asking

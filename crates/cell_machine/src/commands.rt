@@ -17,7 +17,9 @@ ghost use Rattle.cell_machine.specs.Channels.{with_issued, with_resumed};
 ghost use Rattle.cell_machine.specs.Transfers.{begins, has_part, has_element, is_left, with_done, with_read, with_retired};
 ghost use Rattle.cell_machine.specs.MovesShown.{parts_now, reading};
 ghost use Rattle.cell_machine.specs.Kept.{IsKept};
+ghost use Rattle.cell_machine.specs.Shown.{parts_left, shown};
 
+use crate::outstanding::Outstanding;
 use mfc_command::{Command, Kind, parts};
 use mfc_lists::{Element, ListState};
 use mfc_queue::Queue;
@@ -227,6 +229,52 @@ impl Commands {
             return false;
         }
         self.queue.may_start(cmd)
+    }
+
+    // ---- what is shown
+
+    /// How many parts of an outstanding command aren't done.
+    fn parts_left(&self, cmd: u32) -> u32
+        requires { IsOneOf self.now.queue cmd }
+        ensures { (m : Moves) (d : Command) → ShowsCommands self.now m → slice_get m.issued cmd ≡ Some d → result ≡ length (parts_left m cmd d) }
+    {
+        let parts = self.queue.parts(cmd);
+        // No part stands at the place behind all, so what is left of that place says how many there are.
+        match self.queue.left_at(cmd, u64::from(parts)) {
+            Ok(_) => unreachable!(),
+            Err(behind) => parts.saturating_sub(behind as u32),
+        }
+    }
+
+    /// An outstanding command, and how far it has come.
+    pub(crate) fn shown(&self, cmd: u32) -> Outstanding
+        requires { IsOneOf self.now.queue cmd }
+        ensures { (m : Moves) (d : Command) → ShowsCommands self.now m → slice_get m.issued cmd ≡ Some d → result ≡ shown m cmd d }
+    {
+        let number = cmd;
+        let command = self.queue.command(cmd);
+        let parts = self.queue.parts(cmd);
+        let left = self.parts_left(cmd);
+        match self.list(cmd) {
+            Some(list) => Outstanding {
+                number,
+                command,
+                read: list.read(),
+                element: list.current(),
+                parts,
+                left,
+                stalled: list.stalled(),
+            },
+            None => Outstanding {
+                number,
+                command,
+                read: 0,
+                element: None,
+                parts,
+                left,
+                stalled: false,
+            },
+        }
     }
 
     // ---- what is done

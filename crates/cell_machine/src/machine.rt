@@ -8,6 +8,8 @@ ghost use Rattle.cell_base.specs.declared.steps.Step.TheVariants.{Atomic, Piece}
 ghost use Rattle.cell_machine.specs.State.{State};
 ghost use Rattle.cell_machine.specs.Next.{act, closed_in};
 ghost use Rattle.cell_machine.specs.Moves.{outstanding};
+ghost use Rattle.cell_machine.specs.Exec.{asks};
+ghost use Rattle.cell_machine.specs.Shown.{line_held_by, shown_from};
 ghost use Rattle.cell_machine.specs.Kept.{IsKept};
 ghost use Rattle.cell_machine.specs.Choices.{all_of_spus, all_of_mfcs};
 ghost use Rattle.spu_exec.specs.Places.{IsPlace};
@@ -32,16 +34,21 @@ use crate::effects::effect_of;
 use crate::error::MachineError;
 use crate::hosts::{act_host, may_act_host};
 use crate::memory::SharedMemory;
+use crate::outstanding::Outstanding;
 use crate::processor::Processor;
 use crate::setup::{PlacedBytes, Setup};
 use crate::signals::{lose, spread};
 use crate::status::{End, Refused, Status};
-use cell_base::{Actor, Quad, Step};
+use cell_base::{Actor, ChannelOp, Quad, Step};
+use cell_channels::Channels;
 use cell_host::Host;
+use cell_signals::{Events, Signals};
 use local_store::LocalStore;
+use mailboxes::Mailbox;
 use main_memory::Memory;
 use std::alloc::Global;
 use std::marker::Model;
+use tag_groups::Tags;
 
 /// A machine, which stands for a run from its setup.
 #[derive(Drop)]
@@ -380,6 +387,93 @@ impl Machine {
     {
         let processor = &self.processors[spe as usize];
         &processor.store
+    }
+
+    /// The parameters of the next command, the atomic slot, and the unread atomic and stall statuses of a processor that is there.
+    pub fn channels(&self, spe: u8) -> &Channels
+        requires { spe < length self.now.setup.entries }
+        ensures { IsSomeAnd (spe_of self.now spe) (λ P. P.channels ≡ result.now) }
+    {
+        let processor = &self.processors[spe as usize];
+        &processor.channels
+    }
+
+    /// The mask, the pending request and the unread status of its tag groups.
+    pub fn tags(&self, spe: u8) -> &Tags
+        requires { spe < length self.now.setup.entries }
+        ensures { IsSomeAnd (spe_of self.now spe) (λ P. P.tags ≡ result.now) }
+    {
+        let processor = &self.processors[spe as usize];
+        &processor.tags
+    }
+
+    /// Its signal registers.
+    pub fn signals(&self, spe: u8) -> &Signals
+        requires { spe < length self.now.setup.entries }
+        ensures { IsSomeAnd (spe_of self.now spe) (λ P. P.signals ≡ result.now) }
+    {
+        let processor = &self.processors[spe as usize];
+        &processor.signals
+    }
+
+    /// Its pending events, and their mask.
+    pub fn events(&self, spe: u8) -> &Events
+        requires { spe < length self.now.setup.entries }
+        ensures { IsSomeAnd (spe_of self.now spe) (λ P. P.events ≡ result.now) }
+    {
+        let processor = &self.processors[spe as usize];
+        &processor.events
+    }
+
+    /// Its inbound mailbox.
+    pub fn inbound(&self, spe: u8) -> &Mailbox<4>
+        requires { spe < length self.now.setup.entries }
+        ensures { IsSomeAnd (spe_of self.now spe) (λ P. P.inbound ≡ result.now) }
+    {
+        let processor = &self.processors[spe as usize];
+        &processor.inbound
+    }
+
+    /// Its outbound mailbox.
+    pub fn outbound(&self, spe: u8) -> &Mailbox<1>
+        requires { spe < length self.now.setup.entries }
+        ensures { IsSomeAnd (spe_of self.now spe) (λ P. P.outbound ≡ result.now) }
+    {
+        let processor = &self.processors[spe as usize];
+        &processor.outbound
+    }
+
+    /// Its outbound interrupt mailbox.
+    pub fn interrupt(&self, spe: u8) -> &Mailbox<1>
+        requires { spe < length self.now.setup.entries }
+        ensures { IsSomeAnd (spe_of self.now spe) (λ P. P.interrupt ≡ result.now) }
+    {
+        let processor = &self.processors[spe as usize];
+        &processor.interrupt
+    }
+
+    /// The line of main memory that a processor that is there holds: it reserved that last, and no store has touched it since.
+    pub fn line_held(&self, spe: u8) -> Option<u32>
+        requires { spe < length self.now.setup.entries }
+        ensures { IsSomeAnd (state_of self.now) (λ M. IsSomeAnd (slice_get M.spes spe) (λ P. result ≡ line_held_by M.memory P)) }
+    {
+        self.memory.locks.line_held(spe)
+    }
+
+    /// The first outstanding command, of at least this number, of a processor that is there, and how far it has come.
+    pub fn outstanding_from(&self, spe: u8, number: u32) -> Option<Outstanding>
+        requires { spe < length self.now.setup.entries }
+        ensures { IsSomeAnd (spe_of self.now spe) (λ P. result ≡ shown_from P number) }
+    {
+        self.processors[spe as usize].outstanding_from(number)
+    }
+
+    /// What the next instruction of a processor that is there asks of a channel, whether it is allowed or not.
+    pub fn asks(&self, spe: u8) -> Option<ChannelOp>
+        requires { spe < length self.now.setup.entries }
+        ensures { IsSomeAnd (spe_of self.now spe) (λ P. result ≡ asks P) }
+    {
+        self.processors[spe as usize].asks()
     }
 
     /// The main memory.

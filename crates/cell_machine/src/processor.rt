@@ -8,7 +8,9 @@ ghost use Rattle.spu_exec.specs.Places.{IsPlace, LeadsToPlace, RegisterFits};
 ghost use Rattle.cell_base.specs.declared.steps.ChannelOp.{ChannelOp};
 ghost use Rattle.cell_machine.specs.Spe.{Spe, is_running};
 ghost use Rattle.cell_machine.specs.Moves.{outstanding};
-ghost use Rattle.cell_machine.specs.Exec.{exec, followed, op_of};
+ghost use Rattle.cell_machine.specs.Exec.{exec, followed, op_of, asks};
+ghost use Rattle.cell_machine.specs.Kept.{IsKept};
+ghost use Rattle.cell_machine.specs.Shown.{shown_from};
 ghost use Rattle.cell_machine.specs.Opening.{placed_in};
 ghost use Rattle.cell_machine.specs.Limits.{shown, IsRegister};
 ghost use Rattle.cell_machine.specs.OwnEvents.{with_freed, with_fixed};
@@ -18,8 +20,10 @@ ghost use Rattle.cell_base.specs.Bits.{has_bit};
 use crate::channels::operation;
 use crate::commands::Commands;
 use crate::error::MachineError;
+use crate::outstanding::Outstanding;
 use crate::setup::PlacedBytes;
 use crate::status::Status;
+use cell_base::ChannelOp;
 use cell_channels::Channels;
 use cell_signals::{Events, Signals};
 use local_store::LocalStore;
@@ -225,5 +229,26 @@ impl Processor {
         ensures { (P : Spe) → ShowsSpe self.now P → result ≡ length (outstanding P) }
     {
         QUEUE_PLACES.saturating_sub(self.commands.queue.free())
+    }
+
+    /// What the next instruction asks of a channel.
+    pub(crate) fn asks(&self) -> Option<ChannelOp>
+        ensures { (P : Spe) → ShowsSpe self.now P → result ≡ asks P }
+    {
+        match decode(self.store.word(self.pc)) {
+            Some(instruction) => operation(instruction, &self.registers),
+            None => None,
+        }
+    }
+
+    /// The first outstanding command of at least this number, and how far it has come.
+    pub(crate) fn outstanding_from(&self, number: u32) -> Option<Outstanding>
+        requires { IsKept self.now.commands.queue }
+        ensures { (P : Spe) → ShowsSpe self.now P → result ≡ shown_from P number }
+    {
+        match self.commands.queue.outstanding_from(number) {
+            Some(cmd) => Some(self.commands.shown(cmd)),
+            None => None,
+        }
     }
 }
