@@ -1,25 +1,10 @@
 //! `cell`: runs programs of the Cell processor's SPUs and writes the record of their steps.
 #![tactic(auto)]
 
-mod asm;
-mod causes;
-mod check;
-mod checking;
-mod debug;
-mod fault;
-mod generated;
-mod permute;
-mod program;
-mod reading;
 mod round;
-mod run;
-#[cfg(test)]
-mod tests;
-mod words;
 
+use cell_forms::{Fault, Status, cell};
 use cell_io::{DirStore, OutSink};
-use fault::{Fault, Status};
-use program::cell;
 use round::RoundGate;
 use std::process::ExitCode;
 use std::{env, io};

@@ -1,0 +1,5 @@
+use Rattle.cell_forms.proofs.Verdicts.{raced_reordering}
+use Rattle.cell_forms.proofs.permute.write_reordering.Goals as goal
+
+pub returns-in-Race-clause-ends : goal.returns-in-Race-clause-ends
+returns-in-Race-clause-ends g c = raced_reordering c.args.machine.now c.args.n c.in-Ok.verdict _ _ c.put_verdict.result (λ e. cc) c.in-Ok.ensures.verdict c.put_verdict.ensures.ends

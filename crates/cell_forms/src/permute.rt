@@ -1,0 +1,100 @@
+//! The form `permute`: the run of a record file is made again in another order, and its record and states are written.
+
+ghost use Rattle.std.specs.Prelude.{◌≡◌, ◌≢◌, ◌≤◌, IfErr, IfOk};
+ghost use Rattle.std.specs.Option.{ForSome};
+ghost use Rattle.cell_io.specs.Store.{NoneFell};
+ghost use Rattle.race_check.specs.Races.{IsVerdict};
+ghost use Rattle.reorder.specs.Nth.{EndsAlike, IsReordered};
+ghost use Rattle.run_permute.specs.Settled.{IsSettled};
+ghost use Rattle.cell_forms.specs.Task.{reordering_of};
+ghost use Rattle.cell_forms.specs.Forms.{permute_task};
+ghost use Rattle.cell_forms.specs.Reordered.{IsUnsettledOrMemory};
+ghost use Rattle.cell_forms.specs.Answer.{Answers, AtMachineOrRecord, Ends, IsQuiet, ReadFails};
+
+use crate::check::{put_verdict, read_run};
+use crate::fault::{Fault, Status};
+use crate::run::write_run;
+use cell_io::{Sink, Store};
+use cell_machine::Machine;
+use race_check::{Verdict, check_races};
+use settled::is_settled;
+use std::alloc::Global;
+
+/// The machine that makes the run in the order of the number, where the run is settled.
+fn reordered(alloc: Global, machine: &Machine, n: u32) -> Result<Machine, Fault>
+    requires accepted { IsVerdict machine.now Verdict.Accepted }
+    ensures settled { IfOk result (λ _. IsSettled machine.now) }
+    ensures reordered { IfOk result (IsReordered machine.now n) }
+    ensures ends { IfOk result (EndsAlike machine.now) }
+    ensures refused { IfErr result (IsUnsettledOrMemory machine.now) }
+{
+    match is_settled(alloc, machine) {
+        Ok(true) => {}
+        Ok(false) => return Err(Fault::NotSettled),
+        Err(_) => return Err(Fault::Memory),
+    }
+    match reorder::permute(alloc, machine, n) {
+        Ok(again) => Ok(again),
+        Err(_) => Err(Fault::Memory),
+    }
+}
+
+/// Writes the record and the states of the run, which has no race, in the order of the number.
+fn write_reordered<K: Sink>(alloc: Global, machine: &Machine, n: u32, out: &mut K) -> Status
+    requires accepted { IsVerdict machine.now Verdict.Accepted }
+    ensures sink_count { K.faults out.old ≤ K.faults out.new }
+    ensures ends { Ends (reordering_of machine.now n) (record { taken = K.taken out.old; faults = K.faults out.old }) (record { taken = K.taken out.new; faults = K.faults out.new }) result }
+{
+    let _run = machine.steps(); // which are a run, as its contract says
+    match reordered(alloc, machine, n) {
+        Ok(again) => write_run(alloc, &again, out),
+        Err(fault) => Status::Refused(fault),
+    }
+}
+
+/// Looks for races of the machine's run, and writes the verdict where there is one, or else the run in the order of the number.
+fn write_reordering<K: Sink>(alloc: Global, machine: &Machine, n: u32, out: &mut K) -> Status
+    ensures sink_count { K.faults out.old ≤ K.faults out.new }
+    ensures ends { Ends (reordering_of machine.now n) (record { taken = K.taken out.old; faults = K.faults out.old }) (record { taken = K.taken out.new; faults = K.faults out.new }) result }
+{
+    let Ok(verdict) = check_races(alloc, machine) else {
+        return Status::Refused(Fault::Memory);
+    };
+    match verdict {
+        Verdict::Accepted => write_reordered(alloc, machine, n, out),
+        Verdict::Race { .. } => put_verdict(alloc, machine, verdict, out),
+    }
+}
+
+/// Does what `permute` asks for, with this machine file, this record file and this number: goes as `check` does up to the races, and
+/// writes the record and the states of the run in the order of the number, where the run has no race and is settled.
+pub fn permute<T: Store, K: Sink>(
+    alloc: Global,
+    machine: &str,
+    record_file: &str,
+    n: u32,
+    files: &mut T,
+    out: &mut K,
+) -> Status
+    ensures same { T.files files.new ≡ T.files files.old }
+    ensures store_count { NoneFell (T.ledger files.old) (T.ledger files.new) }
+    ensures sink_count { K.faults out.old ≤ K.faults out.new }
+
+    // Where the store tells its files, each answer has its cause in them.
+    ensures answer { ForSome (T.files files.old) (λ told.
+        Answers told (permute_task machine.now record_file.now n) (T.ledger files.old) (T.ledger files.new)
+        (record { taken = K.taken out.old; faults = K.faults out.old }) (record { taken = K.taken out.new; faults = K.faults out.new }) result) }
+
+    // Whatever it tells: a reading is said to fail only where it did, under the name of that file.
+    ensures read_fault { ReadFails (AtMachineOrRecord machine.now record_file.now) (T.ledger files.old) (T.ledger files.new) result }
+
+    // A refusal leaves the sink as it was, but for WriteFault, which comes only where the sink's count rose.
+    ensures quiet { IsQuiet (record { taken = K.taken out.old; faults = K.faults out.old }) (record { taken = K.taken out.new; faults = K.faults out.new }) result }
+
+    ensures usage { result ≢ Status.Refused Fault.Usage }
+{
+    match read_run(alloc, files, machine, record_file) {
+        Ok(machine) => write_reordering(alloc, &machine, n, out),
+        Err(fault) => Status::Refused(fault),
+    }
+}
