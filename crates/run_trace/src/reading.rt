@@ -4,9 +4,9 @@ use anyhow::Result;
 use machine_files::bytes_of;
 use run_record::{Recorded, read_record};
 use std::alloc::Global;
-use std::fs;
+use std::str;
 
-/// How many bytes a record may have.
+/// How many bytes a record may have, and a choice file.
 const RECORD_LIMIT: usize = 33_554_432;
 
 /// The record in a text.
@@ -15,7 +15,7 @@ fn record_in(alloc: Global, text: &[u8]) -> Result<Recorded> {
 }
 
 pub fn record_of(rt: &HostRuntime, name: &str) -> Result<Recorded> {
-    let text = bytes_of(rt, name, RECORD_LIMIT)?;
+    let text = bytes_of(rt, "record file", name, RECORD_LIMIT)?;
     record_in(rt.alloc(), text.as_slice())
 }
 
@@ -29,8 +29,8 @@ fn read_numbers(numbers: &mut Vec<u64>, text: &str) -> Result<()> {
 
 /// The numbers of a file.
 pub fn numbers_of(rt: &HostRuntime, name: &str) -> Result<Vec<u64>> {
-    let text = fs::read_to_string(rt, name)?;
+    let bytes = bytes_of(rt, "choice file", name, RECORD_LIMIT)?;
     let mut numbers = Vec::new(rt.alloc());
-    read_numbers(&mut numbers, text.as_str())?;
+    read_numbers(&mut numbers, str::from_utf8(bytes.as_slice())?)?;
     Ok(numbers)
 }
