@@ -3,6 +3,8 @@
 ghost use Rattle.std.specs.Prelude.{◌≤◌, IfSome};
 ghost use Rattle.hunt.specs.Tasks.{IsWithin};
 
+use machine_files::number_of;
+
 /// How many runs a hunt may make.
 const MOST_RUNS: u32 = 1_000_000;
 
@@ -21,7 +23,7 @@ pub enum Task {
 fn runs_of(word: &str) -> Option<u32>
     ensures { IfSome result (λ runs. runs ≤ 1000000) }
 {
-    let runs = word.parse::<u32>().ok()?;
+    let runs = u32::try_from(number_of(word)?).ok()?;
     if runs == 0 || runs > MOST_RUNS {
         return None;
     }
@@ -32,7 +34,7 @@ fn runs_of(word: &str) -> Option<u32>
 fn seed_of(words: &[String]) -> Option<u64> {
     match words.len() {
         0 => Some(1),
-        1 => words[0].as_str().parse::<u64>().ok(),
+        1 => number_of(words[0].as_str()),
         _ => None,
     }
 }
@@ -56,7 +58,7 @@ pub fn task_of(words: &[String]) -> Option<(Task, u64)>
     let number = words[1].as_str();
     let seed = seed_of(&words[2..])?;
     if form == "record" {
-        let run = number.parse::<u32>().ok()?;
+        let run = u32::try_from(number_of(number)?).ok()?;
         return Some((Task::Record { run }, seed));
     }
     let runs = runs_of(number)?;

@@ -1,4 +1,4 @@
-//! Machine files and their sources, read from the files that words name.
+//! What words name and say, for programs that promise nothing of it: machine files with their sources, and numbers.
 #![tactic(auto)]
 
 ghost use Rattle.std.specs.Prelude.{◌≡◌, ◌<◌, ◌≤◌, IfOk, length};
@@ -57,4 +57,12 @@ pub fn setup_of<R: Files + AllocGlobal>(rt: &R, name: &str) -> Result<Setup>
     let plan = read_machine(rt.alloc(), text.as_slice())?;
     let images = images_of(rt, plan.sources())?;
     Ok(load(rt.alloc(), plan, images.as_slice())?)
+}
+
+/// The number that a word is in decimal, without a sign or a leading zero.
+pub fn number_of(word: &str) -> Option<u64> {
+    match word.as_bytes() {
+        [b'0'] | [b'1'..=b'9', ..] => word.parse::<u64>().ok(),
+        _ => None,
+    }
 }

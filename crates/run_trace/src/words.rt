@@ -3,6 +3,7 @@
 use crate::going::Watch;
 use crate::ordering::Order;
 use crate::performing::Task;
+use machine_files::number_of;
 
 /// What is said where the words have no form.
 pub const USAGE: &str =
@@ -35,6 +36,11 @@ pub enum Form<'a> {
         steps: u32,
         choices: &'a str,
     },
+}
+
+/// A number of steps, or a place.
+fn count_of(word: &str) -> Option<u32> {
+    u32::try_from(number_of(word)?).ok()
 }
 
 /// The form of three words, of which the last names a file.
@@ -72,7 +78,7 @@ fn form_of_four<'a>(
     record: &'a str,
     number: &str,
 ) -> Option<Form<'a>> {
-    let number = number.parse::<u32>().ok()?;
+    let number = count_of(number)?;
     let (task, count) = match form {
         "before" => (Task::Order(Order::Before), number.saturating_add(1)),
         "states" => (Task::Watch(Watch::Flows), number),
@@ -100,7 +106,7 @@ fn form_of_five<'a>(
     Some(Form::Go {
         machine,
         record,
-        steps: steps.parse::<u32>().ok()?,
+        steps: count_of(steps)?,
         choices,
     })
 }
