@@ -17,6 +17,7 @@ PROGRAM = CRATE / "out" / "run_trace"
 
 # What to do next, by what `cell` says of a run.
 ADVICE = [
+    (r"its name is not UTF-8", "give it another name, or a link: ln -s FILE NAME"),
     (r"cannot read machine file", "names are taken from the folder in which the tool is called"),
     (r"machine file|source|is not in the table", "tools/explain {machine} says it in words"),
     (r"cannot read record file", "keep what a run prints in a file: ./cell run {machine} > FILE"),

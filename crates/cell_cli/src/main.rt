@@ -2,38 +2,29 @@
 #![tactic(auto)]
 
 mod round;
+mod words;
 
-use cell_forms::{Fault, Status, cell};
+use cell_forms::{Status, cell};
 use cell_io::{DirStore, OutSink};
 use round::RoundGate;
+use std::io;
 use std::process::ExitCode;
-use std::{env, io};
-
-/// The words of the command line.
-fn read_words(rt: &HostRuntime) -> io::Result<Vec<String>> {
-    let mut words = Vec::new(rt.alloc());
-    for word in env::args(rt)?.skip(1) {
-        words.push(word)?;
-    }
-    Ok(words)
-}
+use words::words_of;
 
 fn main(rt: HostRuntime) -> ExitCode {
     let mut files = DirStore::new(&rt);
     let mut out = OutSink::new(io::writer(&rt));
-    let status = match read_words(&rt) {
-        Ok(words) => cell(
-            &rt,
-            rt.alloc(),
-            words.as_slice(),
-            &mut files,
-            &mut out,
-            &RoundGate::new(&rt),
-        ),
-        Err(_) => Status::Refused(Fault::Memory),
+    let gate = RoundGate::new(&rt);
+    let (status, reason) = match words_of(&rt) {
+        Ok(words) => {
+            let words = words.as_slice();
+            let status = cell(&rt, rt.alloc(), words, &mut files, &mut out, &gate);
+            (status, "")
+        }
+        Err(refusal) => (Status::Refused(refusal.fault), refusal.reason),
     };
     if let Status::Refused(fault) = status {
-        let _ = eprintln!(rt; "cell: {fault}");
+        let _ = eprintln!(rt; "cell: {fault}{reason}");
     }
     ExitCode::from(status.code())
 }

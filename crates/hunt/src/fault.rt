@@ -10,6 +10,9 @@ use thiserror::Error;
 pub enum Fault {
     #[error("usage: hunt MACHINE RUNS [SEED], hunt MACHINE record K [SEED] or hunt MACHINE each RUNS [SEED]")]
     Usage,
+    /// The name of the machine file isn't UTF-8.
+    #[error("cannot read machine file: its name is not UTF-8")]
+    Name,
     #[error("the machine file or a source is refused: `cell check` says why")]
     File,
     #[error("cannot write")]
@@ -23,6 +26,7 @@ impl Fault {
     pub fn code(&self) -> u8 {
         match self {
             Fault::Usage => 2,
+            Fault::Name => 3,
             Fault::File => 5,
             Fault::Write => 4,
             Fault::Memory => 7,

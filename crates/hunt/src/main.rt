@@ -14,22 +14,13 @@ mod words;
 ghost use Rattle.std.specs.Prelude.{◌<◌, length};
 ghost use Rattle.hunt.specs.Tasks.{IsWithin};
 
+use cell_io::{Words, read_words};
 use cell_machine::Setup;
 use fault::Fault;
 use hunting::{hunt, print_record, tell_each};
 use machine_files::setup_of;
 use std::process::ExitCode;
-use std::{env, io};
 use words::{Task, task_of};
-
-/// The words of the command line.
-fn read_words(rt: &HostRuntime) -> io::Result<Vec<String>> {
-    let mut words = Vec::new(rt.alloc());
-    for word in env::args(rt)?.skip(1) {
-        words.push(word)?;
-    }
-    Ok(words)
-}
 
 /// Does what is asked of a machine. Whether a run has a race.
 fn run_task(rt: &HostRuntime, setup: &Setup, task: Task, seed: u64) -> Result<bool, Fault>
@@ -47,22 +38,25 @@ fn run_task(rt: &HostRuntime, setup: &Setup, task: Task, seed: u64) -> Result<bo
 }
 
 /// Does what the words ask for. Whether a run has a race.
-fn answer(rt: &HostRuntime, words: &[String]) -> Result<bool, Fault> {
-    if words.is_empty() {
-        return Err(Fault::Usage);
-    }
-    let Some((task, seed)) = task_of(&words[1..]) else {
+fn answer(rt: &HostRuntime, words: &Words) -> Result<bool, Fault> {
+    let Some((machine, rest)) = words.texts.as_slice().split_first() else {
         return Err(Fault::Usage);
     };
-    let Ok(setup) = setup_of(rt, words[0].as_str()) else {
+    let Some((task, seed)) = task_of(rest) else {
+        return Err(Fault::Usage);
+    };
+    if words.not_utf8.is_some() {
+        return Err(Fault::Name);
+    }
+    let Ok(setup) = setup_of(rt, machine.as_str()) else {
         return Err(Fault::File);
     };
     run_task(rt, &setup, task, seed)
 }
 
 fn main(rt: HostRuntime) -> ExitCode {
-    let answer = match read_words(&rt) {
-        Ok(words) => answer(&rt, words.as_slice()),
+    let answer = match read_words(&rt, rt.alloc()) {
+        Ok(words) => answer(&rt, &words),
         Err(_) => Err(Fault::Memory),
     };
     match answer {

@@ -11,6 +11,8 @@ use std::io;
 pub enum Failed {
     /// The words have no form.
     Misused,
+    /// A word that names a file isn't UTF-8.
+    NotUtf8,
     /// There is no room for a text or a machine.
     Memory,
     /// A step isn't allowed.
@@ -36,6 +38,7 @@ impl From<io::Error> for Failed {
 pub fn told(failed: Failed) -> Error {
     match failed {
         Failed::Misused => anyhow!("{USAGE}"),
+        Failed::NotUtf8 => anyhow!("cannot read a file: its name is not UTF-8"),
         Failed::Memory => anyhow!("out of memory"),
         Failed::Refused(step) => anyhow!("step {step:?} isn't allowed"),
         Failed::TooShort(count) => anyhow!("the record has fewer than {count} steps"),

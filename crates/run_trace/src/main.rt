@@ -38,9 +38,9 @@ mod words;
 
 use answering::{print_answer, print_chosen, print_going, print_times};
 use anyhow::Result;
+use cell_io::read_words;
 use failing::{Failed, told};
 use performing::{Task, perform};
-use std::env;
 use words::{Form, form_of};
 
 /// Prints what the words ask for.
@@ -65,8 +65,9 @@ fn obey(rt: &HostRuntime, form: Form<'_>) -> Result<()> {
 }
 
 fn main(rt: HostRuntime) -> Result<()> {
-    let words: Vec<String> = env::args(&rt)?.skip(1).collect(rt.alloc())?;
-    match form_of(words.as_slice()) {
+    let words = read_words(&rt, rt.alloc())?;
+    match form_of(words.texts.as_slice()) {
+        Some(_) if words.not_utf8.is_some() => Err(told(Failed::NotUtf8)),
         Some(form) => obey(&rt, form),
         None => Err(told(Failed::Misused)),
     }
