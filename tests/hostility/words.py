@@ -1,0 +1,83 @@
+"""The words of the programs' command lines: bytes that aren't UTF-8, numbers in other spellings, and files without an end."""
+import pathlib
+import subprocess
+from typing import Dict, Iterator, Sequence, Tuple, Union
+
+from hostility.rows import ROOT, Row
+
+CELL, TRACER, HUNT = "crates/cell_cli/out/cell_cli", "crates/run_trace/out/run_trace", "crates/hunt/out/hunt"
+ODD = "\udcff"  # stands for the byte FF, which is nowhere in UTF-8
+MACHINE, RECORD = "first.cell", "first.out"
+BOTH = (MACHINE, RECORD)
+NOT_UTF8 = "its name is not UTF-8$"
+FORMS, HUNT_FORMS, TRACER_FORMS = "^cell: usage: cell run", "^hunt: usage: hunt MACHINE", "words: alone M"
+Status = Union[int, Tuple[int, ...]]
+
+
+def refused(name: str, words: Sequence[str], status: Status, said: str, files: Dict[str, bytes] = {}) -> Row:
+    """A call that is refused at once, with an example's machine file and record, and prints nothing."""
+    return Row(name, words, status, said, printed="", files=files, examples=BOTH, seconds=5, megabytes=512)
+
+
+NAMES = [
+    refused("a machine file", ["cell", "run", f"{ODD}.cell"], 3, f"^cell: cannot read machine file: {NOT_UTF8}", {f"{ODD}.cell": b""}),
+    refused("a record file", ["cell", "check", MACHINE, f"r{ODD}"], 3, f"^cell: cannot read record file: {NOT_UTF8}"),
+    refused("a name before a missing file", ["cell", "check", "missing.cell", ODD], 3, f"^cell: cannot read record file: {NOT_UTF8}"),
+    refused("two names", ["cell", "permute", ODD, ODD, "1"], 3, f"^cell: cannot read machine file: {NOT_UTF8}"),
+    refused("a script", ["cell", "debug", MACHINE, ODD], 3, f"^cell: cannot read script file: {NOT_UTF8}"),
+    refused("a source", ["cell", "asm", f"a{ODD}"], 3, f"^cell: cannot read source 0: {NOT_UTF8}"),
+    refused("a hunt's machine file", ["hunt", ODD, "3"], 3, f"cannot read machine file: {NOT_UTF8}"),
+    refused("a machine file of hunt itself", [HUNT, ODD, "3"], 3, f"^hunt: cannot read machine file: {NOT_UTF8}"),
+    refused("a record of run_trace", [TRACER, "effects", MACHINE, ODD], 1, f"cannot read a file: {NOT_UTF8}"),
+]
+
+NO_FORMS = [
+    refused("a form's name", ["cell", f"{ODD}run", MACHINE], 2, FORMS),
+    refused("a word too many", ["cell", "run", MACHINE, ODD], 2, FORMS),
+    refused("the number of gen", ["cell", "gen", f"1{ODD}"], 2, FORMS),
+    refused("the number of permute", ["cell", "permute", *BOTH, ODD], 2, FORMS),
+    refused("a number of runs that isn't UTF-8", [HUNT, MACHINE, ODD], 2, HUNT_FORMS),
+    refused("a form of run_trace", [TRACER, ODD, *BOTH], 1, TRACER_FORMS),
+]
+
+NUMBERS = [
+    *(refused("a spelling of runs", ["hunt", MACHINE, word], 2, HUNT_FORMS) for word in ("01", "+1", "", " 1", "1 ", "0x1", "00", "9" * 5000)),
+    *(refused("a spelling of a seed", ["hunt", MACHINE, "1", word], 2, HUNT_FORMS) for word in ("01", "+1", "", "18446744073709551616")),
+    *(refused("a spelling of each", ["hunt", MACHINE, "each", word], 2, HUNT_FORMS) for word in ("01", "+1")),
+    *(refused("a spelling of a run", ["hunt", MACHINE, "record", word], 2, HUNT_FORMS) for word in ("00", "+0")),
+    *(refused("a spelling of a place", [TRACER, "before", *BOTH, word], 1, TRACER_FORMS) for word in ("00", "+0", "")),
+    *(refused("a spelling of steps", [TRACER, "states", *BOTH, word], 1, TRACER_FORMS) for word in ("03", "+3")),
+    *(refused("steps to go on from", [TRACER, "go", *BOTH, word, "c"], 1, TRACER_FORMS, {"c": b""}) for word in ("03", "+3")),
+    Row("the greatest seed", ["hunt", MACHINE, "1", "18446744073709551615"], 0, printed="^1 runs of seed 18446744073709551615:", examples=BOTH),
+    Row("run 0", ["hunt", MACHINE, "record", "0"], 0, printed="^cell-record 2$", examples=BOTH),
+    Row("place 0", [TRACER, "before", *BOTH, "0"], 0, examples=BOTH),
+]
+
+ENDLESS = [
+    refused("a machine file without an end", [TRACER, "alone", "/dev/zero"], 1, "machine file is too long"),
+    refused("a record without an end", [TRACER, "effects", MACHINE, "/dev/zero"], 1, "record file is too long"),
+    refused("choices without an end", [TRACER, "choose", MACHINE, "/dev/zero"], 1, "choice file is too long"),
+    refused("a source without an end", [TRACER, "alone", "zero.cell"], 1, "source 0 is too long",
+            {"zero.cell": b"cell-machine 1\nlines 1\nbudget 1\nspe\nsource /dev/zero\n"}),
+    refused("a machine file of hunt without an end", [HUNT, "/dev/zero", "1"], 5, "the machine file or a source is refused"),
+    refused("a missing machine file of run_trace", [TRACER, "alone", "missing.cell"], 1, "cannot read machine file"),
+]
+
+ROWS = [*NAMES, *NO_FORMS, *NUMBERS, *ENDLESS]
+
+
+def status_of(program: str, words: Sequence[str]) -> int:
+    """The status of a program whose own name isn't UTF-8."""
+    command = [b"\xff", *words]
+    return subprocess.run(command, executable=pathlib.Path(ROOT, program), stdin=subprocess.DEVNULL, capture_output=True, timeout=10).returncode
+
+
+def a_program_of_any_name() -> Iterator[str]:
+    """The name of the program is no word of its."""
+    for program, words, wanted in ((CELL, ["asm", "/dev/null"], 0), (HUNT, [], 2), (TRACER, ["alone", "missing.cell"], 1)):
+        found = status_of(program, words)
+        if found != wanted:
+            yield f"{program} {' '.join(words)}: the status is {found}, not {wanted}"
+
+
+CHECKS = [a_program_of_any_name]
