@@ -50,15 +50,15 @@ def event_lines(told):
     return [f"event mask: {events_in(mask)}", f"pending events: {events_in(pending)}"]
 
 
-def signal_of(told, register, is_or):
+def signal_of(told, register):
     """What a signal register holds; None where it isn't ready."""
-    last, bits = told.get(f"sig{register}", (None, None))
-    return last and int(bits if is_or else last)
+    value = told.get(f"sig{register}")
+    return value and int(value[0])
 
 
 def signal_line(told, register, is_or):
     """The same in words."""
-    value = signal_of(told, register, is_or)
+    value = signal_of(told, register)
     return f"signal register {register}: {'nothing' if value is None else f'0x{value:x}'}{', in OR mode' if is_or else ''}"
 
 

@@ -5,7 +5,7 @@
 
 use crate::choosing::actor;
 use crate::lines::Text;
-use crate::watching::next_word;
+use crate::passing::word_at;
 use cell_base::{Actor, Step};
 use cell_machine::Machine;
 
@@ -15,7 +15,7 @@ const MOST_STEPS: u64 = 65_536;
 /// The lines of the instructions at which processors are.
 fn put_words(out: &mut Text, machine: &Machine) {
     for spe in 0..machine.setup().spes() {
-        if let Some(word) = next_word(machine, spe) {
+        if let Some(word) = word_at(machine, spe, machine.pc(spe)) {
             out.put("at");
             out.numbers(&[u32::from(spe), word]);
             out.end_line();

@@ -13,13 +13,23 @@
 //!
 //! Of an instruction that ends its processor the value of a channel says nothing.
 
-use crate::controller::{Controller, INBOUND, OUTBOUND, status_of};
+ghost use Rattle.std.specs.Prelude.{◌<◌, length};
+
 use crate::lines::Text;
-use crate::telling::{put_atomic, put_command, put_element};
-use crate::watching::Made;
-use cell_base::{ChannelOp, Step};
+use crate::making::{Made, spe_of};
+use crate::passing::{value_of, word_at};
+use crate::telling::{put_atomic, put_command, put_status};
+use cell_base::ChannelOp;
 use cell_channels::{MFC_WR_TAG_MASK, MFC_WR_TAG_UPDATE};
-use cell_machine::{Note, Place, Span};
+use cell_machine::{Machine, Note, Place, Span};
+
+/// The numbers of the mailboxes in a note; the third is the outbound interrupt mailbox.
+const INBOUND: u8 = 0;
+
+const OUTBOUND: u8 = 1;
+
+/// The first word of an element has its size in the low 15 bits.
+const ELEMENT_SIZES: u32 = 32_768;
 
 /// The bytes of a span, where it has some, by their place.
 fn put_span(out: &mut Text, name: &str, span: Span) {
@@ -42,28 +52,31 @@ fn put_channel(out: &mut Text, asked: ChannelOp, value: u32, mask: u32) {
         ChannelOp::Write { ch, .. } => ("wrch", ch),
     };
     out.field(name, &[u32::from(ch), value]);
-    match ch {
-        MFC_WR_TAG_MASK => out.field("mask", &[value]),
-        MFC_WR_TAG_UPDATE => out.field("request", &[value, mask]),
+    match asked {
+        ChannelOp::Write { ch: MFC_WR_TAG_MASK, .. } => out.field("mask", &[value]),
+        ChannelOp::Write { ch: MFC_WR_TAG_UPDATE, .. } => out.field("request", &[value, mask]),
         _ => {}
     }
 }
 
 /// What a processor or its flow controller did, which stands so after it, but for what its note tells.
-fn put_own(out: &mut Text, made: &Made, own: &Controller) {
+fn put_own(out: &mut Text, machine: &Machine, spe: u8, made: &Made, value: u32)
+    requires { spe < length machine.now.setup.entries }
+{
+    let channels = machine.channels(spe);
     if let Some(asked) = made.channel {
-        put_channel(out, asked, made.value, own.mask);
+        put_channel(out, asked, value, machine.tags(spe).mask());
     }
-    if let Some(atomic) = own.done {
-        put_atomic(out, Some(atomic));
-        out.field("status", &[status_of(atomic, made)]);
+    if made.atomic.is_some() {
+        put_atomic(out, made.atomic);
+        put_status(out, channels);
     }
     match made.effect.note {
         Note::Issue { cmd, command } => {
             out.field("issue", &[]);
-            put_command(out, cmd, command, own.channels.params().eah);
+            put_command(out, cmd, command);
         }
-        Note::AtomicIssue => put_atomic(out, own.channels.slot()),
+        Note::AtomicIssue => put_atomic(out, channels.slot()),
         _ => {}
     }
 }
@@ -96,28 +109,42 @@ fn put_note(out: &mut Text, note: Note, value: u32) {
 }
 
 /// A field of the signal register that is read, or to which a value comes, and then of that value.
-fn put_signal(out: &mut Text, made: &Made) {
+fn put_signal(out: &mut Text, made: &Made, value: u32) {
     let Note::Signal { spe, register } = made.effect.note else {
         return;
     };
     out.field("signal", &[u32::from(spe), u32::from(register)]);
     if made.channel.is_none() {
-        out.field("deliver", &[made.value]);
+        out.field("deliver", &[value]);
     }
 }
 
-/// The line of a step, of a processor or a flow controller that stands so after it, or of the host.
-pub fn put_line(out: &mut Text, made: &Made, own: Option<&Controller>) {
+/// A field of the element that is read: its number, in how many parts it is copied, whether the list stalls behind it, and its effective address and size.
+fn put_element(out: &mut Text, machine: &Machine, made: &Made) {
+    let (Note::Element { number, parts, flagged }, Some(spe)) = (made.effect.note, spe_of(made.step)) else {
+        return;
+    };
+    let at = made.effect.reads.at;
+    let size = word_at(machine, spe, at).unwrap_or(0) % ELEMENT_SIZES;
+    let ea = word_at(machine, spe, at.saturating_add(4)).unwrap_or(0);
+    let (number, parts) = (u32::from(number), u32::from(parts));
+    out.field("element", &[number, parts, u32::from(flagged), ea, size]);
+}
+
+/// The line of a step that a machine made last.
+pub fn put_line(out: &mut Text, machine: &Machine, made: &Made) {
+    let value = value_of(machine, made);
     out.step(made.step);
     put_span(out, "fetch", made.effect.fetch);
     put_span(out, "read", made.effect.reads);
     put_span(out, "write", made.effect.writes);
-    if let Some(own) = own {
-        put_own(out, made, own);
+    match spe_of(made.step) {
+        Some(spe) if spe < machine.setup().spes() => put_own(out, machine, spe, made, value),
+        _ => {}
     }
-    put_note(out, made.effect.note, made.value);
-    put_signal(out, made);
-    put_element(out, made.element);
+    put_note(out, made.effect.note, value);
+    put_signal(out, made, value);
+    put_element(out, machine, made);
     if made.effect.fixed {
         out.field("fixed", &[]);
     }

@@ -1,17 +1,17 @@
-//! Runs that the flow controllers follow, and runs that go on behind the first steps of a record, by choices.
+//! Runs of which the flow controllers are told, and runs that go on behind the first steps of a record, by choices.
 
 use crate::allowed::put_allowed;
 use crate::choosing::chosen;
-use crate::controllers::Controllers;
 use crate::effects::put_line;
 use crate::failing::Failed;
 use crate::flows::put_flows;
 use crate::lines::Text;
+use crate::reserving::Reserved;
 use crate::showing::put_states;
 use cell_base::Step;
 use cell_machine::Machine;
 
-/// What is told of a run that the flow controllers follow.
+/// What is told of such a run.
 #[derive(Clone, Copy)]
 pub enum Watch<'a> {
     /// What each step does.
@@ -26,12 +26,12 @@ pub enum Watch<'a> {
 fn show_step(
     rt: &HostRuntime,
     out: &mut Text,
-    controllers: &mut Controllers,
+    reserved: &mut Reserved,
     machine: &mut Machine,
     step: Step,
 ) -> Result<(), Failed> {
-    let made = controllers.step(machine, step)?;
-    put_line(out, &made, controllers.maker(step));
+    let made = reserved.step(machine, step)?;
+    put_line(out, machine, &made);
     out.print_pages(rt)
 }
 
@@ -39,60 +39,60 @@ fn show_step(
 fn show_effects(
     rt: &HostRuntime,
     out: &mut Text,
-    controllers: &mut Controllers,
+    reserved: &mut Reserved,
     machine: &mut Machine,
     steps: &[Step],
 ) -> Result<(), Failed> {
     for step in steps {
-        show_step(rt, out, controllers, machine, *step)?;
+        show_step(rt, out, reserved, machine, *step)?;
     }
-    controllers.told()
+    Ok(())
 }
 
 /// Makes the steps that the numbers choose, where one is allowed, and prints their effects.
 fn show_chosen(
     rt: &HostRuntime,
     out: &mut Text,
-    controllers: &mut Controllers,
+    reserved: &mut Reserved,
     machine: &mut Machine,
     numbers: &[u64],
 ) -> Result<(), Failed> {
     for number in numbers {
         if let Some(step) = chosen(machine, *number) {
-            show_step(rt, out, controllers, machine, step)?;
+            show_step(rt, out, reserved, machine, step)?;
         }
     }
-    controllers.told()
+    Ok(())
 }
 
-/// Makes the steps, and takes them in.
+/// Makes the steps.
 fn follow(
-    controllers: &mut Controllers,
+    reserved: &mut Reserved,
     machine: &mut Machine,
     steps: &[Step],
 ) -> Result<(), Failed> {
     for step in steps {
-        controllers.step(machine, *step)?;
+        reserved.step(machine, *step)?;
     }
-    controllers.told()
+    Ok(())
 }
 
 /// Writes the states of a machine, and its flow controllers.
-fn put_all(rt: &HostRuntime, out: &mut Text, controllers: &Controllers, machine: &Machine) {
+fn put_all(rt: &HostRuntime, out: &mut Text, reserved: &Reserved, machine: &Machine) {
     put_states(rt, out, machine);
-    put_flows(out, controllers.each(), machine);
+    put_flows(out, reserved, machine);
 }
 
 /// Makes steps, and writes the states and the flow controllers behind them.
 fn show_flows(
     rt: &HostRuntime,
     out: &mut Text,
-    controllers: &mut Controllers,
+    reserved: &mut Reserved,
     machine: &mut Machine,
     steps: &[Step],
 ) -> Result<(), Failed> {
-    follow(controllers, machine, steps)?;
-    put_all(rt, out, controllers, machine);
+    follow(reserved, machine, steps)?;
+    put_all(rt, out, reserved, machine);
     Ok(())
 }
 
@@ -100,14 +100,14 @@ fn show_flows(
 fn go_on(
     rt: &HostRuntime,
     out: &mut Text,
-    controllers: &mut Controllers,
+    reserved: &mut Reserved,
     machine: &mut Machine,
     steps: &[Step],
     numbers: &[u64],
 ) -> Result<(), Failed> {
-    follow(controllers, machine, steps)?;
-    show_chosen(rt, out, controllers, machine, numbers)?;
-    put_all(rt, out, controllers, machine);
+    follow(reserved, machine, steps)?;
+    show_chosen(rt, out, reserved, machine, numbers)?;
+    put_all(rt, out, reserved, machine);
     put_allowed(out, machine);
     Ok(())
 }
@@ -116,15 +116,15 @@ fn go_on(
 fn watch_steps(
     rt: &HostRuntime,
     out: &mut Text,
-    controllers: &mut Controllers,
+    reserved: &mut Reserved,
     machine: &mut Machine,
     steps: &[Step],
     watch: Watch<'_>,
 ) -> Result<(), Failed> {
     match watch {
-        Watch::Effects => show_effects(rt, out, controllers, machine, steps),
-        Watch::Flows => show_flows(rt, out, controllers, machine, steps),
-        Watch::Go { numbers } => go_on(rt, out, controllers, machine, steps, numbers),
+        Watch::Effects => show_effects(rt, out, reserved, machine, steps),
+        Watch::Flows => show_flows(rt, out, reserved, machine, steps),
+        Watch::Go { numbers } => go_on(rt, out, reserved, machine, steps, numbers),
     }
 }
 
@@ -136,6 +136,6 @@ pub fn watch_run(
     steps: &[Step],
     watch: Watch<'_>,
 ) -> Result<(), Failed> {
-    let mut controllers = Controllers::new(rt.alloc(), machine.setup().spes());
-    watch_steps(rt, out, &mut controllers, machine, steps, watch)
+    let mut reserved = Reserved::new();
+    watch_steps(rt, out, &mut reserved, machine, steps, watch)
 }

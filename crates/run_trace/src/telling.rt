@@ -1,11 +1,11 @@
-//! The fields by which tools know commands and elements.
+//! The fields by which tools know commands.
 
 use crate::lines::Text;
-use crate::outstanding::Element;
+use cell_channels::Channels;
 use mfc_command::{AtomicKind, AtomicOp, Command, Kind, Mark};
 
-/// Its number, kind, mark and tag, its addresses, of which the effective one in two halves, and its size.
-pub fn put_command(out: &mut Text, number: u32, command: Command, high: u32) {
+/// Its number, kind, mark and tag, its addresses, of which the effective one in two halves, the high one 0, and its size.
+pub fn put_command(out: &mut Text, number: u32, command: Command) {
     let kind = match command.kind {
         Kind::Put => "put",
         Kind::Get => "get",
@@ -26,7 +26,7 @@ pub fn put_command(out: &mut Text, number: u32, command: Command, high: u32) {
     out.numbers(&[
         u32::from(command.tag),
         command.ls,
-        high,
+        0,
         command.ea,
         command.size,
     ]);
@@ -47,18 +47,10 @@ pub fn put_atomic(out: &mut Text, atomic: Option<AtomicOp>) {
     out.numbers(&[atomic.ls, atomic.line]);
 }
 
-/// A field of an element: its number, in how many parts it is copied, whether the list stalls behind it, and its effective address and size.
-pub fn put_element(out: &mut Text, element: Option<Element>) {
-    if let Some(
-        Element {
-            number,
-            parts,
-            flagged,
-            ea,
-            size,
-        },
-    ) = element
-    {
-        out.field("element", &[number, parts, u32::from(flagged), ea, size]);
+/// A field of the unread status of an atomic command.
+pub fn put_status(out: &mut Text, channels: &Channels) {
+    let mut channels = *channels;
+    if let Ok(status) = channels.read_atomic() {
+        out.field("status", &[status]);
     }
 }
