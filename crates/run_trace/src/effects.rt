@@ -19,7 +19,7 @@ use crate::lines::Text;
 use crate::making::{Made, spe_of};
 use crate::passing::{value_of, word_at};
 use crate::telling::{put_atomic, put_command, put_status};
-use cell_base::ChannelOp;
+use cell_base::{ChannelOp, Step};
 use cell_channels::{MFC_WR_TAG_MASK, MFC_WR_TAG_UPDATE};
 use cell_machine::{Machine, Note, Place, Span};
 
@@ -53,8 +53,14 @@ fn put_channel(out: &mut Text, asked: ChannelOp, value: u32, mask: u32) {
     };
     out.field(name, &[u32::from(ch), value]);
     match asked {
-        ChannelOp::Write { ch: MFC_WR_TAG_MASK, .. } => out.field("mask", &[value]),
-        ChannelOp::Write { ch: MFC_WR_TAG_UPDATE, .. } => out.field("request", &[value, mask]),
+        ChannelOp::Write {
+            ch: MFC_WR_TAG_MASK,
+            ..
+        } => out.field("mask", &[value]),
+        ChannelOp::Write {
+            ch: MFC_WR_TAG_UPDATE,
+            ..
+        } => out.field("request", &[value, mask]),
         _ => {}
     }
 }
@@ -121,7 +127,15 @@ fn put_signal(out: &mut Text, made: &Made, value: u32) {
 
 /// A field of the element that is read: its number, in how many parts it is copied, whether the list stalls behind it, and its effective address and size.
 fn put_element(out: &mut Text, machine: &Machine, made: &Made) {
-    let (Note::Element { number, parts, flagged }, Some(spe)) = (made.effect.note, spe_of(made.step)) else {
+    let Note::Element {
+        number,
+        parts,
+        flagged,
+    } = made.effect.note
+    else {
+        return;
+    };
+    let Step::Elem { spe, .. } = made.step else {
         return;
     };
     let at = made.effect.reads.at;
@@ -138,9 +152,10 @@ pub fn put_line(out: &mut Text, machine: &Machine, made: &Made) {
     put_span(out, "fetch", made.effect.fetch);
     put_span(out, "read", made.effect.reads);
     put_span(out, "write", made.effect.writes);
-    match spe_of(made.step) {
-        Some(spe) if spe < machine.setup().spes() => put_own(out, machine, spe, made, value),
-        _ => {}
+    if let Some(spe) = spe_of(made.step)
+        && spe < machine.setup().spes()
+    {
+        put_own(out, machine, spe, made, value);
     }
     put_note(out, made.effect.note, value);
     put_signal(out, made, value);

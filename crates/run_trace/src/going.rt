@@ -66,11 +66,7 @@ fn show_chosen(
 }
 
 /// Makes the steps.
-fn follow(
-    reserved: &mut Reserved,
-    machine: &mut Machine,
-    steps: &[Step],
-) -> Result<(), Failed> {
+fn follow(reserved: &mut Reserved, machine: &mut Machine, steps: &[Step]) -> Result<(), Failed> {
     for step in steps {
         reserved.step(machine, *step)?;
     }
