@@ -88,8 +88,9 @@ def main():
     print("| crate | " + " | ".join(KINDS) + " |")
     print("|---" * (1 + len(KINDS)) + "|")
     for line in (ROOT / "crates.txt").read_text().splitlines():
-        crate = line.partition(":")[0].split()[0]
-        print(f"| {crate} | " + " | ".join(f"{table[crate][kind]:.1f}" for kind in KINDS) + " |")
+        crate = next(iter(line.partition("#")[0].partition(":")[0].split()), None)
+        if crate:
+            print(f"| {crate} | " + " | ".join(f"{table[crate][kind]:.1f}" for kind in KINDS) + " |")
     children = resource.getrusage(resource.RUSAGE_CHILDREN)
     total = (children.ru_utime + children.ru_stime) / 60
     print(f"\n{(time.monotonic() - began) / 60:.1f} minutes, {total:.0f} minutes of processor time; {stolen() - taken:.0f} minutes of the cores' time went to others")

@@ -1,16 +1,11 @@
 """Which pairs of a run's steps docs/ORDER.md orders, directly and by chains, and which of them race: the rules told once more beside tools/order.py, each as a
 look at one pair of places. Nothing here is fast: every rule looks at every pair.
 """
-import pathlib
 import re
-import sys
 
-sys.path.insert(0, str(pathlib.Path(__file__).resolve().parent.parent / "tools"))
-sys.dont_write_bytecode = True
-
-from debug_text import Step  # noqa: E402, F401  (of what `trace` prints, for tests that compare it with `effects`)
-from effects import Trace, has_group, mailbox, shared_bytes  # noqa: E402
-from records import steps_in  # noqa: E402, F401
+from debug_text import Step  # noqa: F401  (of what `trace` prints, for tests that compare it with `effects`)
+from effects import Trace, has_group, mailbox, shared_bytes
+from records import steps_in  # noqa: F401
 
 INBOX_PLACES, OTHER_PLACES = 4, 1
 

@@ -1,9 +1,8 @@
 """A debugger to talk to: it reads commands, makes steps of one run, and tells how the run stands."""
-import pathlib
-
 from channels import channel_named
+from debugger_files import PICTURE, RECORD, target_of, write_file
 from debugger_help import COMMANDS, SHORT, help_lines
-from debugger_places import MOST, MOST_STEPS, PLAIN_SIZE, STORE, Places, Wrong, actor_of_word, count_of, is_processor, number_of, processor_of, register_of
+from debugger_places import MOST, MOST_STEPS, PLAIN_SIZE, STORE, Places, Wrong, actor_of_word, count_of, is_processor, processor_of, register_of
 from debugger_run import actor_of
 from debugger_stops import Behind, Break, ChannelBreak, Watch, first_stop
 from debugger_words import ENDS, Words, counted, dump, quad
@@ -11,6 +10,8 @@ from effects import Span
 from picturing.page import page_of
 from picturing.run import Run as Picture
 from sites import sets_link
+from snapshots import Snapshot
+from texts import lines_of, number_of, shown
 
 CHUNKS = (1000, 10_000, 100_000)  # steps that are made at a time, the last from there on
 STEP_LETTERS = {"x", "p", "e", "r", "a"}  # that begin the line of a step, beside the host's
@@ -322,8 +323,10 @@ class Debugger:
 
     def told_label(self, name, at, size):
         """The bytes of a label, or the first of many."""
-        shown = self.run.bytes_of(Span(self.spe, at, min(size or PLAIN_SIZE, MOST_PRINTED, STORE - at)))
-        return [*dump(at, shown), *([f"and more, {size} in all: `x {name}` prints them"] if size > MOST_PRINTED else [])]
+        if at >= STORE:
+            return [f"`{name}` is 0x{at:x}, the end of the store: no byte stands there"]
+        data = self.run.bytes_of(Span(self.spe, at, min(size or PLAIN_SIZE, MOST_PRINTED, STORE - at)))
+        return [*dump(at, data), *([f"and more, {size} in all: `x {name}` prints them"] if size > MOST_PRINTED else [])]
 
     def told_registers(self, spe):
         """All registers of a processor that aren't zero."""
@@ -350,22 +353,22 @@ class Debugger:
         return processor_of(words[0], self.run.spes) if words else self.spe
 
     def do_record(self, words):
-        if len(words) > 1:
-            raise Wrong("type `record` and the name of one file, or nothing to see the record")
         text = self.run.record()
         if not words:
             return text.splitlines()
-        write_file(words[0], text, "cell-record ", "record")
-        return [f"{counted(self.run.place, 'step')} written to {words[0]}: `cell check {self.run.machine} {words[0]}` reads them"]
+        name = target_of(words, RECORD, self.run.origin)
+        write_file(name, text)
+        return [f"{counted(self.run.place, 'step')} written to {name}: `cell check {self.run.machine} {name}` reads them"]
 
     def do_picture(self, words):
-        if len(words) != 1:
+        if not words:
             raise Wrong("type `picture` and the name of a file for the page, as here.html")
-        record = self.run.folder / "pictured"
-        record.write_text(self.run.record())
-        page = page_of(Picture(self.run.machine, record, name=f"{counted(self.run.place, 'step')} of a session"))
-        write_file(words[0], "".join(page), "<!doctype html>", "page")
-        return [f"a page of {counted(self.run.place, 'step')} written to {words[0]}, for a browser"]
+        name = target_of(words, PICTURE, self.run.origin)
+        record = Snapshot(str(self.run.folder / "pictured"), f"{counted(self.run.place, 'step')} of a session")
+        with open(record, "w") as file:
+            file.write(self.run.record())
+        write_file(name, "".join(page_of(Picture(self.run.machine, record))))
+        return [f"a page of {counted(self.run.place, 'step')} written to {name}, for a browser"]
 
     # ---- ranges
 
@@ -422,12 +425,11 @@ class Debugger:
             if site.file == middle.file:
                 at[site.number] = min(address, at.get(site.number, STORE))
         here = self.sites.of_processor[self.spe].get(pc)
-        with open(middle.file, encoding="latin1") as file:
-            texts = file.read().splitlines()
+        texts = lines_of(middle.file)
         for number in range(max(1, middle.number - LISTED), min(len(texts), middle.number + LISTED) + 1):
             mark = ">" if here and (here.file, here.number) == (middle.file, number) else "*" if self.is_break(at.get(number)) else " "
             place = f"0x{at[number]:05x}" if number in at else ""
-            yield f"{mark} {number:4} {place:7} {texts[number - 1].expandtabs()}".rstrip()
+            yield f"{mark} {number:4} {place:7} {shown(texts[number - 1]).expandtabs()}".rstrip()
 
     def is_break(self, at):
         """Whether the processor that is looked at stops at an address."""
@@ -452,18 +454,6 @@ class Debugger:
 def processor_of_step(step):
     """The processor that makes a step, or whose flow controller does; None for the host's and where there is no step."""
     return actor_of(step)[1] if step else None
-
-
-def write_file(name, text, head, kind):
-    """Writes a text that begins so to a file, which isn't there, is empty, or holds another such text."""
-    path = pathlib.Path(name)
-    try:
-        if path.exists() and path.stat().st_size and not path.read_bytes().startswith(head.encode()):
-            raise Wrong(f"{name} is there and holds no {kind}, so nothing is written: type another name")
-        path.write_text(text)
-    except (OSError, ValueError) as why:
-        raise Wrong(f"{name}: {getattr(why, 'strerror', why)}: type another name") from None
-
 
 
 def has_size(words):

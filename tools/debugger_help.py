@@ -1,5 +1,8 @@
 """What a debugger says of its commands."""
 
+WRITES = """
+        A file that is there is written over only with `over`, and only where it holds what the command writes or nothing;
+        the record that the session is from stays as it is."""
 # Of each command how it is typed, what it does, and more of it.
 COMMANDS = {
     "step": ("step [ACTOR] [N]", "makes N steps, or one", """
@@ -39,8 +42,8 @@ COMMANDS = {
     "list": ("list [PLACE]", "prints the source around a place, or around the PC", """
         > marks the line of the PC, and * a break. Where no source placed the instruction it prints what `dis` does."""),
     "dis": ("dis [PLACE [N]]", "prints N words of the store, or 8, as instructions", ""),
-    "record": ("record [FILE]", "prints the steps made so far as a record, or writes them to a file, for `cell check`", ""),
-    "picture": ("picture FILE", "draws the steps made so far as a page for a browser, as tools/picture does", ""),
+    "record": ("record [FILE [over]]", "prints the steps made so far as a record, or writes them to a file, for `cell check`", WRITES),
+    "picture": ("picture FILE [over]", "draws the steps made so far as a page for a browser, as tools/picture does", WRITES),
     "help": ("help [COMMAND]", "tells the commands, or more of one", ""),
     "quit": ("quit", "ends the session, as the end of input does", ""),
 }

@@ -3,15 +3,15 @@ import os
 import re
 
 from language import SMALL
+from texts import number_of
 
 STORE = 262_144
 MOST_STEPS = 1_000_000  # of any run
 PLAIN_SIZE = 16  # bytes of a range that says no size
 MOST = 4096  # bytes of a range
-NUMBER = re.compile(r"0x[0-9a-f]{1,8}|0|[1-9]\d{0,9}", re.I)
-ACTOR = re.compile(r"([xm])(\d{1,2})|h(?:ost)?")
-FILE_LINE = re.compile(r"(.+):(\d+)")
-LABEL = re.compile(r"([A-Za-z_.][\w.]*)(?:([+-])(0x[0-9a-f]+|\d+))?", re.I | re.A)
+ACTOR = re.compile(r"([xm])(\d{1,2})|h(?:ost)?", re.A)
+FILE_LINE = re.compile(r"(.+):(\d+)", re.A)
+LABEL = re.compile(r"([A-Za-z_.][\w.]*)(?:([+-])(\w+))?", re.A)
 REGISTER = re.compile(rf"\$({SMALL}|lr|sp)", re.A)
 NAMED = {"lr": 0, "sp": 1}
 
@@ -20,9 +20,12 @@ class Wrong(Exception):
     """What is wrong with a command, and what to type."""
 
 
-def number_of(word):
-    """The number that a word spells; None for any other word."""
-    return int(word, 0) if NUMBER.fullmatch(word) else None
+def part_number(word):
+    """The number that a part of a place spells; Wrong where it is none."""
+    number = number_of(word)
+    if number is None:
+        raise Wrong(f"`{word}` is no number: type a decimal one without a leading zero, or 0x and 1 to 8 digits")
+    return number
 
 
 def count_of(words):
@@ -47,7 +50,7 @@ def actor_of_word(word, spes):
 
 def is_processor(word):
     """Whether a word is x and a number."""
-    return re.fullmatch(r"x\d{1,2}", word) is not None
+    return re.fullmatch(r"x\d{1,2}", word, re.A) is not None
 
 
 def processor_of(word, spes):
@@ -100,13 +103,14 @@ class Places:
             return number if number < STORE else None
         found = FILE_LINE.fullmatch(word)
         if found:
-            return self.file_line(found[1], int(found[2]), spe)
+            return self.file_line(found[1], part_number(found[2]), spe)
         found = LABEL.fullmatch(word)
         place = found and self.label(found[1], spe)
         if not place:
             return None
-        offset = int(found[3] or "0", 0)
-        return place[0] + (-offset if found[2] == "-" else offset)
+        offset = part_number(found[3]) if found[3] else 0
+        at = place[0] + (-offset if found[2] == "-" else offset)
+        return at if at >= 0 else None
 
     def addresses(self, word, spes):
         """Of each of these processors the address of a place, for those where it is an instruction's."""

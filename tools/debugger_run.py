@@ -5,10 +5,9 @@ The list of the steps is all that is kept. The machine is made anew from it at e
 import pathlib
 import re
 
-from language import ROOT
 from effects import MEMORY_LINE, Trace
 from records import plain_record, record_text
-from runs import Refused, ask_tracer, ended, next_step, said_of, tracer_command
+from runs import Refused, ask_tracer, asked, next_step, said_of
 
 SPE = re.compile(r"spe (\d+) (.+) pc 0x([0-9a-f]{5}) queued (\d+)")
 SHOW_LINE = re.compile(rb"^[ \t]*show[ \t].*$", re.M)
@@ -92,7 +91,7 @@ def actor_of(step):
 
 def refuse_machine(machine):
     """Refused where `cell` refuses the machine file: it is asked about an empty record."""
-    said = said_of(ended([ROOT / "cell", "check", machine, "/dev/null"]))
+    said = said_of(asked("cell_cli", "check", machine, "/dev/null"))
     if said != EMPTY_RECORD:
         raise Refused(said + next_step(said, machine, ""))
 
@@ -119,6 +118,7 @@ class Run:
     """The steps of a run, up to `place` made and from there on ahead."""
 
     def __init__(self, machine, folder):
+        self.origin = None  # the record that it is from
         refuse_machine(machine)
         self.machine, self.folder = machine, pathlib.Path(folder)
         self.text = SHOW_LINE.sub(b"", pathlib.Path(machine).read_bytes())
@@ -131,6 +131,7 @@ class Run:
     def follow(self, record):
         """Takes all steps of a record as those ahead."""
         self.extend(ask_tracer("effects", self.machine, record))
+        self.origin = record
 
     # ---- the steps
 
@@ -228,8 +229,7 @@ class Run:
         if not self.is_written:
             record.write_text(plain_record(self.heads))
             self.is_written = True
-        command, how = tracer_command(self.machine, ["go", str(machine), str(record), str(place), str(choices)])
-        done = ended(command, **how)
+        done = asked("run_trace", "go", str(machine), str(record), str(place), str(choices))
         effects, mark, state = ("\n" + done.stdout).partition("\nend ")
         if done.returncode or not mark:
             raise Refused(f"run_trace: {said_of(done)}")

@@ -6,7 +6,9 @@ from channels import NAMES
 from debugger_help import COMMANDS
 from debugger_places import Wrong
 from runs import Refused
+from texts import decoded, say
 
+MOST_SCRIPT_LINE = 100_000  # bytes
 REPEATED = {"step", "next", "back", "s", "n"}  # commands that an empty line at a terminal repeats
 DELIMITERS = " \t"
 
@@ -61,26 +63,38 @@ def typed(debugger):
 
 def given(debugger):
     """The lines of a script, which are printed as they come."""
-    for line in sys.stdin:
-        print(f"{debugger.prompt()}{line.rstrip()}")
+    for line in iter(read_line, ""):
+        say(f"{debugger.prompt()}{line.rstrip()}")
         yield line
 
 
+def read_line():
+    """The next line of standard input; Refused where it is no script."""
+    line = sys.stdin.buffer.readline(MOST_SCRIPT_LINE + 1)
+    if len(line) > MOST_SCRIPT_LINE:
+        raise Refused(f"standard input has a line of more than {MOST_SCRIPT_LINE} bytes: it is no script of commands")
+    return decoded(line)
+
+
 def answered(debugger, line):
-    """Prints the answer to a line, and says whether it was right."""
-    is_right = True
+    """Prints the answer to a line, and says whether it was right. Whatever a command meets, the session goes on: its steps are worth more than the command."""
+    is_right, said = False, []
     try:
         said = debugger.obey(line)
+        is_right = True
     except (Wrong, Refused) as why:
-        is_right, said = False, [str(why)]
+        said = [why]
     except OSError as why:
-        is_right, said = False, [f"{why.filename}: {why.strerror}"]
-    print(*(f"{words}\n" for words in said), sep="", end="", flush=True)
+        said = [f"{why.filename}: {why.strerror}"]
+    except Exception as why:  # a fault of the debugger itself
+        said = [f"the debugger failed at this ({type(why).__name__}: {why}); the steps are kept, and `record FILE` writes them"]
+    say(*said)
+    sys.stdout.flush()
     return is_right
 
 
 def talk(debugger):
-    """A session, with its exit status."""
+    """A session, with its exit status. Refused where standard input is no script."""
     is_terminal = sys.stdin.isatty()
     status = 0
     if is_terminal:

@@ -1,5 +1,6 @@
 """A run's steps with their effects, as `run_trace effects` prints them, and what they tell of its commands."""
 import collections
+import collections.abc
 import re
 
 # Bytes that a step touches: the processor whose store they are in or None for main memory, the first, and how many.

@@ -1,34 +1,84 @@
-"""How the tools end: with a status, and without a traceback where what they print can't go out or a key stops them."""
+"""How the programs of tools/ and tests/ end: with a status, and without a traceback, whatever a key, a full disk, a closed output or a fault of their own does."""
 import os
 import pathlib
+import signal
 import sys
+import traceback
 
 STOPPED = 130  # by Ctrl-C
 CLOSED = 141  # what a shell tells of a program whose output was closed early, as by `| head`
-NOT_WRITTEN = 2
+FAILED = 2
+FAULTY = 70  # by a fault of the program itself
 
 
-def end(main):
-    """Calls a tool's `main` with the words of the command line, and ends the program with the status that it answers."""
-    sys.exit(status_of(main))
+def end(main, failed=FAILED):
+    """Calls a program's `main` with the words of the command line, and ends the program with the status that it answers, or `failed` where the system does."""
+    sys.unraisablehook = end_stopped
+    status = status_of(main, failed)
+    drop_faults()
+    sys.exit(status)
 
 
-def status_of(main):
+def status_of(main, failed):
+    """The status with which a program ends."""
     try:
+        return status_or_interrupt(main)
+    except KeyboardInterrupt:
+        status, said = STOPPED, None
+    except BrokenPipeError:
+        status, said = CLOSED, None
+    except OSError as why:
+        status, said = failed, f"{why.filename or 'standard output'}: {why.strerror or why}"
+    except MemoryError:
+        status, said = failed, "memory ran out"
+    except Exception as why:  # whatever it is: its place helps more than a traceback does
+        status, said = FAULTY, f"a fault of this program itself, in {place_of(why)}: {type(why).__name__}: {why}"
+    drop_output()
+    if said:
+        tell(said)
+    return status
+
+
+def status_or_interrupt(main):
+    """What `main` answers, when all that it printed is written. An interrupt is a KeyboardInterrupt meanwhile, so that temporary files are removed."""
+    try:
+        signal.signal(signal.SIGINT, signal.default_int_handler)
         status = main(sys.argv[1:])
         sys.stdout.flush()
         return status
-    except KeyboardInterrupt:
-        return STOPPED
-    except BrokenPipeError:
-        drop_output()
-        return CLOSED
-    except OSError as why:
-        drop_output()
-        print(f"{pathlib.Path(sys.argv[0]).name}: {why.filename or 'standard output'}: {why.strerror}", file=sys.stderr)
-        return NOT_WRITTEN
+    finally:
+        signal.signal(signal.SIGINT, signal.SIG_DFL)
+
+
+def end_stopped(fault):
+    """Ends the program at an interrupt where Python goes on behind an exception, and tells it by a traceback: in a destructor."""
+    if isinstance(fault.exc_value, KeyboardInterrupt):
+        os._exit(STOPPED)
+    sys.__unraisablehook__(fault)
+
+
+def drop_faults():
+    """Lets what couldn't be told of faults go nowhere, in place of a status of Python's own."""
+    try:
+        sys.stderr.flush()
+    except OSError:
+        os.dup2(os.open(os.devnull, os.O_WRONLY), sys.stderr.fileno())
 
 
 def drop_output():
     """Lets what wasn't printed go nowhere: Python tries it once more as it ends."""
     os.dup2(os.open(os.devnull, os.O_WRONLY), sys.stdout.fileno())
+
+
+def tell(said):
+    """Says why the program ends, as far as it can."""
+    try:
+        print(f"{pathlib.Path(sys.argv[0]).name}: {said}", file=sys.stderr, flush=True)
+    except OSError:
+        pass
+
+
+def place_of(why):
+    """The file and the line where an exception was raised."""
+    frame = traceback.extract_tb(why.__traceback__)[-1]
+    return f"{pathlib.Path(frame.filename).name}, line {frame.lineno}"

@@ -1,9 +1,13 @@
 """Says in words what `cell` refuses in a machine file and its sources, and warns of what is accepted and probably wrong."""
-import pathlib
+import collections
+import os
 import re
+import stat
 
 from explain_source import explain_source
-from explaining import MOST, STORE, cell, cell_of, in_latin
+from explaining import MOST, cell, cell_of, in_latin, short
+from language import STORE
+from texts import MOST_BYTES, bytes_of, number_of
 
 LINE = 128  # bytes of a line of main memory
 HEADS = {"cell-machine": 1, "lines": 524_288, "budget": 1_000_000}  # each with its greatest number
@@ -78,10 +82,10 @@ def why_word(kind, word):
     if kind == "NAME":
         fits = len(word) <= 255 and re.fullmatch("[!-~]+", word)
         return None if fits else "a source's name has 1 to 255 characters of ASCII"
-    if MACHINE_NUMBER.fullmatch(word) and int(word, 0) < 2**32:
+    if MACHINE_NUMBER.fullmatch(word) and number_of(word) is not None:
         return None
     labels = "; a label has no value here, tools/listing shows its address" if word[:1].isalpha() else ""
-    return f"`{word}` is no number: decimal without a leading zero or sign, or 0x and 1 to 8 digits" + labels
+    return f"`{short(word)}` is no number: decimal without a leading zero or sign, or 0x and 1 to 8 digits" + labels
 
 
 def why_range(name, value, seen):
@@ -109,7 +113,7 @@ def why_machine_line(words, seen):
     """What is wrong with a line of a machine file, behind the first three, in words."""
     name = " ".join(words[:2]) if words[0] in ("host", "show") else words[0]
     if name not in LINES:
-        return f"no line begins with `{name}`; lines are: {', '.join(LINES)}"
+        return f"no line begins with `{short(name)}`; lines are: {', '.join(LINES)}"
     arguments, form = words[name.count(" ") + 1 :], LINES[name].split()
     if len(arguments) != len(form):
         return f"the form is `{' '.join([name, *form])}`{hint_of_form(name, form, len(arguments))}"
@@ -141,9 +145,8 @@ class MachineFile:
 
     END = b"end-of-the-file"  # begins no line, so that the program stops there at the latest
 
-    def __init__(self, name):
-        text = pathlib.Path(name).read_bytes()
-        self.lines = text.split(b"\n")
+    def __init__(self, data):
+        self.lines = data.split(b"\n")
         if self.lines[-1] == b"":
             self.lines.pop()
         self.seen, self.taken = Seen(), 0
@@ -215,17 +218,31 @@ def source_places(seen, explained):
     return sorted(places, key=lambda place: place[0])
 
 
+class Stores:
+    """Which line placed each byte first, in the store of each processor."""
+
+    def __init__(self):
+        self.lines = collections.defaultdict(lambda: [0] * STORE)
+
+    def cover(self, place):
+        """Takes a place in: the first line before it that placed one of its bytes, and the address of the first such byte; None where there is none."""
+        number, spe, start, size, _ = place
+        lines = self.lines[spe]
+        there = lines[start : start + size]
+        lines[start : start + size] = [before or number for before in there]
+        first = min(filter(None, there), default=number)
+        return (first, start + there.index(first)) if first < number else None
+
+
 def machine_warnings(seen, places):
-    told = set()
-    for later in places:
-        for earlier in places:
-            number, spe, start, size, kind = later
-            first, other, low, width, _ = earlier
-            covers = first < number and spe == other and start < low + width and low < start + size
-            if covers and kind != "bytes" and number not in told:
-                told.add(number)
-                linker = " (each source begins at 0, and nothing is linked)" if kind == "source" else ""
-                yield number, f"covers 0x{max(start, low):05x}, which line {first} has placed: the later stays{linker}"
+    stores, told = Stores(), set()
+    for place in places:
+        number, _, _, _, kind = place
+        covered = stores.cover(place)
+        if covered and kind != "bytes" and number not in told:
+            told.add(number)
+            linker = " (each source begins at 0, and nothing is linked)" if kind == "source" else ""
+            yield number, f"covers 0x{covered[1]:05x}, which line {covered[0]} has placed: the later stays{linker}"
     filled = {place[1] for place in places} | {spe for _, spe, _ in seen.sources}
     for spe, number in enumerate(seen.begun):
         if spe not in filled:
@@ -252,6 +269,18 @@ def refusal_of(said, seen, places):
     return number, f"{said}: the word spells no instruction" if number else said
 
 
+def source_text(source):
+    """The text of a source, or why there is none."""
+    try:
+        if not stat.S_ISREG(os.stat(source).st_mode):
+            return None, f"`{source}` is no regular file, and isn't looked at"
+        return bytes_of(source), None
+    except FileNotFoundError:
+        return None, f"there is no file `{source}`: names are taken from the folder in which cell is called"
+    except OSError as why:
+        return None, f"`{source}`: {why.strerror}"
+
+
 def explain_sources(name, seen, report):
     """Explains each source that a machine file names; for each whether it has an image."""
     explained = {}
@@ -259,16 +288,18 @@ def explain_sources(name, seen, report):
         if source in explained:
             continue
         explained[source] = False
-        if pathlib.Path(source).is_file():
-            explained[source] = explain_source(source, report)
+        text, why = source_text(source)
+        if why:
+            report.fault(f"{name}:{number}", why)
+        elif len(text) > MOST_BYTES:
+            report.fault(source, f"the file is too long: `cell` reads at most {MOST_BYTES:,} bytes")
         else:
-            words = f"there is no file `{source}`: names are taken from the folder in which cell is called"
-            report.fault(f"{name}:{number}", words)
+            explained[source] = explain_source(source, text, report)
     return explained
 
 
-def explain_machine(name, report):
-    file, before = MachineFile(name), report.refusals
+def explain_machine(name, data, report):
+    file, before = MachineFile(data), report.refusals
     for count, (number, words) in enumerate(file.faults(), 1):
         report.fault(f"{name}:{number}" if number else name, words)
         if count == MOST:

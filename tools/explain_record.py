@@ -3,12 +3,12 @@ import pathlib
 import re
 import tempfile
 
-from explaining import MOST, cell, in_latin
+from explaining import MOST, MOST_QUOTED, cell, in_latin, short
+from language import value_of
 
 HEADS = [b"cell-record 1", b"cell-record 2"]
 NEWEST = HEADS[-1]
 MACHINE = b"cell-machine 1\nlines 1\nbudget 1\nspe\n"  # the form of a record is judged before its steps
-SHOWN = 40  # characters of a line
 OTHER = rb"a \d+|(e|r) \d+ \d+|p \d+ \d+ \d+ \d+|h"
 STEPS = {HEADS[0]: re.compile(rb"x \d+|" + OTHER), HEADS[1]: re.compile(rb"x \d+ \d+|" + OTHER)}
 STRETCH = re.compile(rb"x (\d+) (\d+)")
@@ -20,22 +20,27 @@ FORMS = {
 }
 RANGES = "P is at most 15, C at most 999999, E at most 2047 and K at most 128, without leading zeros; a record has at most 1000000 steps"
 MOST_STEPS = 1_000_000
+ABOVE_ALL = 2**64
 
 
-def is_record(name):
+def number_of(digits):
+    """The number of a record that digits spell, and one above all others where they have more than 64 bits."""
+    value = value_of(in_latin(digits), 10)
+    return ABOVE_ALL if value is None else value
+
+
+def is_record(name, data):
     """Whether a file is a record, by its name or its beginning."""
-    if name.endswith(".out"):
-        return True
-    with open(name, "rb") as file:
-        return file.read(len(NEWEST)).startswith(b"cell-record")
+    return name.endswith(".out") or data.startswith(b"cell-record")
 
 
 class RecordFile:
     """A record file, of which the faulty lines are mended one after the other."""
 
-    def __init__(self, name):
-        self.lines = pathlib.Path(name).read_bytes().split(b"\n")
+    def __init__(self, data):
+        self.lines = data.split(b"\n")
         self.is_counted = True  # whether it is known how many steps the faulty lines stand for
+        self.counted = 1, 0  # a line, and how many steps the lines before it stand for
 
     def asked(self):
         """What the program says of the record's form."""
@@ -60,9 +65,11 @@ class RecordFile:
                 yield int(found[1]), words
 
     def steps_before(self, at):
-        """How many steps the lines before one stand for."""
-        found = (STRETCH.fullmatch(line) if self.lines[0] == HEADS[1] else None for line in self.lines[1:at])
-        return sum(int(stretch[2]) if stretch else 1 for stretch in found)
+        """How many steps the lines before one stand for, which isn't before one that was asked about."""
+        start, before = self.counted
+        found = (STRETCH.fullmatch(line) if self.lines[0] == HEADS[1] else None for line in self.lines[start:at])
+        self.counted = max(start, at), before + sum(int(stretch[2]) if stretch else 1 for stretch in found)
+        return self.counted[1]
 
     def mend(self, at):
         """Takes the fault out of a line: what it was, and whether what stands behind it can be judged."""
@@ -74,20 +81,20 @@ class RecordFile:
             self.lines = [other.removesuffix(b"\r") for other in self.lines]
             return "lines end with CR LF: a record has LF alone, `tr -d '\\r'` takes the others away", True
         if at == len(self.lines) - 1:
-            return f"the record was cut within a line: `{in_latin(line)[:SHOWN]}` has no line feed", False
+            return f"the record was cut within a line: `{in_latin(line)[:MOST_QUOTED]}` has no line feed", False
         self.lines[at], words = self.mended(line, at)
         return words, True
 
     def mended(self, line, at):
         """A line as it might be, so that the program goes on behind it, and what is wrong with it."""
-        shown = in_latin(line)[:SHOWN]
+        shown = in_latin(line)[:MOST_QUOTED]
         if at == 0:
             other = "a record of another format" if line.startswith(b"cell-record") else "no record"
             heads = " or ".join(f"`{in_latin(head)}`" for head in HEADS)
             return self.likely_head(), f"{other}: the first line is {heads}; make the run again with this program"
         steps = self.steps_before(at)
         if found := COUNT.fullmatch(line):
-            return b"steps %d" % steps, self.is_counted and f"the number of steps before it is {steps}, not {in_latin(found[1])}"
+            return b"steps %d" % steps, self.is_counted and f"the number of steps before it is {steps}, not {short(in_latin(found[1]))}"
         if not STEPS[self.lines[0]].fullmatch(line):
             self.is_counted = self.is_counted and self.lines[0] == HEADS[0]
             return b"h", f"`{shown}` is no step: {FORMS[self.lines[0]]}"
@@ -97,15 +104,17 @@ class RecordFile:
 
     def mended_stretch(self, stretch, at, steps):
         """The same of a line that has the form of a stretch."""
-        shown, before, count = in_latin(stretch[0])[:SHOWN], STRETCH.fullmatch(self.lines[at - 1]), int(stretch[2])
-        if before and before[1] == stretch[1]:
+        shown, count = in_latin(stretch[0])[:MOST_QUOTED], number_of(stretch[2])
+        before = STRETCH.fullmatch(self.lines[at - 1])
+        if before and before[1] == stretch[1] and count < ABOVE_ALL:
             other = b"14" if stretch[1] == b"15" else b"15"
             whole = count + int(before[2])
-            return b"x %s %d" % (other, count), f"`{shown}` goes on with the stretch of the line before it: one line `x {in_latin(stretch[1])} {whole}` has both"
+            words = f"`{shown}` goes on with the stretch of the line before it: one line `x {in_latin(stretch[1])} {whole}` has both"
+            return b"x %s %d" % (other, count), words
         self.is_counted = False
         if count == 0:
             return b"h", f"`{shown}` stands for no instruction: a stretch has at least one"
-        if int(stretch[1]) <= 15 and count + steps > MOST_STEPS:
+        if number_of(stretch[1]) <= 15 and MOST_STEPS - steps < count < ABOVE_ALL:
             return b"h", f"with `{shown}` there are {count + steps} steps, and a record has at most {MOST_STEPS}"
         return b"h", f"a number of `{shown}` is out of its range: {RANGES}"
 
@@ -114,8 +123,8 @@ class RecordFile:
         return HEADS[1] if any(STRETCH.fullmatch(line) for line in self.lines) else HEADS[0]
 
 
-def explain_record(name, report):
-    for count, (number, words) in enumerate(RecordFile(name).faults(), 1):
+def explain_record(name, data, report):
+    for count, (number, words) in enumerate(RecordFile(data).faults(), 1):
         report.fault(f"{name}:{number}" if number else name, words)
         if count == MOST:
             report.fault(name, f"only the first {MOST} faulty lines are told")

@@ -1,12 +1,12 @@
 """Says in words what `cell` refuses in a source, all faulty lines at once, and warns of what is accepted and probably wrong."""
-import pathlib
+import functools
 import re
 
 from channels import VALUES
-from explaining import MOST, STORE, cell_of, in_latin
+from explaining import MOST, cell_of, in_latin, short
 from gas import refused_lines
-from language import CHANNEL, DATA, FORMS, NAME, NUMBER, REGISTER, RELATIVE_FORMS, SECTIONS, SKIPPED, STRINGS
-from language import cut, is_text_section, operand_forms, without_comments
+from language import CHANNEL, DATA, FORMS, NAME, NUMBER, REGISTER, RELATIVE_FORMS, SECTIONS, SKIPPED, STORE, STRINGS
+from language import cut, is_text_section, number_in, operand_forms, without_comments
 
 OPERANDS = operand_forms()
 KINDS = {
@@ -33,11 +33,14 @@ REWRITTEN = set(
 )
 LABELS = re.compile(rb"\s*((?:[A-Za-z_.][\w.]*\s*:\s*)*)(.*)", re.S)
 WORD = re.compile(r"[\w.$]+")
+CLOSED = re.compile(r'"[^"\\]*(?:\\.[^"\\]*)*("?)')  # a string, and whether something closes it
+MOST_KEPT = 100_000
 BY_TOOL = "; tools/from_gas rewrites it"
 BY_TOOL_OTHERS = "; tools/from_gas works out others"
 OR_BY_TOOL = ", or use tools/from_gas"
 
 
+@functools.lru_cache(maxsize=MOST_KEPT)  # all lines are gone through for each one that is faulty
 def labels_and_statement(line):
     """The labels of a line, and its statement without comments."""
     labels, statement = LABELS.fullmatch(without_comments(line.decode("latin1")).encode("latin1")).groups()
@@ -131,7 +134,7 @@ def why_character(line):
     if opens_comment(line):
         return "a comment of several lines: end it with */ on each line" + BY_TOOL
     code = without_comments(text)
-    bare = re.sub(r'"(?:\\.|[^"\\])*"', "", code)
+    bare = CLOSED.sub(lambda found: "" if found[1] else found[0], code)
     strange = [byte for byte in bare if byte not in "\t\r " and not "!" <= byte <= "~"]
     if strange:
         byte = f"the byte 0x{ord(strange[0]):02x}"
@@ -145,14 +148,16 @@ def why_character(line):
 
 def why_number(statement):
     for word in re.findall(r"(?<![\w.$])\d\w*", statement):
-        if NUMBER.fullmatch(word):
+        if number_in(word) is not None:
             continue
+        if NUMBER.fullmatch(word):
+            return f"`{short(word)}` has more than 64 bits"
         if re.fullmatch(r"\d+[bf]", word):
-            return f"`{word}`: there are no numeric labels" + BY_TOOL
+            return f"`{short(word)}`: there are no numeric labels" + BY_TOOL
         if re.fullmatch(r"0\d+", word):
-            return f"`{word}`: a number has no leading zero, and none is octal" + BY_TOOL
+            return f"`{short(word)}`: a number has no leading zero, and none is octal" + BY_TOOL
         other = BY_TOOL if re.fullmatch(r"0[bB][01]+|0X[0-9A-Fa-f]+", word) else ""
-        return f"`{word}` is no number: decimal without a leading zero, or 0x{other}"
+        return f"`{short(word)}` is no number: decimal without a leading zero, or 0x{other}"
     return None
 
 
@@ -296,7 +301,7 @@ def line_warnings(statement):
     """What of a statement is accepted and probably wrong."""
     word = first_word(statement)
     operands = [part.strip() for part in cut(statement[len(word) :], ",")]
-    last = int(operands[-1], 0) if NUMBER.fullmatch(operands[-1]) else None
+    last = number_in(operands[-1])
     if last is None:
         return
     if word in RIGHT_SHIFTS and 0 < last < 64:
@@ -318,11 +323,11 @@ def source_warnings(lines):
         yield 0, "`main` without `_start`: the program begins at address 0, and `main` returns there"
 
 
-def explain_source(name, report):
+def explain_source(name, data, report):
     """Explains one source; whether the program has an image of it."""
-    lines = pathlib.Path(name).read_bytes().split(b"\n")
+    lines = data.split(b"\n")
     in_text, defined, count = text_lines(lines), labels_before(lines), 0
-    refused = refused_lines(name, b"\n".join(lines).decode("latin1"))
+    refused = refused_lines(name, in_latin(data))
     for at, kind in source_faults(lines):
         count += 1
         if at is None:

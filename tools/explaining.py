@@ -4,10 +4,11 @@ import subprocess
 import tempfile
 
 from language import ROOT
+from texts import decoded, shown
 
 MOST = 100  # faulty lines that are told of one file
 MOST_SHOWN = 120  # characters of a faulty line
-STORE = 262_144  # bytes of a local store
+MOST_QUOTED = 40  # characters of a word, or of a short line
 
 
 class Report:
@@ -18,10 +19,10 @@ class Report:
 
     def fault(self, place, words, line=""):
         self.refusals += 1
-        print(f"{place}: {printable(words)}" + (f"\n    {printable(line)[:MOST_SHOWN]}" if line else ""))
+        print(f"{shown(place)}: {printable(words)}" + (f"\n    {printable(line)[:MOST_SHOWN]}" if line else ""))
 
     def warning(self, place, words):
-        print(f"{place}: warning: {words}")
+        print(f"{shown(place)}: warning: {words}")
 
 
 def cell(*words):
@@ -43,7 +44,11 @@ def in_latin(line):
     return line.decode("latin1")
 
 
+def short(word):
+    """A word of a file, or its beginning."""
+    return word if len(word) <= MOST_QUOTED else f"{word[:MOST_QUOTED]}.."
+
+
 def printable(text):
-    """Text of a file as it is printed: with a mark for what a terminal can't show."""
-    text = text.encode("latin1").decode("utf-8", "replace")
-    return "".join(character if character.isprintable() or character == "\t" else "?" for character in text)
+    """Text of a file as it is printed."""
+    return shown(decoded(text.encode("latin1")))

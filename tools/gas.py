@@ -5,8 +5,9 @@ import re
 
 from channels import VALUES, channel_named
 from gas_expressions import ATOM, CHARACTERS, NUMERIC_LABEL, Expression, Unwritable, Value, combined
-from language import CHANNEL, DATA, FORMS, HIDING, NAME, NUMBER, REGISTER, RELATIVE_FORMS, SECTIONS, STRINGS
-from language import cut, is_text_section, operand_forms, without_comments
+from language import CHANNEL, DATA, FORMS, NAME, NUMBER, REGISTER, RELATIVE_FORMS, SECTIONS, STORE, STRINGS
+from language import cut, hiding, is_text_section, operand_forms, without_comments
+from texts import shown
 
 # Directives that say nothing about the bytes of a program.
 DROPPED = set(
@@ -15,9 +16,12 @@ DROPPED = set(
 )
 SETS = (".set", ".equ", ".equiv")
 RENAMED = {".zero": ".space", ".half": ".hword", "hbrp": "lnop", "syncc": "sync"}
-STATEMENT = re.compile(r"\s*((?:[\w.$]+\s*:\s*)*)(?:([\w.$]+)\s*(=(?!=))?\s*(.*?))?\s*", re.S | re.A)
+BLANKS = " \t\n\r\f\v"
+STATEMENT = re.compile(r"((?:[\w.$]+\s*:\s*)*)(?:([\w.$]+)\s*(=(?!=))?\s*(.*))?", re.S | re.A)
+WORD = re.compile(r"\S+", re.A)
 MOST_REPEATS = 4096
 MOST_ALIGNED = 12
+MOST_WORKED_OUT = 50_000  # values of names that later lines set: they are worked out again where names that they need are set again
 
 Statement = collections.namedtuple("Statement", "labels word rest")
 
@@ -26,8 +30,9 @@ def statements(text):
     """Each statement of a source with the number of its line."""
     for number, line in enumerate(without_comments(text).split("\n"), 1):
         for part in cut(line, ";"):
+            part = part.strip(BLANKS)
             found = STATEMENT.fullmatch(part)
-            labels, word, equal, rest = found.groups() if found else ("", part.split()[0], None, "")
+            labels, word, equal, rest = found.groups() if found else ("", WORD.match(part)[0], None, "")
             labels = [label.strip() for label in labels.split(":")[:-1]]
             if equal:
                 word, rest = ".set", f"{word},{rest}"
@@ -38,12 +43,12 @@ def statements(text):
 
 def comments(text):
     """What the comments of each line say, by the line's number."""
-    said, number, end = collections.defaultdict(list), 1, 0
-    for found in HIDING.finditer(text):
-        number += text.count("\n", end, found.start())
-        end = found.start()
-        if found[0][0] in "#/":
-            bare = found[0].removeprefix("/*").removesuffix("*/") if found[0][0] == "/" else found[0][1:]
+    said, number, at = collections.defaultdict(list), 1, 0
+    for start, end in hiding(text):
+        number += text.count("\n", at, start)
+        at = start
+        if text[start] in "#/":
+            bare = text[start + 2 : end - 2] if text[start] == "/" else text[start + 1 : end]
             for k, line in enumerate(bare.split("\n")):
                 said[number + k].append(line.strip(" \t\r*"))
     return {number: " ".join(filter(None, words)) for number, words in said.items()}
@@ -92,7 +97,7 @@ def length(lines):
 def line_length(line):
     word, _, rest = line.strip().partition("\t")
     if word in DATA:
-        return DATA[word][0] * len(cut(rest, ","))
+        return DATA[word][0] * (rest.count(",") + 1)
     if word in STRINGS:
         return len(re.findall(r"\\[0-7]{1,3}|\\.|.", rest[1:-1], re.S)) + (word != ".ascii")
     if word == ".space":
@@ -114,6 +119,7 @@ class Writer:
         self.current = (".text", "")  # the section that the lines so far end in
         self.forms = operand_forms()
         self.lines, self.faults, self.commons = [], [], {}
+        self.left_to_work_out = MOST_WORKED_OUT
         self.notes = []  # for each line where it comes from, and its comment
         self.names = set().union(*(source.labels | source.kept_local | source.shared for source in sources))
         counts = collections.Counter(
@@ -148,7 +154,8 @@ class Writer:
             self.faults.append((self.source.name, self.line, str(why)))
 
     def origin(self):
-        return f"{self.source.name}:{self.line}"
+        """Where a line comes from, as a comment says it."""
+        return f"{in_comment(self.source.name)}:{self.line}"
 
     def add_notes(self, before):
         """Says where the lines from a place on come from, and keeps the comment, on a line of its own where no line was written."""
@@ -171,9 +178,10 @@ class Writer:
         self.source, self.ending, self.line = source, self.endings[number], 1
         self.section = self.previous = (".text", "")
         self.stack, self.number = [], number
-        # a value with `.` in it holds from its line on, every other in the lines before too
-        self.sets = {name: value for name, value in source.sets.items() if "." not in ATOM.findall(value)}
+        # a value of its place holds from its line on, every other in the lines before too
+        self.sets = {name: value for name, value in source.sets.items() if not is_of_its_place(value)}
         self.open_sets = set()
+        self.worked_out = {}  # the values of names on which others may rest, as they were when they were looked up
         self.counts, self.numeric, self.here = collections.Counter(), {}, None
         self.lines += self.changed_section()
 
@@ -204,8 +212,11 @@ class Writer:
             self.numeric[key] = self.fresh(f".L{digits}_{count}.{self.number}")
         return self.numeric[key]
 
-    def look_up(self, word):
-        """The value of a name, also of one of spu_mfcio.h that no source defines, of `.`, or of a numeric label such as 1b."""
+    def look_up(self, word, depth=1):
+        """The value of a name, also of one of spu_mfcio.h that no source defines, of `.`, or of a numeric label such as 1b.
+
+        `depth` is 1 where a statement has the word, and more where the value of another name needs it.
+        """
         if found := NUMERIC_LABEL.fullmatch(word):
             count = self.counts[found[1]] + (found[2] == "f")
             if count == 0:
@@ -215,19 +226,36 @@ class Writer:
             self.here = self.here or self.fresh(f".Lhere{len(self.lines)}")
             self.places[self.here] = self.place()
             return Value(self.here, 0)
-        if word not in self.sets:
-            if word in self.source.sets:
-                return self.later_value(word)
-            if word in VALUES and word not in self.names:
-                return Value(None, VALUES[word])
-            return Value(self.renamed(word), 0)
-        if word in self.open_sets:
-            raise Unwritable(f"`{word}` is set to a value of itself")
-        self.open_sets.add(word)
+        if word in self.sets or word in self.source.sets:
+            return self.set_value(word, depth)
+        if word in VALUES and word not in self.names:
+            return Value(None, VALUES[word])
+        return Value(self.renamed(word), 0)
+
+    def set_value(self, name, depth):
+        """The value of a name that a line sets, before or behind this one."""
+        value = self.sets.get(name)
+        if value is None:
+            value = self.later_value(name)
+        elif isinstance(value, str):
+            value = self.worked_out[name] if name in self.worked_out else self.work_out(name, value, depth)
+        if depth > 1:
+            self.worked_out[name] = value
+        return value
+
+    def work_out(self, name, text, depth):
+        """The value that a later line gives a name."""
+        if name in self.open_sets:
+            raise Unwritable(f"`{name}` is set to a value of itself")
+        self.left_to_work_out -= 1
+        if self.left_to_work_out < 0:
+            raise Unwritable(f"more than {MOST_WORKED_OUT} values of names that later lines set have to be worked out")
+        self.open_sets.add(name)
         try:
-            return Expression(self.sets[word], self).value()
+            self.worked_out[name] = Expression(text, self, depth).value()
         finally:
-            self.open_sets.discard(word)
+            self.open_sets.discard(name)
+        return self.worked_out[name]
 
     def later_value(self, name):
         """The value to which a later line sets a name."""
@@ -374,10 +402,13 @@ class Writer:
         self.current = self.section
         return ["\t".join(("", *self.section)).rstrip()]
 
-    def data(self, word, rest):
-        small = word in STRINGS or DATA[word][0] < 4
-        if small and is_text_section(*self.section):
+    def refuse_small(self, word):
+        """Refuses what places fewer than four bytes, where it stands in the text."""
+        if (word in STRINGS or DATA[word][0] < 4) and is_text_section(*self.section):
             raise Unwritable(f"`{word}` stands in data only")
+
+    def data(self, word, rest):
+        self.refuse_small(word)
         if word in STRINGS:
             return [f"\t{word}\t{string(part.strip())}" for part in cut(rest, ",")]
         return [f"\t{word}\t{','.join(self.expression(part) for part in cut(rest, ','))}"]
@@ -390,8 +421,9 @@ class Writer:
             return [f"{self.renamed(name)}:"]
         value = Expression(value, self).value()
         self.values.setdefault((self.number, name), value)
-        number = f"{value.number:+d}"
-        self.sets[name] = f"{value.name}{number}" if value.name else number
+        if self.worked_out.get(name, value) != value:
+            self.worked_out.clear()
+        self.sets[name] = value
         return []
 
     def common(self, rest):
@@ -424,7 +456,10 @@ class Writer:
         words = {1: ".byte", 2: ".short", 4: ".long", 8: ".quad"}
         if value.name or size not in words or count > MOST_REPEATS:
             raise Unwritable(f"`{word}` with this value, size or count")
-        return self.data(words[size], ",".join([str(value.number)] * count))
+        self.refuse_small(words[size])
+        if self.place()[2] + count * size > STORE:
+            raise Unwritable(f"`{word}` ends above the local store, {STORE:,} bytes")
+        return [f"\t{words[size]}\t{','.join([str(value.number)] * count)}"]
 
     def place_commons(self):
         """What the sources hold in common and none defines stands behind all else."""
@@ -436,6 +471,16 @@ class Writer:
         for name, (size, power, origin) in commons.items():
             self.lines += [f"\t.align\t{power}", f"{name}:", f"\t.space\t{size}"]
             self.notes += [origin] * 3
+
+
+def in_comment(name):
+    """A file's name as the text of a source has it, which is read as bytes."""
+    return shown(name).encode().decode("latin1")
+
+
+def is_of_its_place(value):
+    """Whether a value is another one on each line: it has `.` or a numeric label in it."""
+    return any(word == "." or NUMERIC_LABEL.fullmatch(word) for word in ATOM.findall(value))
 
 
 def fits_form(operands, form):

@@ -2,11 +2,17 @@
 import collections
 import re
 
-ATOM = re.compile(r"\s*(\d+[bf](?!\w)|\d\w*|'(?:\\.|[^\\])'?|[A-Za-z_.][\w.$]*|<<|>>|\S)", re.S | re.A)
+from language import value_of
+
+ATOM = re.compile(r"(\d+[bf](?!\w)|\d\w*|'(?:\\.|[^\\])'?|[A-Za-z_.][\w.$]*|<<|>>|\S)", re.S | re.A)
 NUMERIC_LABEL = re.compile(r"(\d+)([bf])", re.A)
 RANKS = {"*": 3, "/": 3, "%": 3, "<<": 3, ">>": 3, "|": 2, "&": 2, "^": 2, "!": 2, "+": 1, "-": 1}  # as GNU as has them
 CHARACTERS = {"n": 10, "t": 9, "r": 13, "b": 8, "f": 12}
+OCTAL = set("01234567")
+NUMBERS = [(8, re.compile(r"0([0-7]+)")), (16, re.compile(r"0[xX]([0-9A-Fa-f]+)")), (2, re.compile(r"0[bB]([01]+)")), (10, re.compile(r"(0|[1-9][0-9]*)"))]
+SHOWN = 24  # characters of a number that is too large
 WRAP = 2**64  # GNU as computes modulo this; a shift right fills with zeros
+MOST_NESTED = 100  # parentheses, signs and names within one another
 
 Value = collections.namedtuple("Value", "name number")  # a label, or None, and what is added to it
 
@@ -20,12 +26,19 @@ def number_value(word):
     if word[0] == "'":
         if word[1] != "\\":
             return ord(word[1])
-        return int(word[2], 8) if word[2].isdigit() else CHARACTERS.get(word[2], ord(word[2]))
-    if re.fullmatch(r"0[0-7]+", word):
-        return int(word, 8)
-    if re.fullmatch(r"0|[1-9][0-9]*|0[xX][0-9A-Fa-f]+|0[bB][01]+", word):
-        return int(word, 0)
-    raise Unwritable(f"`{word}` is no number")
+        return int(word[2], 8) if word[2] in OCTAL else CHARACTERS.get(word[2], ord(word[2]))
+    base, found = next(((base, found) for base, form in NUMBERS if (found := form.fullmatch(word))), (10, None))
+    if not found:
+        raise Unwritable(f"`{word}` is no number")
+    value = value_of(found[1], base)
+    if value is None:
+        raise Unwritable(f"`{word if len(word) <= SHOWN else word[:SHOWN] + '..'}` has more than 64 bits")
+    return value
+
+
+def wrapped(number):
+    """A sum as it is where it has at most 64 bits, so that what is outside the range of its line is refused there; else modulo that."""
+    return number if abs(number) < WRAP else (number + WRAP // 2) % WRAP - WRAP // 2
 
 
 def divided(left, right):
@@ -39,9 +52,9 @@ def divided(left, right):
 def combined(mark, left, right):
     """What an operator makes of two values; only + and - take labels."""
     if mark == "+" and not (left.name and right.name):
-        return Value(left.name or right.name, left.number + right.number)
+        return Value(left.name or right.name, wrapped(left.number + right.number))
     if mark == "-" and not right.name:
-        return Value(left.name, left.number - right.number)
+        return Value(left.name, wrapped(left.number - right.number))
     if left.name or right.name:
         raise Unwritable("only a number can be added to a label or taken from it")
     a, b = left.number, right.number
@@ -55,11 +68,14 @@ def combined(mark, left, right):
 
 
 class Expression:
-    """Reads one expression of GNU as; `names` looks up the value of a name, and the distance of two labels."""
+    """Reads one expression of GNU as; `names` looks up the value of a name, and the distance of two labels.
 
-    def __init__(self, text, names):
-        self.words = ATOM.findall(text)
-        self.names = names
+    `depth` is in how many names, signs and parentheses it stands.
+    """
+
+    def __init__(self, text, names, depth=0):
+        self.words = collections.deque(ATOM.findall(text))
+        self.names, self.depth = names, depth
 
     def value(self):
         value = self.ranked(1)
@@ -70,30 +86,38 @@ class Expression:
     def ranked(self, least):
         value = self.prefixed()
         while self.words and RANKS.get(self.words[0], 0) >= least:
-            mark = self.words.pop(0)
+            mark = self.words.popleft()
             right = self.ranked(RANKS[mark] + 1)
             if mark == "-" and value.name and right.name:
-                value = Value(None, self.names.distance(value.name, right.name) + value.number)
+                value = Value(None, wrapped(self.names.distance(value.name, right.name) + value.number))
                 right = Value(None, right.number)
             value = combined(mark, value, right)
+        return value
+
+    def within(self, read):
+        """What is read one level deeper."""
+        if self.depth == MOST_NESTED:
+            raise Unwritable(f"more than {MOST_NESTED} parentheses, signs and names stand within one another")
+        self.depth += 1
+        value = read()
+        self.depth -= 1
         return value
 
     def prefixed(self):
         if not self.words:
             raise Unwritable("an expression is missing")
-        word = self.words.pop(0)
+        word = self.words.popleft()
         if word == "(":
-            value = self.ranked(1)
-            if self.words[:1] != [")"]:
+            value = self.within(lambda: self.ranked(1))
+            if not self.words or self.words.popleft() != ")":
                 raise Unwritable("`)` is missing")
-            self.words.pop(0)
             return value
         if word in ("-", "~", "+"):
-            value = self.prefixed()
+            value = self.within(self.prefixed)
             if word == "+":
                 return value
             value = combined("-", Value(None, 0), value)
-            return value if word == "-" else Value(None, value.number - 1)
+            return value if word == "-" else Value(None, wrapped(value.number - 1))
         if word[0] == "'" and word != "'" or word[0].isdigit() and not NUMERIC_LABEL.fullmatch(word):
             return Value(None, number_value(word))
-        return self.names.look_up(word)
+        return self.within(lambda: self.names.look_up(word, self.depth))

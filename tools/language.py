@@ -1,6 +1,7 @@
-"""What the tools know of the language of docs/ASSEMBLER.md: its mnemonics, directives and statements."""
+"""What the tools know of the language of docs/ASSEMBLER.md: its mnemonics, directives, numbers and statements."""
 import pathlib
 import re
+from typing import Iterator, List, Optional, Tuple
 
 ROOT = pathlib.Path(__file__).resolve().parent.parent
 TABLE = ROOT / "crates" / "spu_decode" / "specs" / "Table.antt"
@@ -53,42 +54,72 @@ REGISTER = re.compile(rf"\$(?:{SMALL}|lr|sp)", re.A)
 CHANNEL = re.compile(rf"(?:\$ch)?{SMALL}", re.A)
 NUMBER = re.compile(r"0|[1-9]\d*|0x[0-9A-Fa-f]+")
 NAME = re.compile(r"[A-Za-z_.][\w.]*", re.A)
-# A string, a character, or a comment, each of which hides what it holds.
-HIDING = re.compile(r"\"(?:\\.|[^\"\\\n])*\"|'(?:\\.|[^\\\n])'?|/\*.*?\*/|#[^\n]*", re.S)
-PIECE = re.compile(r"\"(?:\\.|[^\"\\])*\"|'(?:\\.|[^\\])'?|.", re.S)
+NAME_OF_SECTION = re.compile(r"[\s\"]*([\w.]*)", re.A)
+STRING = r'"[^"\\{0}]*(?:\\.[^"\\{0}]*)*"?'  # also one that nothing ends, so that its quote isn't looked at again
+# A string or a character, each of which hides what it holds, and where a comment begins.
+HIDING = re.compile(STRING.format(r"\n") + r"|'(?:\\.|[^\\\n])'?|/\*|#[^\n]*", re.S)
+PIECE = re.compile(STRING.format("") + r"|'(?:\\.|[^\\])'?|[(),;]", re.S)
+BITS = 64  # of a number
+STORE = 262_144  # bytes of a local store
 
 
 def operand_forms():
     """For each mnemonic the form of its operands, a key of FORMS."""
-    rows = dict(ROW.findall(TABLE.read_text()))
+    rows = dict(ROW.findall(TABLE.read_text(encoding="utf-8")))
     return {**rows, "lr": "RtRa"}
 
 
-def without_comments(text):
+def value_of(digits: str, base: int) -> Optional[int]:
+    """The value of digits; None above 64 bits, however many digits they are: Python reads no decimal of some thousands."""
+    digits = digits.lstrip("0")
+    value = int(digits or "0", base) if len(digits) <= BITS else 1 << BITS
+    return value if value < 1 << BITS else None
+
+
+def number_in(word: str) -> Optional[int]:
+    """The number of the language that a word spells; None where it spells none."""
+    if not NUMBER.fullmatch(word):
+        return None
+    return value_of(word[2:], 16) if word.startswith("0x") else value_of(word, 10)
+
+
+def hiding(text: str) -> Iterator[Tuple[int, int]]:
+    """Where each string, character and comment of a text begins and ends. Where nothing ends a comment, none begins."""
+    at, has_end = 0, True
+    while found := HIDING.search(text, at):
+        start, at = found.span()
+        if found[0] == "/*":
+            end = text.find("*/", at) if has_end else -1
+            has_end = end >= 0
+            if not has_end:
+                continue
+            at = end + 2
+        yield start, at
+
+
+def without_comments(text: str) -> str:
     """The text with a blank for each comment; a comment of several lines keeps its line feeds."""
-
-    def kept(found):
-        piece = found[0]
-        if piece[0] == "#":
-            return ""
-        return " " + "\n" * piece.count("\n") if piece[0] == "/" else piece
-
-    return HIDING.sub(kept, text)
+    kept, at = [], 0
+    for start, end in hiding(text):
+        if text[start] in "#/":
+            kept += [text[at:start], " " + "\n" * text.count("\n", start, end) if text[start] == "/" else ""]
+            at = end
+    return "".join([*kept, text[at:]])
 
 
-def cut(text, mark):
+def cut(text: str, mark: str) -> List[str]:
     """The parts of a text between marks that stand outside strings and parentheses."""
-    parts, depth = [""], 0
-    for piece in PIECE.findall(text):
+    parts, depth, at = [], 0, 0
+    for found in PIECE.finditer(text):
+        piece = found[0]
         depth += (piece == "(") - (piece == ")")
         if piece == mark and depth <= 0:
-            parts.append("")
-        else:
-            parts[-1] += piece
-    return parts
+            parts.append(text[at:found.start()])
+            at = found.end()
+    return [*parts, text[at:]]
 
 
-def is_text_section(word, rest):
+def is_text_section(word: str, rest: str) -> bool:
     """Whether a section directive goes on in the text."""
-    name = rest.split(",")[0].strip().strip('"')
+    name = NAME_OF_SECTION.match(rest)[1]
     return word == ".text" or word == ".section" and (name == ".text" or name.startswith(".text."))

@@ -1,19 +1,15 @@
-"""Asks the programs of this repository about the run of a record: `cell check`, and run_trace, which is built first where it isn't."""
+"""Asks the programs of this repository about the run of a record: `cell check`, and run_trace. tools/launch builds them first where they aren't built."""
 import bisect
-import contextlib
 import functools
 import os
-import pathlib
 import re
-import shutil
 import subprocess
 import sys
-import tempfile
 
 from language import ROOT
 
-CRATE = ROOT / "crates" / "run_trace"
-PROGRAM = CRATE / "out" / "run_trace"
+LAUNCH = ROOT / "tools" / "launch"
+UNPROVED = 3  # what it answers where the programs are to be run unproved
 
 # What to do next, by what `cell` says of a run.
 ADVICE = [
@@ -32,10 +28,10 @@ class Refused(Exception):
     """What a tool tells where it can't answer."""
 
 
-def ended(command, **how):
+def ended(command):
     """A command that has ended, with what it wrote."""
     try:
-        return subprocess.run(command, capture_output=True, text=True, errors="backslashreplace", **how)
+        return subprocess.run(command, capture_output=True, encoding="utf-8", errors="backslashreplace")
     except OSError as why:
         raise Refused(f"{command[0]}: {why.strerror}") from None
 
@@ -57,64 +53,33 @@ def next_step(said, machine, record):
 
 def verdict(machine, record):
     """What `check` says of a record, line by line. Refused where it finds that the record is no run of the machine file."""
-    done = ended([ROOT / "cell", "check", machine, record])
+    done = asked("cell_cli", "check", machine, record)
     if done.returncode not in (0, 1) or not done.stdout:
         said = said_of(done)
         raise Refused(said + next_step(said, machine, record))
     return done.stdout.splitlines()
 
 
-@functools.cache  # the files are looked at once, however often run_trace is asked
-def is_current():
-    """Whether run_trace is built from the files as they are."""
-    if not PROGRAM.exists():
-        return False
-    built = PROGRAM.stat().st_mtime
-    return all(os.stat(path).st_mtime <= built for path in built_from())
+@functools.cache  # the sources are looked at once, however often a program is asked
+def prepare():
+    """Sees that the programs are built, which tells how far it is where they aren't. Whether they are proved: False where they are to be run unproved."""
+    status = subprocess.run([LAUNCH, "--build"], stdin=subprocess.DEVNULL).returncode
+    if status not in (0, UNPROVED):
+        raise Refused("the programs that it asks aren't built")
+    if status == UNPROVED:
+        print("running UNPROVED code, since CELL_TRY is set", file=sys.stderr)
+    return status == 0
 
 
-def built_from():
-    """The files that run_trace is built from, and their folders."""
-    yield ROOT / "crates.txt"
-    for crate in os.scandir(ROOT / "crates"):
-        for part in ("src", "specs", "proofs"):
-            for folder, folders, names in os.walk(os.path.join(crate, part)):
-                yield from (os.path.join(folder, name) for name in (*folders, *names))
-
-
-def build():
-    """Lets `rt` prove and build run_trace."""
-    if not shutil.which("rt"):
-        raise Refused(f"{PROGRAM} isn't built, and there is no `rt`, the kit's command, to build it with")
-    print("proving and building run_trace first, which takes some minutes; CELL_TRY=1 would run unproved code at once", file=sys.stderr)
-    log = CRATE / "out" / "build.log"
-    log.parent.mkdir(exist_ok=True)
-    with open(log, "w") as file:
-        # without words it says which it takes, once it is built
-        subprocess.run(["rt", "run"], cwd=CRATE, stdin=subprocess.DEVNULL, stdout=file, stderr=file)
-    is_current.cache_clear()
-    if not is_current():
-        raise Refused(f"run_trace isn't proved or isn't built: see {log}")
-
-
-def tracer_command(machine, words):
-    """The command that asks run_trace; unproved where CELL_TRY is set and it isn't built."""
-    if is_current():
-        return [PROGRAM, *words], {}
-    if not os.environ.get("CELL_TRY") or not shutil.which("rt"):
-        build()
-        return [PROGRAM, *words], {}
-    print("running UNPROVED code, since CELL_TRY is set", file=sys.stderr)
-    named = ended([ROOT / "tools" / "sources", machine]).stdout.split()
-    data = [word for name in named if os.path.isfile(name) for word in ("--data", f"{name}={os.path.abspath(name)}")]
-    paths = [os.path.abspath(word) if os.path.exists(word) else word for word in words]
-    return ["rt", "try", *data, "--", *paths], {"cwd": CRATE}
+def asked(program, *words):
+    """What a program answers."""
+    launcher = [ROOT / "crates" / program / "out" / program] if prepare() else [LAUNCH, program]
+    return ended([*launcher, *words])
 
 
 def ask_tracer(form, machine, record, *more):
     """The lines that a form of run_trace prints of a record."""
-    command, how = tracer_command(machine, [form, str(machine), str(record), *more])
-    done = ended(command, **how)
+    done = asked("run_trace", form, os.fspath(machine), os.fspath(record), *more)
     if done.returncode:
         verdict(machine, record)  # says it in the words of `cell`, where the fault is in the files
         raise Refused(f"run_trace: {said_of(done)}")
@@ -136,26 +101,3 @@ class Places:
 def places_before(machine, record, place):
     """The places that are ordered before a place."""
     return Places(ask_tracer("before", machine, record, str(place)))
-
-
-@contextlib.contextmanager
-def kept(record):
-    """A record's file that can be read more than once: a pipe is copied first."""
-    path = pathlib.Path(record)
-    if path.is_file() or not path.exists():
-        yield record
-        return
-    if path.is_dir():
-        raise Refused(f"{record} is a folder: a record is a file")
-    with tempfile.TemporaryDirectory(prefix="cell-record-") as folder:
-        copy = pathlib.Path(folder) / "record"
-        copy.write_bytes(path.read_bytes())
-        yield str(copy)
-
-
-def lines_of(record):
-    """The lines of a record file; Refused where it can't be read."""
-    try:
-        return pathlib.Path(record).read_text(errors="backslashreplace").splitlines()
-    except OSError as why:
-        raise Refused(f"{record}: {why.strerror}") from None

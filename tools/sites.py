@@ -1,15 +1,15 @@
 """Where the instructions of a machine come from: of each processor's addresses the file, the line and the text that was placed there."""
-import pathlib
 import re
 
 from language import without_comments
 from placed import LABELS, placed_lines
 from runs import Refused
+from texts import lines_of
 
 ORIGIN = re.compile(r"\s*(\S+:\d+)(?:\s|$)")  # what from_gas puts at the front of a line's comment
 # The opcodes of branches that set a link, and of the bits of a word that they are.
 CALLS = {(23, 0x66), (23, 0x62), (21, 0x1A9)}
-ORG = re.compile(r"^[^#\"]*\.org\b")
+WORD = re.compile(r"[^ \t]+")  # of a machine file
 MOST_CALLS = 64  # nested calls that are kept in mind
 
 
@@ -53,16 +53,21 @@ def source_lines(name):
         raise Refused(f"{name}: {why}") from None
 
 
+def groups_of(lines):
+    """The lines behind each line that has labels or an `.org`, with it, up to the next such line."""
+    group = []
+    for line in lines:
+        if line.labels or line.word == ".org":
+            yield group
+            group = []
+        group.append(line)
+    yield group
+
+
 def source_labels(lines):
     """The labels of a source: of each its address, and how many bytes stand behind it up to the next label or the next `.org`."""
-    labels, since = {}, []
-    for line in lines:
-        if line.labels or ORG.search(line.text):
-            since = line.labels
-            labels.update((label, [line.address, 0]) for label in since)
-        for label in since:
-            labels[label][1] += len(line.data)
-    return {label: tuple(place) for label, place in labels.items()}
+    sizes = ((group[0], sum(len(line.data) for line in group)) for group in groups_of(lines) if group)
+    return {label: (line.address, size) for line, size in sizes for label in line.labels}
 
 
 def source_sites(name, lines):
@@ -82,22 +87,29 @@ def code_sites(name, number, address, digits):
     return {address + at: Site(name, number, f"the word 0x{word}", int(word, 16), is_source=False) for at, word in words.items()}
 
 
-class Sites:
-    """The sites and the labels of each processor of a machine file, the modes of its signal registers, and the lines of the host's script."""
+def machine_lines(machine, name):
+    """The lines of a machine file, which has a name."""
+    try:
+        return lines_of(machine)
+    except OSError as why:
+        raise Refused(f"{name}: {why.strerror}") from None
 
-    def __init__(self, machine):
-        self.machine, self.of_processor, self.labels, self.script = machine, [], [], []
+
+class Sites:
+    """The sites and the labels of each processor of a machine file, the modes of its signal registers, and the lines of the host's script.
+
+    `name` is what the user calls the machine file, where another one is read in its place.
+    """
+
+    def __init__(self, machine, name=None):
+        self.machine, self.of_processor, self.labels, self.script = name or machine, [], [], []
         self.or_modes = set()  # the processors and numbers of the signal registers in OR mode
         self.sources = {}  # by their names the sites and the labels of each
-        try:
-            text = pathlib.Path(machine).read_text(errors="backslashreplace")
-        except OSError as why:
-            raise Refused(f"{machine}: {why.strerror}") from None
-        for number, line in enumerate(text.splitlines(), 1):
+        for number, line in enumerate(machine_lines(machine, self.machine), 1):
             try:
-                self.read(number, line.split("#")[0].split())
+                self.read(number, WORD.findall(line.partition("#")[0]))
             except (IndexError, ValueError):
-                raise Refused(f"{machine}:{number}: no line of a machine file\n    tools/explain {machine} says it in words") from None
+                raise Refused(f"{self.machine}:{number}: no line of a machine file\n    tools/explain {self.machine} says it in words") from None
 
     def read(self, number, words):
         """Takes in a line of the machine file."""

@@ -1,8 +1,18 @@
-#!/usr/bin/env python3
+#!/bin/sh
+"trap" "" "INT"  # sh reads these two lines, and Python the others: tools/starting.py says why
+"exec" "python3" "$0" "$@"
 # Writes src/row.rt and src/table.rt of crates/spu_decode from the instruction table in its specs/Table.antt.
 # Usage: tools/table.py   (from anywhere; then `rt check` in crates/spu_decode proves that they say what the table says)
+import os
+import sys
+
+sys.path.insert(0, os.path.dirname(os.path.realpath(__file__)))
+import starting  # noqa: E402, F401  (before all others)
+
 import pathlib
 import re
+
+from ending import end
 
 CRATE = pathlib.Path(__file__).resolve().parent.parent / "crates" / "spu_decode"
 ENTRY = re.compile(r'^entry_of (\w+) = row \(codes "(\w+)"\) (\w+) 0x([0-9A-F]+) (\w+)$', re.M)
@@ -56,11 +66,11 @@ def table_file(rows):
     )
 
 
-def main():
+def main(_):
     rows = read_rows()
     (CRATE / "src" / "row.rt").write_text(row_file(rows))
     (CRATE / "src" / "table.rt").write_text(table_file(rows))
 
 
 if __name__ == "__main__":
-    main()
+    end(main)

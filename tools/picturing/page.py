@@ -2,6 +2,7 @@
 import base64
 import html
 import json
+import os
 import pathlib
 import re
 import zlib
@@ -11,6 +12,7 @@ from picturing.bars import Arrows, atomics, bars, slots
 from picturing.ranges import lane, overview, touched
 from picturing.rows import own_rows
 from picturing.story import BEHIND, other_words, race_pairs, race_steps, race_words, waits
+from texts import shown
 
 HERE = pathlib.Path(__file__).resolve().parent
 SCRIPTS = ("data", "order", "layout", "rows", "lines", "labels", "arrows", "drawing", "memory", "side", "actions")
@@ -28,6 +30,15 @@ def packed(text):
 
 def jsoned(value):
     return json.dumps(value, separators=(",", ":"), ensure_ascii=False)
+
+
+def readable(value):
+    """A value of which each text is as it is shown."""
+    if isinstance(value, str):
+        return shown(value)
+    if isinstance(value, dict):
+        return {key: readable(part) for key, part in value.items()}
+    return [readable(part) for part in value] if isinstance(value, (list, tuple)) else value
 
 
 def nearest(keys, focus):
@@ -102,7 +113,7 @@ def tables_of(run, keys, code):
 
 def facts_of(run, sources, code):
     """The facts that the page begins with."""
-    return {"machine": str(run.machine), "record": str(run.name), "verdict": run.verdict, "end": run.end.word, "count": run.count, "spes": run.spes,
+    return {"machine": str(run.machine), "record": str(run.record), "verdict": run.verdict, "end": run.end.word, "count": run.count, "spes": run.spes,
             "script": [text for _, text in run.sites.script], "sources": sources, "code": code, "block": BLOCK, "rules": RULES,
             "states": [[status.text, status.pc] for status in run.end.spes], "host": run.end.host, "focus": focus_of(run), "story": story_of(run),
             "waits": waits(run) if run.end.word == "Stuck" else [], "overview": overview(run.trace.lines, run.spes), "touched": touched(run.text)}
@@ -117,15 +128,15 @@ def page_of(run):
     """The page, in parts that follow one another."""
     sources, code = sites_of(run)
     keys = nearest(own_rows(run), focus_of(run))
-    title = f"{pathlib.Path(run.machine).name}: {run.verdict}"
-    style = (HERE / "picture.css").read_text()
+    title = shown(f"{os.path.basename(str(run.machine))}: {run.verdict}")
+    style = (HERE / "picture.css").read_text(encoding="utf-8")
     yield '<!doctype html>\n<html lang="en"><head><meta charset="utf-8"><meta name="viewport" content="width=device-width">\n'
     yield f"<title>{html.escape(title)}</title>\n<style>\n{style}</style></head>\n<body>\n"
-    yield (HERE / "picture.html").read_text()
-    yield f'<script id="facts" type="application/json">{safe(jsoned(facts_of(run, sources, code)))}</script>\n'
+    yield (HERE / "picture.html").read_text(encoding="utf-8")
+    yield f'<script id="facts" type="application/json">{safe(jsoned(readable(facts_of(run, sources, code))))}</script>\n'
     yield f'<script id="tables" type="text/plain">{packed(jsoned(tables_of(run, keys, code)))}</script>\n'
     yield '<script id="steps" type="text/plain">' + "\n".join(blocks_of(run)) + "</script>\n"
-    yield "<script>\n'use strict';\n" + "".join((HERE / f"{name}.js").read_text() for name in SCRIPTS) + "</script>\n</body></html>\n"
+    yield "<script>\n'use strict';\n" + "".join((HERE / f"{name}.js").read_text(encoding="utf-8") for name in SCRIPTS) + "</script>\n</body></html>\n"
 
 
 def safe(text):

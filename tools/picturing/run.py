@@ -46,15 +46,15 @@ class End:
 class Run:
     """A run, and what is asked of it more than once."""
 
-    def __init__(self, machine, record, pair=None, name=None):
-        self.machine, self.record, self.name = machine, record, name or record
+    def __init__(self, machine, record, pair=None):
+        self.machine, self.record = machine, record
         self.verdict = verdict(machine, record)[0]
         found = RACE.match(self.verdict)
         self.pair = pair or (tuple(map(int, found.groups())) if found else None)
         self.trace = Trace(ask_tracer("effects", machine, record))
         self.count = len(self.trace.lines)
         self.end = End(ask_tracer("states", machine, record, str(self.count)))
-        self.sites = Sites(machine)
+        self.sites = Sites(machine, str(machine))
         self.order = Order(self.trace)
         self.spes = len(self.sites.of_processor)
 

@@ -1,0 +1,192 @@
+"""How ./cell, ./hunt and the tools come to the programs that they run: a copy of them in a folder of small crates, with an `rt` that proves nothing."""
+import contextlib
+import os
+import pathlib
+import shutil
+import signal
+import subprocess
+import tempfile
+import time
+from typing import Iterator
+
+from hostility.rows import ROOT, Ended, Row, ended, shown
+
+SECONDS = 20
+MEGABYTES = 2048
+PATH_WITHOUT_KIT = "/usr/bin:/bin"
+MACHINE = b"cell-machine 1\nlines 1\nbudget 1\nspe\n"
+PROGRAM = """#!/bin/sh
+[ "$1 $3" = "check /dev/null" ] && { echo "cell: record file, line 1" >&2; exit 5; }
+echo "ran ${0##*/} $*"
+"""
+# What `rt all check` and `rt run` print and leave, as far as the launcher looks at it. With the file `slow` it never ends, and says where it is.
+RT = f"""#!/bin/sh
+case $1 in
+version)
+    echo "kit of tests"
+    ;;
+all)
+    [ -e slow ] && {{ echo "== cell_cli"; : >begun; exec sleep 60; }}
+    printf '%s\\n' "== cell_cli" "== hunt" "== run_trace" "== summary" "3 of 3 crates ok"
+    ;;
+run)
+    mkdir -p out && cat >"out/${{PWD##*/}}" <<'END' && chmod +x "out/${{PWD##*/}}"
+{PROGRAM}END
+    ;;
+esac
+"""
+TOLD = [f"cell: {number} of 3 crates, {name}".encode() for number, name in enumerate(("cell_cli", "hunt", "run_trace"), 1)]
+
+
+@contextlib.contextmanager
+def unbuilt() -> Iterator[pathlib.Path]:
+    """A checkout of three crates, of which nothing is built, with an `rt` in kit/ and a machine file."""
+    with tempfile.TemporaryDirectory(prefix="cell-launching-") as room:
+        folder = pathlib.Path(room).resolve()
+        shutil.copytree(ROOT / "tools", folder / "tools", ignore=shutil.ignore_patterns("__pycache__"))
+        for name in ("cell", "hunt"):
+            shutil.copy(ROOT / name, folder)
+        for crate in ("cell_cli", "hunt", "run_trace"):
+            for part in ("src", "specs", "proofs"):
+                (folder / "crates" / crate / part).mkdir(parents=True)
+        shutil.copytree(ROOT / "crates" / "spu_decode" / "specs", folder / "crates" / "spu_decode" / "specs")
+        (folder / "crates.txt").write_text("cell_cli:\nhunt:\nrun_trace:\n")
+        (folder / "kit").mkdir()
+        (folder / "kit" / "rt").write_text(RT)
+        (folder / "kit" / "rt").chmod(0o755)
+        (folder / "first.cell").write_bytes(MACHINE)
+        (folder / "first.out").write_bytes(b"cell-record 2\nsteps 0\n")
+        yield folder
+
+
+def path_with_rt(folder: pathlib.Path) -> str:
+    """The PATH of that checkout."""
+    return f"{folder / 'kit'}:{os.environ['PATH']}"
+
+
+def called(folder: pathlib.Path, *words: str) -> Ended:
+    """What comes of a call in that checkout."""
+    command = [str(folder / words[0]), *words[1:]]
+    found = ended(command, folder, SECONDS, MEGABYTES, environment={"PATH": path_with_rt(folder), "CELL_TRY": ""})
+    return found or Ended(-1, b"", f"no end within {SECONDS} seconds".encode())
+
+
+def first_calls_tell_progress() -> Iterator[str]:
+    """Whatever is called first builds the programs, and says how far it is."""
+    calls = [("hunt", "first.cell", "4"), ("hunt", "first.cell", "record", "2"), ("tools/picture", "--run", "2", "first.cell"),
+             ("tools/race", "first.cell", "first.out"), ("tools/states", "first.cell", "first.out"), ("tools/explain", "first.cell"),
+             ("tools/listing", "first.cell"), ("tools/debug", "first.cell"), ("cell", "asm", "first.cell")]
+    for words in calls:
+        with unbuilt() as folder:
+            found = called(folder, *words)
+            if not all(line in found.error for line in TOLD):
+                yield "\n".join([f"{' '.join(words)} doesn't tell how far it builds", *shown(found)])
+
+
+def first_hunt_answers() -> Iterator[str]:
+    """A hunt builds all programs at once, and answers."""
+    with unbuilt() as folder:
+        found = called(folder, "hunt", "first.cell", "4")
+        if found.status != 0 or found.output != b"ran hunt first.cell 4\n":
+            yield "\n".join(["the first hunt doesn't answer", *shown(found)])
+        again = called(folder, "cell", "run", "first.cell")
+        if again.error or again.output != b"ran cell_cli run first.cell\n":
+            yield "\n".join(["the hunt has not built all programs", *shown(again)])
+
+
+def unbuilt_is_no_refusal() -> Iterator[str]:
+    """Where nothing can be built, a hunt says so."""
+    with unbuilt() as folder:
+        (folder / "kit" / "rt").unlink()
+        for name in ("sh", "readlink", "dirname", "find", "sort", "sha256sum", "cut", "cat"):
+            (folder / "kit" / name).symlink_to(shutil.which(name))
+        found = ended([str(folder / "hunt"), "first.cell", "4"], folder, SECONDS, MEGABYTES, environment={"PATH": str(folder / "kit")})
+        if found is None or found.status != 70 or b"cell: not built, and there is no rt to build it\n" != found.error:
+            yield "\n".join(["a hunt that can't be built isn't told", *(shown(found) if found else [])])
+
+
+def killed_build_leaves_nothing() -> Iterator[str]:
+    """A build that is killed leaves its log alone."""
+    with unbuilt() as folder:
+        (folder / "slow").touch()
+        process = subprocess.Popen([folder / "cell", "run", "first.cell"], cwd=folder, env={**os.environ, "PATH": path_with_rt(folder), "CELL_TRY": ""},
+                                   stderr=subprocess.DEVNULL, start_new_session=True)
+        until = time.monotonic() + SECONDS
+        while not (folder / "begun").exists() and time.monotonic() < until:
+            time.sleep(0.01)
+        os.killpg(process.pid, signal.SIGKILL)
+        process.wait()
+        left = sorted(path.name for path in (folder / "crates" / "cell_cli" / "out").iterdir())
+        if left != ["build.log"]:
+            yield f"a killed build leaves {' '.join(left)}"
+
+
+def without_kit(folder: pathlib.Path, *words: str) -> Ended:
+    """What comes of a call in that checkout on a machine without a kit."""
+    command = [str(folder / words[0]), *words[1:]]
+    found = ended(command, folder, SECONDS, MEGABYTES, environment={"PATH": PATH_WITHOUT_KIT, "CELL_TRY": ""})
+    return found or Ended(-1, b"", f"no end within {SECONDS} seconds".encode())
+
+
+@contextlib.contextmanager
+def released() -> Iterator[pathlib.Path]:
+    """A fresh checkout with programs in bin/, of which none is built."""
+    with unbuilt() as folder:
+        called(folder, "tools/dev/release")
+        for path in folder.glob("crates/*/out"):
+            shutil.rmtree(path)
+        yield folder
+
+
+def shipped_programs_are_taken() -> Iterator[str]:
+    """Without a kit the programs of bin/ run at once, where they are of the sources as they are, and whole."""
+    with released() as folder:
+        for words, output in ((("hunt", "first.cell", "4"), b"ran hunt first.cell 4\n"), (("cell", "asm", "first.cell"), b"ran cell_cli asm first.cell\n")):
+            found = without_kit(folder, *words)
+            if found.status or found.error or found.output != output:
+                yield "\n".join([f"{' '.join(words)} doesn't run the program of bin/", *shown(found)])
+    changes = {"a source that changed": lambda folder: (folder / "crates" / "hunt" / "src" / "new.rt").touch(),
+               "a program that changed": lambda folder: (folder / "bin" / "hunt").write_bytes(b"#!/bin/sh\n")}
+    for what, change in changes.items():
+        with released() as folder:
+            change(folder)
+            found = without_kit(folder, "cell", "asm", "first.cell")
+            if found.status != 70:
+                yield "\n".join([f"{what}: a program of bin/ is run", *shown(found)])
+
+
+def shipped_programs_are_compared() -> Iterator[str]:
+    """Programs that are built here are compared with those of bin/, where the kit is the same."""
+    with released() as folder:
+        proved = called(folder, "cell", "prove")
+        if proved.status or b"byte by byte" not in proved.error:
+            yield "\n".join(["what is proved isn't compared with bin/", *shown(proved)])
+        (folder / "bin" / "hunt").write_bytes(b"#!/bin/sh\n")
+        differs = called(folder, "tools/launch", "--compare")
+        if differs.status != 1 or b"hunt of bin/ isn't" not in differs.error:
+            yield "\n".join(["a program of bin/ that differs isn't told", *shown(differs)])
+        manifest = folder / "bin" / "MANIFEST"
+        manifest.write_text(manifest.read_text().replace("kit of tests", "another kit"))
+        other = called(folder, "tools/launch", "--compare")
+        if other.status or b"another kit" not in other.error:
+            yield "\n".join(["programs of another kit are compared", *shown(other)])
+
+
+def full_file_is_told() -> Iterator[str]:
+    """A limit on the size of files is told as every output that can't be written, and not by a signal."""
+    with tempfile.TemporaryDirectory(prefix="cell-limit-") as room:
+        folder = pathlib.Path(room)
+        (folder / "m.cell").write_bytes(MACHINE + b"show ls 0 0 4096\n")
+        for words in (["cell", "run", "m.cell"], ["hunt", "m.cell", "record", "0"]):
+            done = subprocess.run(["sh", "-c", 'ulimit -f 1; exec "$@" >out', "sh", ROOT / words[0], *words[1:]], cwd=folder, stderr=subprocess.PIPE, timeout=SECONDS)
+            if done.returncode != 4 or done.stderr != f"{words[0]}: cannot write\n".encode():
+                yield f"{' '.join(words)} into a file that is full ends with status {done.returncode}, and says {done.stderr!r}"
+
+
+ROWS = [
+    Row("a machine file whose name awk takes for an assignment", ["tools/sources", "x=1.cell"], 0, printed=r"\Aa\.s\nb\.s\n\Z",
+        files={"x=1.cell": b"spe\nsource b.s # one\n source a.s#\nsource /c.s\n"}, standard_input=b"source d.s\n"),
+    Row("no machine file", ["tools/sources", "none.cell"], 2, said="cannot open none.cell|none.cell: No such file"),
+]
+CHECKS = [first_calls_tell_progress, first_hunt_answers, unbuilt_is_no_refusal, killed_build_leaves_nothing, shipped_programs_are_taken,
+          shipped_programs_are_compared, full_file_is_told]

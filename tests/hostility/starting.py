@@ -1,0 +1,86 @@
+"""How programs start: each tool under each Python that is there, without the settings on which it might hang, and with locales that have no letters but ASCII."""
+import functools
+import glob
+import os
+import re
+import subprocess
+from typing import Dict, Iterator, List, Optional, Set, Tuple
+
+from hostility.rows import ROOT, TRACEBACK, Row, ended, shown
+
+TOOLS = ("debug", "explain", "from_gas", "listing", "picture", "race", "site_lines", "states", "witness")
+OLDEST = (3, 9)
+FOLDERS = ["/usr/bin", "/usr/local/bin", *glob.glob(os.path.expanduser("~/.pyenv/versions/*/bin")),
+           *(folder for folder in os.environ["PATH"].split(":") if os.path.basename(folder) != "shims")]
+# Options of Python, and what is set: each start takes one of these.
+PLAIN = {"PYTHONSAFEPATH": "1", "LC_ALL": "C", "PYTHONIOENCODING": "ascii"}
+SETTINGS: List[Tuple[List[str], Dict[str, str]]] = [(["-I", "-S"], {"LC_ALL": "C"}), ([], PLAIN)]
+# Loads programs, as `import` does with a module.
+LOAD = """
+import runpy, sys
+for path in sys.argv[1:]:
+    sys.argv[0] = path
+    runpy.run_path(path)
+"""
+SECONDS = 20
+MEGABYTES = 2048
+CYRILLIC = "\u0436.s"
+
+
+def version_of(path: str) -> Optional[Tuple[int, int]]:
+    """The version of a Python; None of a program that is none."""
+    done = subprocess.run([path, "-I", "-S", "-c", "import sys; print(*sys.version_info[:2])"], stdout=subprocess.PIPE, stderr=subprocess.DEVNULL)
+    numbers = done.stdout.split()
+    return (int(numbers[0]), int(numbers[1])) if done.returncode == 0 and len(numbers) == 2 else None
+
+
+@functools.cache
+def pythons() -> List[str]:
+    """The Pythons of this machine for which the tools are written, one of each version, by their versions."""
+    names = re.compile(r"python3(\.\d+)?")
+    paths = [path for folder in FOLDERS for path in sorted(glob.glob(f"{folder}/python3*")) if names.fullmatch(os.path.basename(path))]
+    seen: Set[str] = set()
+    found: Dict[Tuple[int, int], str] = {}
+    for path in paths:
+        if os.path.realpath(path) in seen:
+            continue
+        seen.add(os.path.realpath(path))
+        version = version_of(path)
+        if version and version >= OLDEST:
+            found.setdefault(version, path)
+    return [found[version] for version in sorted(found)]
+
+
+def usage_faults(python: str, number: int) -> Iterator[str]:
+    """What is wrong with the usage texts of the tools under a Python."""
+    for place, tool in enumerate(TOOLS):
+        options, environment = SETTINGS[(number + place) % len(SETTINGS)]
+        command = [python, *options, str(ROOT / "tools" / tool)]
+        found = ended(command, ROOT, SECONDS, MEGABYTES, environment=environment)
+        if found is None or found.status != 2 or b"Usage: tools/" not in found.error or TRACEBACK in found.error:
+            yield "\n".join([" ".join(command), *(shown(found) if found else [])])
+
+
+def each_tool_starts() -> Iterator[str]:
+    """Each tool tells its usage under each Python."""
+    for number, python in enumerate(pythons()):
+        yield from usage_faults(python, number)
+
+
+def each_test_loads() -> Iterator[str]:
+    """The programs of tests/ and their modules load under the oldest and the newest Python."""
+    programs = [str(path) for path in sorted((ROOT / "tests").iterdir()) if path.is_file() and os.access(path, os.X_OK)]
+    for python in {pythons()[0], pythons()[-1]}:
+        found = ended([python, "-I", "-S", "-B", "-c", LOAD, *programs], ROOT, SECONDS, MEGABYTES)
+        if found is None or found.status:
+            yield "\n".join([f"{python} loads not all programs of tests/", *(shown(found) if found else [])])
+
+
+ROWS = [
+    Row("a race under plain settings", ["tools/race", "examples/races/reuse_race.cell", "examples/races/reuse_race.out"], 1, printed=r"\Arace 10 14\n",
+        before=lambda folder: (folder / "examples").symlink_to(ROOT / "examples"), environment=PLAIN),
+    Row("states under plain settings", ["tools/states", "examples/first.cell", "examples/first.out"], 0, printed=r"^end AllStopped\n",
+        before=lambda folder: (folder / "examples").symlink_to(ROOT / "examples"), environment=PLAIN),
+    Row("a name that isn't ASCII", ["tools/from_gas", CYRILLIC], 2, said=rf"\Afrom_gas: {CYRILLIC}: No such file", environment=PLAIN),
+]
+CHECKS = [each_tool_starts, each_test_loads]

@@ -1,0 +1,77 @@
+"""How the programs of tools/ and tests/ start: each imports this module before all others. An interrupt then ends it without a word, until `end` of ending.py
+takes over; its modules are found; and its texts are UTF-8 under every locale.
+
+Python tells an interrupt of its own start by a traceback. So the first lines of a tool are for sh, and strings for Python: they start Python with interrupts
+ignored, up to here.
+"""
+# the built-in part of the module `signal`, which is loaded at once
+from _signal import SIG_DFL, SIGINT, signal
+
+signal(SIGINT, SIG_DFL)
+
+import errno  # noqa: E402
+import io  # noqa: E402
+import os  # noqa: E402
+import sys  # noqa: E402
+
+OLDEST = (3, 9)  # of the Pythons that the programs are written for
+MISUSED = 2
+CLOSED = (os.O_WRONLY, os.O_RDONLY, os.O_WRONLY)  # how a standard file is opened that is closed, so that its use fails
+
+
+class StandardInput(io.FileIO):
+    """Standard input, whose faults name it."""
+
+    def readinto(self, buffer):
+        return named(super().readinto, buffer)
+
+    def readall(self):
+        return named(super().readall)
+
+
+def named(read, *buffer):
+    """What a function reads of standard input."""
+    try:
+        return read(*buffer)
+    except OSError as why:
+        raise OSError(why.errno, why.strerror, "standard input") from None
+
+
+def refuse_old():
+    """Ends the program where Python is too old for it."""
+    if sys.version_info < OLDEST:
+        print("%s: it wants Python 3.9 or later, and this is %d.%d" % (os.path.basename(sys.argv[0]), *sys.version_info[:2]), file=sys.stderr)
+        sys.exit(MISUSED)
+
+
+def find_modules():
+    """Has the modules found that lie beside the program. With -I and PYTHONSAFEPATH its folder isn't among those where Python looks."""
+    folder = os.path.dirname(os.path.realpath(sys.argv[0]))
+    if folder not in sys.path:
+        sys.path.insert(1, folder)
+
+
+def open_closed():
+    """Opens what is closed of the three standard files, each so that its use fails: else the next file that is opened would be taken for it."""
+    for number, how in enumerate(CLOSED):
+        try:
+            os.fstat(number)
+        except OSError as why:
+            if why.errno == errno.EBADF:
+                os.set_inheritable(os.open(os.devnull, how), True)
+
+
+def name_encodings():
+    """Has all texts in UTF-8. What isn't is shown as `\\xff`, and what can't be written, as it is escaped in Python."""
+    how = {"encoding": "utf-8", "errors": "backslashreplace"}
+    sys.stdin = io.TextIOWrapper(io.BufferedReader(StandardInput(0, closefd=False)), **how)
+    sys.stdout = sys.stdout or open(1, "w", closefd=False)
+    sys.stderr = sys.stderr or open(2, "w", closefd=False)
+    sys.stdout.reconfigure(**how)
+    sys.stderr.reconfigure(**how)
+
+
+refuse_old()
+find_modules()
+open_closed()
+name_encodings()
