@@ -1,0 +1,86 @@
+"""Calls of tools/witness: what it writes and what it never writes over, and records that have no race, or of which an order is refused."""
+import pathlib
+from typing import Optional
+
+from hostility.rows import ROOT, Row
+
+RACES = ROOT / "examples" / "races"
+SOURCE, RECORD = ((RACES / name).read_bytes() for name in ("reuse_race.s", "reuse_race.out"))
+MACHINE = b"cell-machine 1\nlines 1\nbudget 1000\nspe\nsource s.s\nshow mem 0 32\n"
+FILES = {"m.cell": MACHINE, "s.s": SOURCE, "m.out": RECORD}
+MINE = b"a page of my own\n"
+# A GET brings a `stop` over a `rdch` of the empty mailbox, to which the program goes: without the GET it waits there.
+BROUGHT = {
+    "m.cell": b"cell-machine 1\nlines 1\nbudget 1000\nspe\nsource s.s\nmem 0 00000002\n",
+    "s.s": b"_start:\tila $2,patch\n\twrch $ch16,$2\n\til $3,16\n\twrch $ch19,$3\n\til $4,0x40\n\twrch $ch21,$4\n\tbr patch\n"
+           b"\t.org 0x80\npatch:\trdch $5,$ch29\n",
+    "m.out": b"cell-record 2\nx 0 7\np 0 0 0 0\nx 0 1\nsteps 9\n",
+}
+# A tag status is asked for at once, after the GET is done, which orders nothing: asked for before, it shows no tag, and the program polls once more.
+POLLED = {
+    "m.cell": b"cell-machine 1\nlines 1\nbudget 1000\nspe\nsource s.s\nmem 0 01020304\n",
+    "s.s": b"_start:\til $3,16\n\twrch $ch19,$3\n\til $4,0x40\n\tila $5,buffer\n\twrch $ch16,$5\n\twrch $ch21,$4\n\til $6,1\n\twrch $ch22,$6\n\til $8,0\n"
+           b"poll:\twrch $ch23,$8\n\trdch $9,$ch24\n\tbrz $9,poll\n\til $10,0x20\n\twrch $ch21,$10\n\tstqa $9,buffer\n\tstop 1\n"
+           b"\t.org 0x100\nbuffer:\t.space 16\n",
+    "m.out": b"cell-record 2\nx 0 9\np 0 0 0 0\nx 0 6\np 0 1 0 0\nx 0 1\nsteps 18\n",
+}
+# Two PUTs of the same bytes.
+ALIKE = {
+    "m.cell": b"cell-machine 1\nlines 1\nbudget 1000\nspe\nsource s.s\n",
+    "s.s": b"_start:\til $3,16\n\twrch $ch19,$3\n\til $4,0x20\n\twrch $ch21,$4\n\twrch $ch21,$4\n\tstop 1\n",
+    "m.out": b"cell-record 2\nx 0 5\np 0 0 0 0\np 0 1 0 0\nx 0 1\nsteps 8\n",
+}
+WAITS = r"(?s)the second order is refused \([^()]*\): its step 7, x 0 \(step 8 of the record\), isn't allowed there\n.*\n    it waits at channel 29"
+BOTH, USAGE, TAKEN = "both end AllStopped", "Usage: tools/witness", "is there, so nothing is written"
+
+
+def has_only(*names: str):
+    """What is wrong in a folder that has other files than those of FILES and these."""
+    def wrong(folder: pathlib.Path) -> Optional[str]:
+        found = {path.name for path in folder.iterdir()}
+        changed = [name for name, data in FILES.items() if (folder / name).read_bytes() != data]
+        return f"there are {sorted(found)}, and changed are {changed}" if found != {*FILES, *names} or changed else None
+    return wrong
+
+
+def keeps_mine(folder: pathlib.Path) -> Optional[str]:
+    return None if (folder / "m.out.second").read_bytes() == MINE else "m.out.second was written over"
+
+
+def are_records(folder: pathlib.Path) -> Optional[str]:
+    """What is wrong with two records that take the place of what was there."""
+    wrong = [name for name in ("m.out.first", "m.out.second") if not (folder / name).read_bytes().startswith(b"cell-record 2\n")]
+    return f"{wrong} aren't records" if wrong else None
+
+
+def witness(name: str, *words: str, status=0, said="", printed: Optional[str] = None, **how) -> Row:
+    return Row(name, ("tools/witness", *words), status, said, printed, **{"files": FILES, **how})
+
+
+def has_first_alone(folder: pathlib.Path) -> Optional[str]:
+    return None if (folder / "m.out.first").exists() and not (folder / "m.out.second").exists() else "m.out.first alone is wanted"
+
+
+ROWS = [
+    witness("both orders beside the record", "m.cell", "m.out", printed=BOTH, after=has_only("m.out.first", "m.out.second")),
+    witness("both orders by a name", "-o", "x", "m.cell", "m.out", printed=BOTH, after=has_only("x.first", "x.second")),
+    witness("a run of a hunt", "--run", "0", "m.cell", printed="^m-0.first, the first order: ", after=has_only("m-0.first", "m-0.second")),
+    witness("no words", status=2, said=USAGE),
+    witness("a seed without a run", "--seed", "1", "m.cell", "m.out", status=2, said=USAGE),
+    witness("a run and a record", "--run", "1", "m.cell", "m.out", status=2, said=USAGE),
+    witness("a run of no number", "--run", "-1", "m.cell", status=2, said=USAGE),
+    witness("an empty name", "-o", "", "m.cell", "m.out", status=2, said=USAGE),
+    witness("a name in a folder that isn't there", "-o", "none/x", "m.cell", "m.out", status=2, said="none/x.first: No such file", after=has_only()),
+    witness("a file that is there", "m.cell", "m.out", status=2, said=TAKEN, files={**FILES, "m.out.second": MINE}, after=keeps_mine),
+    witness("a file that is there, by force", "--force", "m.cell", "m.out", printed=BOTH, files={**FILES, "m.out.second": MINE}, after=are_records),
+    witness("the record's own name, by force", "--force", "-o", "m", "m.cell", "m.first", status=2, said="m.first is a file that is read",
+            files={**FILES, "m.first": RECORD}),
+    witness("a record that is no plain file", "m.cell", "/dev/null", status=2, said="name those that are to be written by `-o NAME`"),
+    witness("a record on standard input", "-o", "x", "m.cell", "/dev/stdin", printed=BOTH, standard_input=RECORD, after=has_only("x.first", "x.second")),
+    witness("a record that isn't there", "m.cell", "none", status=2, said="cannot read record file", after=has_only()),
+    witness("no race", "first.cell", "first.out", status=2, said="no race: accepted 3", examples=("first.cell", "first.out")),
+    witness("an instruction that the other step brings", "m.cell", "m.out", status=1, printed=WAITS, files=BROUGHT, after=has_first_alone),
+    witness("a status that nothing orders", "m.cell", "m.out", files=POLLED,
+            printed=r"(?s)is refused \([^()]*\): its step 16, p 0 1 0 0 .*isn't issued before\n.*both are taken \([^()]* in the record's own order\)\n"),
+    witness("nothing differs", "m.cell", "m.out", printed="on these steps the race is benign", files=ALIKE),
+]
