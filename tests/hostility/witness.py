@@ -69,6 +69,8 @@ ROWS = [
     witness("a seed without a run", "--seed", "1", "m.cell", "m.out", status=2, said=USAGE),
     witness("a run and a record", "--run", "1", "m.cell", "m.out", status=2, said=USAGE),
     witness("a run of no number", "--run", "-1", "m.cell", status=2, said=USAGE),
+    witness("options behind the names", "m.cell", "m.out", "-o", "x", printed=BOTH, after=has_only("x.first", "x.second")),
+    witness("an option without its value", "m.cell", "m.out", "-o", status=2, said=USAGE),
     witness("an empty name", "-o", "", "m.cell", "m.out", status=2, said=USAGE),
     witness("a name in a folder that isn't there", "-o", "none/x", "m.cell", "m.out", status=2, said="none/x.first: No such file", after=has_only()),
     witness("a file that is there", "m.cell", "m.out", status=2, said=TAKEN, files={**FILES, "m.out.second": MINE}, after=keeps_mine),
