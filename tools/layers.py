@@ -12,6 +12,7 @@ where a crate uses one that doesn't stand before it.
 import os
 import sys
 
+sys.excepthook = lambda kind, why, trace: os._exit(print(f"{sys.argv[0]}: {why}", file=sys.stderr) or 2)  # where its own folder can't be told
 sys.path.insert(0, os.path.dirname(os.path.realpath(__file__)))
 import starting  # noqa: E402, F401  (before all others)
 

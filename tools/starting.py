@@ -75,3 +75,4 @@ refuse_old()
 find_modules()
 open_closed()
 name_encodings()
+sys.excepthook = sys.__excepthook__
