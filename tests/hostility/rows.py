@@ -28,7 +28,7 @@ class Row:
     examples: Sequence[str] = ()  # files of examples/ that are copied there, by their paths below examples/
     standard_input: bytes = b""
     environment: Mapping[str, str] = dataclasses.field(default_factory=dict)  # what is set beside the present one
-    seconds: float = 10
+    seconds: float = 60  # a bound for what never ends, also on a busy machine
     megabytes: int = 2048  # address space, by RLIMIT_AS
     before: Optional[Callable[[pathlib.Path], None]] = None  # makes what files can't say (a FIFO, a link), in the folder
     after: Optional[Callable[[pathlib.Path], Optional[str]]] = None  # what is wrong in the folder afterwards, or None
