@@ -3,15 +3,16 @@ from channels import channel_named
 from debugger_files import PICTURE, RECORD, target_of, write_file
 from debugger_help import COMMANDS, SHORT, help_lines
 from debugger_places import MOST, MOST_STEPS, PLAIN_SIZE, STORE, Places, Wrong, actor_of_word, count_of, is_processor, processor_of, register_of
-from debugger_run import actor_of
 from debugger_stops import Behind, Break, ChannelBreak, Watch, first_stop
-from debugger_words import ENDS, Words, counted, dump, quad
+from debugger_words import ENDS, Words, dump, quad
 from effects import Span
+from machine_state import actor_of
 from picturing.page import page_of
 from picturing.run import Run as Picture
 from sites import sets_link
 from snapshots import Snapshot
 from texts import lines_of, number_of, shown
+from words import counted
 
 CHUNKS = (1000, 10_000, 100_000)  # steps that are made at a time, the last from there on
 STEP_LETTERS = {"x", "p", "e", "r", "a"}  # that begin the line of a step, beside the host's

@@ -1,22 +1,10 @@
 """Says in words how a run stands: its processors, flow controllers and host, and what its steps did."""
-from channels import EVENT_STATUS, SIGNAL_REGISTERS, channel_of, events_in, may_wait
-from debugger_run import actor_of
-from disassembly import instructions
-from flows import command_line, event_lines, events_of, fields_of, flow_lines, line_name, signal_line
-from runs import Refused
+from channels import SIGNAL_REGISTERS
+from flows import command_line, event_lines, fields_of, flow_lines, line_name, signal_line
+from machine_state import actor_of
+from waiting import Standing
 from words import ATOMIC, Teller, with_article
 
-WAITS = {
-    3: "nothing is in signal register 1",
-    4: "nothing is in signal register 2",
-    21: "no place is free for a command",
-    24: "no tag status is there",
-    25: "no list has stalled",
-    27: "no atomic status is there",
-    28: "the outbound mailbox is full",
-    29: "the inbound mailbox is empty",
-    30: "the outbound interrupt mailbox is full",
-}
 ENDS = {
     "AllStopped": "the run has ended: no processor runs, and no command is outstanding",
     "Stuck": "the run is stuck: no step is allowed any more",
@@ -40,100 +28,12 @@ def dump(at, data):
         yield f"0x{at + start:05x} {words:35} {text}"
 
 
-def counted(count, what):
-    return f"{count} {what}" + ("" if count == 1 else "s")
-
-
-class Disassembler:
-    """The texts of the words that were asked for, each with its address."""
-
-    def __init__(self):
-        self.known = {}
-
-    def learn(self, places):
-        """Asks for all words at once that aren't known; an address stands for one word at a time."""
-        new = {at: word for at, word in places if (at, word) not in self.known}
-        try:
-            texts = instructions({at: word.to_bytes(4, "big") for at, word in new.items()})
-        except ValueError as why:
-            raise Refused(str(why)) from None
-        self.known.update({(at, word): texts[at] for at, word in new.items()})
-
-    def text(self, at, word):
-        """The text of a word that stands at an address."""
-        self.learn([(at, word)])
-        return self.known[at, word]
-
-
-def is_at_instruction(spe):
-    """Whether the instruction at the PC is one that is to be executed, or that failed."""
-    return spe.word is not None and (spe.runs or spe.status.startswith(("badword", "badchannel", "dmafault")))
-
-
-class Words:
+class Words(Standing):
     """Says how one run stands."""
 
     def __init__(self, run, sites):
-        self.run, self.sites, self.words = run, sites, Disassembler()
-
-    # ---- processors
-
-    def instruction(self, spe):
-        """What a processor is about to execute, with its line."""
-        site = self.sites.of_processor[spe.number].get(spe.pc)
-        if site and site.is_source and site.word == spe.word:
-            return str(site)
-        text = self.words.text(spe.pc, spe.word)
-        if not site:
-            return f"no line placed it: {text}"
-        return f"{site.place}: {text}" + ("" if site.word == spe.word else f" (written over: it was {site.text})")
-
-    def learn(self, state):
-        """Asks at once for the texts of all instructions that no source has as they stand."""
-        at = [(spe, self.sites.of_processor[spe.number].get(spe.pc)) for spe in state.spes if is_at_instruction(spe)]
-        self.words.learn([(spe.pc, spe.word) for spe, site in at if not (site and site.is_source and site.word == spe.word)])
-
-    def stands(self, spe):
-        """Where a processor is."""
-        place = f"processor {spe.number} {spe.status} at 0x{spe.pc:05x}"
-        return f"{place}, {self.instruction(spe)}" if is_at_instruction(spe) else place
-
-    def waits(self, spe, state):
-        """What a processor waits for, if it does."""
-        if not spe.runs or f"x {spe.number}" in state.may or state.end == "Budget" or spe.word is None or not may_wait(spe.word):
-            return None
-        channel = channel_of(spe.word)
-        if channel == EVENT_STATUS:
-            return f"it waits at channel {channel}: {self.no_event(spe, state)}"
-        return f"it waits at channel {channel}: {WAITS.get(channel, 'it has no count')}{self.request(spe, state) if channel == 24 else ''}"
-
-    def no_event(self, spe, state):
-        """Why a processor has no event that it could read."""
-        mask, pending = events_of(self.flow(spe.number, state))
-        outside = f"; pending outside it: {events_in(pending)}" if pending else ""
-        return (f"no event of its mask, {events_in(mask)}, is pending" if mask else "its event mask is 0, so no event shows") + outside
-
-    def request(self, spe, state):
-        """What is behind a tag status that doesn't come."""
-        return ", though one was asked for" if "request" in self.flow(spe.number, state) else ", and none was asked for"
-
-    def where(self, state, looked_at):
-        """Where all processors are, and the host."""
-        self.learn(state)
-        for spe in state.spes:
-            mark = ">" if spe.number == looked_at and len(state.spes) > 1 else " "
-            yield f"{mark} {self.stands(spe)}"
-            waits = self.waits(spe, state)
-            if waits:
-                yield f"      {waits}"
-        yield from self.host(state)
-
-    def host(self, state):
-        """How far the host has come."""
-        done, actions = state.host
-        if actions:
-            may = "" if done == actions or "h" in state.may else ", which isn't allowed yet"
-            yield f"  the host has done {done} of {counted(actions, 'action')}" + (f"; next {self.sites.action(done)}{may}" if done < actions else "")
+        super().__init__(sites)
+        self.run = run
 
     # ---- who may step
 
@@ -215,10 +115,6 @@ class Words:
     def tags(self, spe, state):
         """A processor's flow controller beside its queue."""
         return flow_lines(self.flow(spe, state))
-
-    def flow(self, spe, state):
-        """What run_trace tells of a processor's flow controller, by names."""
-        return next(fields_of(line)[1] for number, line in state.flows if number == spe and line.startswith("flow "))
 
     # ---- signals and events
 

@@ -4,6 +4,7 @@ import subprocess
 import tempfile
 
 from language import ROOT
+from runs import Refused
 
 MOST_WORDS = 256  # that a line of a script may ask for
 
@@ -23,3 +24,24 @@ def instructions(words, program=ROOT / "cell"):
         raise ValueError(run.stderr.strip())
     lines = (line.split(" ", 2) for line in run.stdout.splitlines())
     return {int(at, 16): text for at, _, text in lines if int(at, 16) in words}
+
+
+class Disassembler:
+    """The texts of the words that were asked for, each with its address."""
+
+    def __init__(self):
+        self.known = {}
+
+    def learn(self, places):
+        """Asks for all words at once that aren't known; an address stands for one word at a time."""
+        new = {at: word for at, word in places if (at, word) not in self.known}
+        try:
+            texts = instructions({at: word.to_bytes(4, "big") for at, word in new.items()})
+        except ValueError as why:
+            raise Refused(str(why)) from None
+        self.known.update({(at, word): texts[at] for at, word in new.items()})
+
+    def text(self, at, word):
+        """The text of a word that stands at an address."""
+        self.learn([(at, word)])
+        return self.known[at, word]

@@ -3,8 +3,9 @@ import os
 import pathlib
 from typing import List, Sequence
 
-from debugger_run import Run, Spe, State, actor_of
+from debugger_run import Run
 from debugger_words import Words
+from machine_state import Spe, State, actor_of
 from records import record_text
 from sites import Sites
 

@@ -4,14 +4,16 @@ import os
 import pathlib
 from typing import List, Optional, Sequence, Tuple
 
-from debugger_run import Run, State
-from debugger_words import Disassembler, counted, quad
+from debugger_run import Run
+from debugger_words import quad
+from disassembly import Disassembler
 from effects import Span, Step, shared_bytes
 from flows import in_words
+from machine_state import State
 from sites import Sites
 from texts import lines_of, number_of
 from witnessing import Pair, Witness
-from words import range_of
+from words import counted, range_of
 
 ROW = 16  # bytes of a line
 REGISTERS = 128

@@ -5,7 +5,7 @@ import tempfile
 from typing import Iterator, List, Optional, Tuple
 
 from runs import Refused
-from texts import MOST_BYTES, MOST_RECORD_BYTES, bytes_of, lines_of
+from texts import MOST_BYTES, MOST_RECORD_BYTES, bytes_of, lines_of, number_of
 
 
 class Snapshot(os.PathLike):
@@ -45,9 +45,18 @@ def snapshots(machine: str, record: Optional[str] = None) -> Iterator[Tuple[Snap
         yield taken, None if record is None else snapshot(folder, "record", record, MOST_RECORD_BYTES)
 
 
-def record_lines(record: Snapshot) -> List[str]:
+def record_lines(record: os.PathLike) -> List[str]:
     """The lines of a record file; Refused where there is none."""
     try:
         return lines_of(record, MOST_RECORD_BYTES)
     except OSError as why:
         raise Refused(f"{record}: {why.strerror}") from None
+
+
+def steps_of(record: os.PathLike) -> int:
+    """How many steps a record says that it has; Refused where it doesn't."""
+    found = next((line.split() for line in record_lines(record) if line.startswith("steps ")), [])
+    count = number_of(found[1]) if len(found) == 2 else None
+    if count is None:
+        raise Refused(f"{record} has no line `steps N`: it is no record, or only a part of one")
+    return count

@@ -2,11 +2,10 @@
 import os
 from typing import Iterable, Iterator, List, Sequence, Tuple
 
-from debugger_words import counted
 from not_allowed import reason
 from outcomes import OPEN, TURNS, Difference, Ends, Outcome, outcome_of
 from witnessing import FIRST, SECOND, Search, Witness, changes
-from words import Teller
+from words import Teller, counted
 
 MOST_TOLD = 6  # differences of one kind
 BENIGN = "nothing differs behind the two steps, so whatever comes then is the same: on these steps the race is benign"

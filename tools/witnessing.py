@@ -9,7 +9,7 @@ import os
 import re
 from typing import Callable, Dict, Iterator, List, Optional, Sequence, Tuple
 
-from debugger_run import actor_of
+from machine_state import actor_of
 from order import NO_CHAIN, Order
 from records import record_text
 from runs import asked, said_of

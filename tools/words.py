@@ -47,6 +47,10 @@ def signal_register(number):
     return f"signal register {number % 2 + 1} of processor {number // 2}"
 
 
+def counted(count, what):
+    return f"{count} {what}" + ("" if count == 1 else "s")
+
+
 def with_article(name):
     return f"{'an' if name[0] in 'AEIO' else 'a'} {name}"
 
