@@ -124,7 +124,7 @@ class Debugger:
         if kind == "m":
             return f"the flow controller of processor {number} has no step that is allowed: `queue {number}` tells what is outstanding"
         spe = state.spes[number]
-        return f"{self.words.stands(spe)}: {self.words.waits(spe, state) or 'it makes no further step'}"
+        return f"{self.words.stands(spe)}: {self.words.remark(spe, state) or 'it makes no further step'}"
 
     def do_next(self, words):
         if words:
@@ -208,8 +208,8 @@ class Debugger:
         if not state.may:
             return self.words.where(state, self.spe)
         spe = state.spes[self.spe]
-        waits = self.words.waits(spe, state)
-        return [f"> {self.words.stands(spe)}", *([f"      {waits}"] if waits else [])]
+        remark = self.words.remark(spe, state)
+        return [f"> {self.words.stands(spe)}", *([f"      {remark}"] if remark else [])]
 
     # ---- going back
 

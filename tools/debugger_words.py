@@ -1,5 +1,6 @@
 """Says in words how a run stands: its processors, flow controllers and host, and what its steps did."""
 from channels import SIGNAL_REGISTERS
+from faults import Faults
 from flows import command_line, event_lines, fields_of, flow_lines, line_name, signal_line
 from machine_state import actor_of
 from waiting import Standing
@@ -33,7 +34,11 @@ class Words(Standing):
 
     def __init__(self, run, sites):
         super().__init__(sites)
-        self.run = run
+        self.run, self.faults = run, Faults(run, self)
+
+    def remark(self, spe, state):
+        """What a processor waits for, if it does, or of one that has a fault what it was."""
+        return self.faults.of_processor(spe, state) or self.waits(spe, state)
 
     # ---- who may step
 

@@ -31,9 +31,9 @@ def of_step(words: Words, state: State, head: str) -> List[str]:
 
 
 def of_processor(words: Words, state: State, spe: Spe) -> List[str]:
-    """Where a processor stands, and what it waits for."""
-    waits = words.waits(spe, state)
-    return [words.stands(spe), *([waits] if waits else [])]
+    """Where a processor stands, and what it waits for, or what its fault was."""
+    remark = words.remark(spe, state)
+    return [words.stands(spe), *([remark] if remark else [])]
 
 
 def of_controller(words: Words, state: State, spe: Spe, head: str) -> List[str]:

@@ -64,6 +64,10 @@ class Standing:
             return f"it waits at channel {channel}: {self.no_event(spe, state)}"
         return f"it waits at channel {channel}: {WAITS.get(channel, 'it has no count')}{self.request(spe, state) if channel == 24 else ''}"
 
+    def remark(self, spe, state):
+        """What there is to say of how a processor stands: what it waits for, if it does."""
+        return self.waits(spe, state)
+
     def no_event(self, spe, state):
         """Why a processor has no event that it could read."""
         mask, pending = events_of(self.flow(spe.number, state))
@@ -80,9 +84,9 @@ class Standing:
         for spe in state.spes:
             mark = ">" if spe.number == looked_at and len(state.spes) > 1 else " "
             yield f"{mark} {self.stands(spe)}"
-            waits = self.waits(spe, state)
-            if waits:
-                yield f"      {waits}"
+            remark = self.remark(spe, state)
+            if remark:
+                yield f"      {remark}"
         yield from self.host(state)
 
     def host(self, state):

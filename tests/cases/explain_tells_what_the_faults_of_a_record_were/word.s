@@ -1,0 +1,3 @@
+	br	word
+	.data
+word:	.long	0x58800000

@@ -1,0 +1,1 @@
+	wrch	$ch29,$3	# SPU_RdInMbox
