@@ -89,7 +89,7 @@ def is_form(command: str) -> bool:
 def begins(line: str, lines: List[str]) -> bool:
     """Whether a line begins a paragraph or a block of its own, behind these lines."""
     is_code = line.startswith(INDENT)
-    return not lines or is_code != lines[0].startswith(INDENT) or not is_code and bool(ITEM.match(line))
+    return not lines or is_code != lines[0].startswith(INDENT) or not is_code and bool(ITEM.match(line.lstrip()))
 
 
 def parts_of(lines: List[str]) -> Iterator[Tuple[int, List[str]]]:
