@@ -1,4 +1,5 @@
-"""A headless browser that is launched once and asked by its own protocol, over two pipes: it opens pages, one after the other, and answers what a script finds."""
+"""A headless browser that is launched once and asked by its own protocol, over two pipes: it opens pages, one after the other, answers what a script finds, and
+takes keys and clicks."""
 import fcntl
 import json
 import os
@@ -11,6 +12,8 @@ PROGRAMS = ("chromium", "chromium-browser", "google-chrome", "chrome")
 WORDS = ("--headless=new", "--no-sandbox", "--disable-gpu", "--hide-scrollbars", "--remote-debugging-pipe")
 HEIGHT = 900
 TO_BROWSER, FROM_BROWSER = 3, 4  # the files by which it is asked and answers
+SHIFT = 8  # of a key or a click, by the protocol
+NAMED_KEYS = {"Enter": (13, "\r"), "Escape": (27, ""), "Tab": (9, "")}  # each with its code and what it types
 
 
 class Silent(Exception):
@@ -32,7 +35,7 @@ def pipe():
 
 
 class Browser:
-    """A browser with one page, which is opened anew for each look."""
+    """A browser with two pages, which are opened anew for each look: one in the background, where nothing is painted, and one in front, which takes keys."""
 
     def __init__(self, name, folder, seconds):
         self.seconds, self.number, self.kept = seconds, 0, b""
@@ -44,7 +47,7 @@ class Browser:
         self.process = os.posix_spawn(name, words, os.environ, file_actions=quiet + files)
         os.close(theirs_in)
         os.close(theirs_out)
-        self.session = None
+        self.session, self.sessions = None, {}
 
     def end(self):
         os.close(self.asking)
@@ -52,13 +55,25 @@ class Browser:
         os.kill(self.process, signal.SIGKILL)
         os.waitpid(self.process, 0)
 
-    def open(self, address, width):
+    def open(self, address, width, is_in_front=False):
         """Opens a page in a window of that width."""
-        if self.session is None:  # in the background, where nothing is painted
-            page = self.call("Target.createTarget", url="about:blank", background=True)["targetId"]
-            self.session = self.call("Target.attachToTarget", targetId=page, flatten=True)["sessionId"]
+        self.session = self.sessions.get(is_in_front)
+        if self.session is None:
+            page = self.call("Target.createTarget", url="about:blank", background=not is_in_front)["targetId"]
+            self.session = self.sessions[is_in_front] = self.call("Target.attachToTarget", targetId=page, flatten=True)["sessionId"]
         self.call("Emulation.setDeviceMetricsOverride", width=width, height=HEIGHT, deviceScaleFactor=1, mobile=False)
         self.call("Page.navigate", url=address)
+
+    def key(self, name, modifiers=0):
+        """Presses a key and lets it go: one of NAMED_KEYS, or a letter."""
+        code, text = NAMED_KEYS.get(name, (0, name))
+        self.call("Input.dispatchKeyEvent", type="keyDown", key=name, text=text, windowsVirtualKeyCode=code, modifiers=modifiers)
+        self.call("Input.dispatchKeyEvent", type="keyUp", key=name, windowsVirtualKeyCode=code, modifiers=modifiers)
+
+    def click(self, x, y):
+        """Clicks at a point of the window."""
+        for kind in ("mousePressed", "mouseReleased"):
+            self.call("Input.dispatchMouseEvent", type=kind, x=x, y=y, button="left", clickCount=1)
 
     def answer(self, script):
         """What a script answers, at once or by a promise."""

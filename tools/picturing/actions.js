@@ -1,5 +1,6 @@
 // ---- painting, and what the reader does
-let painted = '', painting = 0;
+let painted = '', painting = 0, doing = 0;
+const HEAD_EDGES = 14, MOST_OVERVIEW = 90; // the room around a column's name, and how high the overview may be
 
 function visibleRows() {
   if (state.printed) return state.printed;
@@ -51,10 +52,17 @@ function heads() {
 function laneHead(lane) {
   const files = lane.number >= HOST ? '' : [...new Set(Object.values(facts.code[lane.spe]).map(at => base(facts.sources[at][0])))].filter(Boolean).join(', ');
   const more = lane.number === HOST ? 'its script' : lane.is_flow ? 'commands' : files;
-  const name = laneName(lane.number), title = `${name}${more ? `, ${escaped(more)}` : ''}: a click ${lane.fold ? 'opens' : 'folds'} the column`;
+  const name = laneName(lane.number), is_strip = lane.number < HOST && lane.fold && isFolded(lane.number ^ 1), whole = is_strip ? `${name} and ${laneName(lane.number ^ 1)}` : name;
+  const title = `${whole}${more ? `, ${escaped(more)}` : ''}: a click ${lane.fold ? 'opens' : 'folds'} the column`;
   return `<div class="head${lane.fold ? ' fold' : ''}" role="columnheader" style="left:${lane.x}px;width:${lane.w}px">`
-    + `<button data-lane="${lane.number}" aria-expanded="${!lane.fold}" aria-label="${name}" title="${title}">${lane.fold ? shortName(lane.number) : name}</button>`
-    + (lane.fold ? '' : `<small>${escaped(more)}</small>`) + '</div>';
+    + `<button data-lane="${lane.number}" aria-expanded="${!lane.fold}" aria-label="${whole}" title="${title}">${name}</button>`
+    + (lane.fold ? '' : `<small>${escaped(shortened(more, lane.w - HEAD_EDGES))}</small>`) + '</div>';
+}
+// As much of a text as there is room for.
+function shortened(text, room) {
+  let length = text.length;
+  while (length && widthOf(text.slice(0, length) + (length < text.length ? '…' : ''), FLOW_FONT) > room) length--;
+  return length < text.length ? `${text.slice(0, length)}…` : text;
 }
 function memoryHead(lane) {
   const places = [...new Set([MEMORY, state.memory, ...Object.keys(facts.touched).map(Number)])].sort((one, other) => one - other);
@@ -64,20 +72,32 @@ function memoryHead(lane) {
     + `<small>${ranges.length ? `${hex(low)} to ${hex(high)}` : 'untouched'}</small></div>`;
 }
 
-// Lays the page out anew; a step keeps its place on the screen.
+// What is in view: the step that is chosen, where it is, or else one near the top, and a column that is.
+function inView() {
+  const scroll = byId('scroll'), y = state.selected === null ? -1 : rowOf(state.selected) * ROW - scroll.scrollTop;
+  const place = y >= 0 && y < scroll.clientHeight - HEAD ? state.selected : topPlace(), lane = laneOfKey(place);
+  const isSeen = ({ x, w, fold }) => w && !fold && x + w > scroll.scrollLeft && x < scroll.scrollLeft + scroll.clientWidth;
+  return { place, lane: lane !== null && isSeen(lanes[lane]) ? lane : lanes.findIndex(isSeen) };
+}
+// Lays the page out anew; what is in view, or a step that is named, keeps its place on the screen.
 function refresh(kept) {
-  const scroll = byId('scroll'), at = kept === undefined ? 0 : rowOf(kept) * ROW - scroll.scrollTop;
+  const scroll = byId('scroll'), seen = lanes.length ? inView() : { place: 0, lane: 0 }, place = kept === undefined ? seen.place : kept;
+  const y = rowOf(place) * ROW - scroll.scrollTop, x = seen.lane < 0 ? 0 : lanes[seen.lane].x - scroll.scrollLeft;
   layout(); build(); layoutMemory(); heads();
   byId('body').style.height = `${rows.length * ROW + 8}px`;
+  byId('body').style.width = `${width}px`;
   scroll.setAttribute('aria-rowcount', rows.length);
-  if (kept !== undefined) scroll.scrollTop = rowOf(kept) * ROW - at;
+  scroll.scrollTop = rowOf(place) * ROW - y;
+  scroll.scrollLeft = seen.lane < 0 ? 0 : lanes[seen.lane].x - x;
+  press('columns', isAllOpen());
   return Promise.all([paint(true), refreshSide()]);
 }
+const press = (id, is_on) => byId(id).setAttribute('aria-pressed', is_on);
 async function refreshSide() {
   const step = state.selected === null ? null : state.selected;
   if (step !== null) {
     await need([step]);
-    await need(direct(stepAt(step), 20).slice(0, 12).map(([place]) => place));
+    await Promise.all([need(direct(stepAt(step)).flatMap(([, places]) => places.slice(0, MOST_NAMED))), findNeighbour(stepAt(step))]);
   }
   side();
 }
@@ -88,16 +108,21 @@ async function select(place) {
   if (place !== null) await need([place]);
   const step = place === null ? null : stepAt(place);
   relateTo(step);
+  if (step) await findNeighbour(step);
   say(step);
 }
-// Goes to a step: it is in the middle of the screen then, and chosen.
+// Goes to a step: it is in the middle of the screen then, its column in the window, and it is chosen.
 async function go(place) {
   if (!(place >= 0 && place < facts.count)) return;
+  await need([place]);
+  openFor([place]);
   if (!isShown(place)) openAround(place);
   await select(place);
   layout(); build();
   centre(rowOf(place));
   await refresh(place);
+  showColumns([stepAt(place).lane]);
+  await paint(true);
 }
 // Goes to a step that was asked for by its number, so that the keys go on from there.
 async function goThere(place) {
@@ -113,15 +138,23 @@ const raceTop = () => Math.min(story.first, ...story.pairs.filter(([, to]) => to
 const raceFits = () => (rowOf(story.second) - rowOf(raceTop())) * ROW < byId('scroll').clientHeight - 120;
 async function toRace() {
   if (!story) return;
+  showRace();
   await select(story.second);
   layout(); build();
   const top = rowOf(raceTop()), bottom = rowOf(story.second);
   centre(raceFits() ? (top + bottom) / 2 : bottom);
   await refresh(story.second);
+  showColumns([...racingLanes(), MEMORY_COLUMN]);
+  showColumns(racingLanes());
 }
 function setOnly(is_only) {
   state.only = is_only;
-  byId('only').setAttribute('aria-pressed', is_only);
+  press('only', is_only);
+}
+// To the end of the run, with the column of the step before it.
+async function toEnd() {
+  byId('scroll').scrollTop = rows.length * ROW;
+  await paint(true);
 }
 
 // ---- the overview
@@ -136,7 +169,7 @@ function drawOverview() {
   const svg = byId('overview');
   svg.setAttribute('viewBox', `0 0 ${Math.max(1, n)} ${height}`);
   svg.setAttribute('preserveAspectRatio', 'none');
-  svg.style.height = `${Math.max(14, height * 1.2)}px`;
+  svg.style.height = `${Math.min(MOST_OVERVIEW, Math.max(14, height * 1.2))}px`;
   svg.innerHTML = html + `<rect id="view" x="0" y="0" width="1" height="${height}" fill="var(--put)" opacity=".25"/>`;
   svg.onclick = event => { const at = svg.getBoundingClientRect(); go(Math.min(facts.count - 1, Math.floor((event.clientX - at.left) / at.width * n * size))); };
 }
@@ -168,24 +201,17 @@ async function move(way, same_lane) {
   await refresh(place);
 }
 function fold() {
-  const place = topPlace();
   state.opened.clear();
-  return refresh(place);
+  return refresh();
 }
-function toggleLane(lane) {
-  if (!state.folded.delete(lane)) state.folded.add(lane);
-  return refresh(topPlace());
-}
-function allColumns() { state.folded.clear(); return refresh(topPlace()); }
 function toggleNames() {
   state.names = !state.names;
-  byId('names').setAttribute('aria-pressed', state.names);
+  press('names', state.names);
   return paint(true);
 }
 function togglePanel() {
-  const is_hidden = document.body.classList.toggle('wide');
-  byId('panel').setAttribute('aria-pressed', !is_hidden);
-  return refresh(topPlace());
+  press('panel', !document.body.classList.toggle('wide'));
+  return refresh();
 }
 function toggleTheme() {
   const root = document.documentElement, is_dark = root.dataset.theme ? root.dataset.theme === 'dark' : matchMedia('(prefers-color-scheme: dark)').matches;
@@ -194,7 +220,7 @@ function toggleTheme() {
 function toggleOnly() {
   if (!story) return null;
   setOnly(!state.only);
-  return toRace();
+  return refresh();
 }
 function toggleGroup(group, button) {
   if (!state.off.delete(group)) state.off.add(group);
@@ -204,9 +230,19 @@ function toggleGroup(group, button) {
 
 const KEY_ACTIONS = {
   j: () => move(1), ArrowDown: () => move(1), k: () => move(-1), ArrowUp: () => move(-1), J: () => move(1, true), K: () => move(-1, true),
-  r: toRace, o: toggleOnly, f: fold, c: allColumns,
-  n: toggleNames, s: togglePanel, t: toggleTheme, g: () => byId('jump').focus(), Enter: event => openNear(event.shiftKey),
+  r: toRace, e: toEnd, w: toNextWait, o: toggleOnly, f: fold, c: toggleColumns, a: toggleNames, s: togglePanel, t: toggleTheme,
+  g: () => ask('jump'), '/': () => ask('find'), n: () => toHit(1), N: () => toHit(-1), Enter: event => openNear(event.shiftKey),
 };
+// A field that is asked for by its key is empty to the reader: what stands in it is written over.
+function ask(id) {
+  byId(id).focus();
+  byId(id).select();
+}
+// The last steps of those that wait, one after the other.
+function toNextWait() {
+  const places = facts.ending.said.map(([, place]) => place).filter(place => place !== null);
+  return places.length ? goThere(places[(places.indexOf(state.selected) + 1) % places.length]) : null;
+}
 // Enter opens the gap behind the step that is chosen; with Shift, the one before it, from its end.
 function openNear(is_before) {
   const n = rowOf(state.selected === null ? topPlace() : state.selected), row = rows[n + (is_before ? -1 : 1)];
@@ -218,18 +254,28 @@ function onKey(event) {
   const action = KEY_ACTIONS[event.key];
   if (!action || event.key.startsWith('Arrow') && event.target.closest('#side')) return;
   event.preventDefault();
-  action(event);
+  perform(() => action(event));
+}
+// Does what the reader asks for; until it is done the picture says that it is busy.
+async function perform(action) {
+  byId('scroll').setAttribute('aria-busy', ++doing > 0);
+  try { await action(); } finally { byId('scroll').setAttribute('aria-busy', --doing > 0); }
 }
 function onJump(event) {
   const digits = event.target.value.replace(/[ ,.]/g, '');
-  if (event.key === 'Enter' && /^\d+$/.test(digits)) goThere(Math.min(facts.count - 1, +digits));
+  if (event.key === 'Enter' && /^\d+$/.test(digits)) perform(() => goThere(Math.min(facts.count - 1, +digits)));
   if (event.key === 'Escape') byId('scroll').focus();
+  if (event.key === 'g') ask('jump');
+}
+// The field takes a number alone.
+function onJumpInput(event) {
+  if (event.data && /[^\d ,.]/.test(event.data)) event.preventDefault();
 }
 function onClick(event) {
   const to = event.target.closest('[data-go]'), lane = event.target.closest('[data-lane]'), row = event.target.closest('[data-n]');
-  if (to) goThere(+to.dataset.go);
-  else if (lane) toggleLane(+lane.dataset.lane);
-  else if (row) onRow(+row.dataset.n, event.shiftKey);
+  if (to) perform(() => goThere(+to.dataset.go));
+  else if (lane) perform(() => toggleLane(+lane.dataset.lane));
+  else if (row) perform(() => onRow(+row.dataset.n, event.shiftKey));
 }
 function onPrint() {
   const top = Math.max(0, rowOf(story ? raceTop() : topPlace()) - 6);
@@ -242,17 +288,22 @@ function afterPrint() {
 }
 
 function listen() {
-  const on = { 'to-race': toRace, only: toggleOnly, fold, columns: allColumns, names: toggleNames, panel: togglePanel, theme: toggleTheme };
-  for (const [id, action] of Object.entries(on)) byId(id).onclick = action;
+  const on = {
+    'to-race': toRace, 'to-end': toEnd, only: toggleOnly, fold, columns: toggleColumns, names: toggleNames, panel: togglePanel, theme: toggleTheme,
+    before: () => toHit(-1), next: () => toHit(1),
+  };
+  for (const [id, action] of Object.entries(on)) byId(id).onclick = () => perform(action);
   const swatch = group => `<span class="swatch" style="background:${SHADES[group]}"></span>`;
   byId('groups').innerHTML = GROUPS.map(([group, name]) => `<button data-group="${group}" aria-pressed="true">${swatch(group)}${name}</button>`).join('');
   for (const button of document.querySelectorAll('[data-group]')) button.onclick = () => toggleGroup(button.dataset.group, button);
   byId('jump').onkeydown = onJump;
+  byId('jump').onbeforeinput = onJumpInput;
+  byId('find').onkeydown = event => perform(() => onFind(event));
   byId('scroll').addEventListener('scroll', () => requestAnimationFrame(() => paint(false)));
   byId('side').addEventListener('input', event => { if (event.target.id === 'filter') { state.filter = event.target.value; listCommands(); } });
   document.addEventListener('click', onClick);
   addEventListener('keydown', onKey);
-  addEventListener('resize', () => state.printed || refresh(topPlace()));
+  addEventListener('resize', () => state.printed || refresh());
   addEventListener('beforeprint', onPrint);
   addEventListener('afterprint', afterPrint);
 }
@@ -260,8 +311,8 @@ function listen() {
 // ---- the beginning
 function headline() {
   byId('title').textContent = facts.machine;
-  byId('verdict').textContent = `${facts.verdict} · ${facts.end}`;
-  byId('verdict').classList.toggle('bad', story !== null || facts.end === 'Stuck');
+  byId('verdict').textContent = `${facts.verdict} · ${facts.ending.words}`;
+  byId('verdict').classList.add(facts.ending.level);
   byId('summary').textContent = `${facts.record}: ${count(facts.count)} steps, ${facts.spes} processor${facts.spes > 1 ? 's' : ''}`;
   if (!story) for (const id of ['to-race', 'only']) byId(id).hidden = true;
 }
@@ -271,8 +322,8 @@ async function begin() {
   readTables(await opened(byId('tables').textContent));
   readGraph(tables.graph);
   if (story) state.memory = story.shared[0][0];
-  headline(); listen(); foldOthers(); layout(); build(); drawOverview();
-  if (!story) { await refresh(); if (facts.focus > 0) byId('scroll').scrollTop = rows.length * ROW; }
+  headline(); listen(); fitAt(facts.focus); layout(); build(); drawOverview();
+  if (!story) { await refresh(); if (facts.focus > 0) await toEnd(); }
   else {
     await toRace();
     if (!raceFits()) { setOnly(true); await toRace(); }

@@ -1,31 +1,17 @@
 // ---- the columns, and which rows there are
-const ROW = 20, GUTTER = 64, HEAD = 42, FOLDED = 24, SLOT = 13;
+const ROW = 20, GUTTER = 64, HEAD = 48, FOLDED = 16, SLOT = 13;
 const MEMORY_COLUMN = HOST + 1;
-const NARROW_PROGRAM = 124, NARROW_FLOW = 118, NARROW_MEMORY = 88; // the least widths of text
+const NARROW = { program: 124, flow: 118, memory: 88, to_bars: 42 }, TIGHT = { program: 104, flow: 108, memory: 76, to_bars: 24 }; // the least widths, and where columns are folded
 const OPENED_AT_ONCE = 200, OPENED_AROUND = 30;
-const state = { folded: new Set(), off: new Set(), opened: new Set(), selected: null, memory: MEMORY, names: true, only: false, printed: null, filter: '' };
+const state = { folded: new Set(), off: new Set(), opened: new Set(), selected: null, memory: MEMORY, names: true, only: false, printed: null, filter: '',
+  kept_folds: null }; // those that "All columns" opened
 let lanes = [], width = 0, to_bars = 42, rows = [], row_starts = [];
 let keys_shown = new Set();
 
 const isRacing = place => story !== null && (place === story.first || place === story.second);
 const laneName = lane => lane === MEMORY_COLUMN ? 'Memory' : lane === HOST ? 'Host' : `${lane % 2 ? 'MFC' : 'SPE'} ${lane >> 1}`;
-const shortName = lane => lane === MEMORY_COLUMN ? 'mem' : lane === HOST ? 'H' : `${lane % 2 ? 'M' : 'S'}${lane >> 1}`;
 const hasScript = () => facts.script.length > 0;
 
-// At the beginning those columns are open that a race is about, and of others as many as fit.
-function foldOthers() {
-  const concerned = story ? new Set(story.steps.map(laneOfKey).filter(lane => lane !== null).map(lane => lane >> 1)) : null;
-  if (concerned && facts.spes > 2) for (let spe = 0; spe < facts.spes; spe++) if (!concerned.has(spe)) foldProcessor(spe);
-  layout();
-  for (let spe = facts.spes - 1; spe > 0 && width > byId('scroll').clientWidth; spe--) {
-    if (concerned && concerned.has(spe)) continue;
-    foldProcessor(spe);
-    layout();
-  }
-}
-function foldProcessor(spe) {
-  state.folded.add(2 * spe).add(2 * spe + 1);
-}
 function laneOfKey(place) {
   const at = lowerBound(tables.keys, place);
   return tables.keys[at] === place ? tables.lanes[at] : null;
@@ -39,18 +25,19 @@ function lowerBound(list, wanted) {
 const isFolded = lane => state.folded.has(lane);
 const barsWidth = spe => slots(spe) * SLOT + to_bars;
 
-// Shares the width of the window among the columns that are open.
+// Shares the width of the window among the columns that are open. A processor of which a column is folded has one strip.
 function layout() {
   const open = [...Array(HOST).keys()].filter(lane => !isFolded(lane)), programs = open.filter(lane => lane % 2 === 0).length, flows = open.length - programs;
-  to_bars = programs > 4 ? 24 : 42;
+  const strips = [...Array(facts.spes).keys()].filter(spe => isFolded(2 * spe) || isFolded(2 * spe + 1)).length;
   const host = !hasScript() ? 0 : isFolded(HOST) ? FOLDED : 116, wide_memory = isFolded(MEMORY_COLUMN) ? FOLDED : facts.spes > 1 ? 120 : 200;
-  const others = GUTTER + host + FOLDED * (HOST - open.length) + open.filter(lane => lane % 2).reduce((sum, lane) => sum + barsWidth(lane >> 1), 0);
   const whole = state.printed ? 1370 : byId('scroll').clientWidth - 4;
-  const room = whole - others - programs * NARROW_PROGRAM - flows * NARROW_FLOW;
-  const memory = Math.min(wide_memory, Math.max(NARROW_MEMORY, room)), fixed = others + memory;
+  const others = () => GUTTER + host + FOLDED * strips + open.filter(lane => lane % 2).reduce((sum, lane) => sum + barsWidth(lane >> 1), 0);
+  const roomOf = least => { to_bars = programs > 4 ? TIGHT.to_bars : least.to_bars; return whole - others() - programs * least.program - flows * least.flow; };
+  const least = strips && roomOf(NARROW) < Math.min(NARROW.memory, wide_memory) ? TIGHT : NARROW, room = roomOf(least);
+  const memory = Math.min(wide_memory, Math.max(least.memory, room)), fixed = others() + memory;
   const share = Math.max(0, whole - fixed) / Math.max(1, programs * 2.2 + flows);
-  const flow = Math.min(210, Math.max(NARROW_FLOW, share)), program = (whole - fixed - flows * flow) / Math.max(1, programs);
-  place_lanes({ program: Math.min(400, Math.max(NARROW_PROGRAM, program)), flow, host, memory });
+  const flow = Math.min(210, Math.max(least.flow, share)), program = (whole - fixed - flows * flow) / Math.max(1, programs);
+  place_lanes({ program: Math.min(400, Math.max(least.program, program)), flow, host, memory });
   width = Math.max(lanes[MEMORY_COLUMN].x + lanes[MEMORY_COLUMN].w, whole);
 }
 
@@ -58,17 +45,17 @@ function place_lanes(wide) {
   let x = GUTTER;
   lanes = [];
   for (let number = 0; number <= MEMORY_COLUMN; number++) {
-    const fold = isFolded(number), is_flow = number < HOST && number % 2 === 1;
-    const w = number === HOST ? wide.host : number === MEMORY_COLUMN ? wide.memory : fold ? FOLDED : is_flow ? barsWidth(number >> 1) + wide.flow : wide.program;
-    lanes.push({ number, x, w, fold, is_flow, spe: number >> 1 });
+    const fold = isFolded(number), is_flow = number < HOST && number % 2 === 1, is_joined = is_flow && fold && isFolded(number - 1);
+    const w = is_joined ? 0 : number === HOST ? wide.host : number === MEMORY_COLUMN ? wide.memory : fold ? FOLDED : is_flow ? barsWidth(number >> 1) + wide.flow : wide.program;
+    lanes.push({ number, x: is_joined ? x - FOLDED : x, w, fold, is_flow, spe: number >> 1 });
     x += w;
   }
 }
 // Where a program's line stands, and where the text of a flow controller begins.
-const lineOf = lane => lane.fold ? lane.x + 12 : lane.number === HOST ? lane.x + 9 : lane.x + lane.w - 9;
+const lineOf = lane => lane.fold ? lane.x + FOLDED / 2 : lane.number === HOST ? lane.x + 9 : lane.x + lane.w - 9;
 const textOf = lane => lane.is_flow ? lane.x + barsWidth(lane.spe) - 2 : lane.x + (lane.number === HOST ? 20 : 6);
 const textEnd = lane => lane.number < HOST && !lane.is_flow ? lane.x + lane.w - 18 : lane.x + lane.w - 4;
-const barX = (lane, bar) => lane.fold ? lane.x + 12 : lane.x + to_bars + (bar ? bar.slot * SLOT : 0);
+const barX = (lane, bar) => lane.fold ? lane.x + FOLDED / 2 : lane.x + to_bars + (bar ? bar.slot * SLOT : 0);
 
 // ---- the rows: steps that are shown, and gaps between them
 function shownPlaces() {

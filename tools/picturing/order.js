@@ -73,20 +73,40 @@ function relateTo(step) {
   relation = other => other.place === step.place ? 0 : isBefore(other) ? -1 : isBehind(other) ? 1 : null;
 }
 
-// The steps directly before one, with their rules, the latest first; of a set so many.
-function direct(step, most) {
-  const found = [], chain = chainOfStep(step), list = edges.get(step.place) || [];
-  for (let k = 0; k < list.length; k += 2) for (const place of latest(list[k], most)) found.push([place, facts.rules[list[k + 1]]]);
-  if (!tables.graph) for (const [from, to, rule] of tables.arrows) if (to === step.place) found.push([from, facts.rules[rule]]);
-  const before = chain === null ? null : tables.keys.filter((place, k) => place < step.place && tables.lanes[k] === step.lane).pop();
-  if (before !== undefined && before !== null) found.push([before, chain === -1 ? 'Script' : 'Program']);
-  return found.sort((a, b) => b[0] - a[0]);
+const MOST_NAMED = 12; // of the steps that a rule puts before one, the latest that are told
+// The steps that rules put before one, but for those of its own program: by each rule, the latest first. Of a long record, those whose arrows are drawn.
+function direct(step) {
+  const found = new Map(), list = edges.get(step.place) || [];
+  for (let k = 0; k < list.length; k += 2) found.set(facts.rules[list[k + 1]], listOf(found, facts.rules[list[k + 1]]).concat(stepsOf(list[k])));
+  if (!tables.graph) for (const [from, to, rule] of tables.arrows) if (to === step.place) listOf(found, facts.rules[rule]).push(from);
+  return [...found].map(([rule, places]) => [rule, [...new Set(places)].sort((a, b) => b - a)]).sort(([, one], [, other]) => other[0] - one[0]);
 }
-function latest(node, most) {
-  const found = [], stack = [node];
-  while (stack.length && found.length < most) {
+function stepsOf(node) {
+  const found = [], seen = new Set(), stack = [node];
+  while (stack.length) {
     const top = stack.pop();
-    if (top >= 0) found.push(top); else stack.push(...membersOf(top));
+    if (top >= 0) found.push(top);
+    else if (!seen.has(top)) { seen.add(top); for (const member of membersOf(top)) stack.push(member); }
   }
   return found;
+}
+
+// ---- the step before one in its own program, which may be folded
+const neighbours = new Map();
+const chainRule = step => step.lane === HOST ? 'Script' : 'Program';
+const neighbourOf = step => neighbours.has(step.place) ? neighbours.get(step.place) : null;
+async function findNeighbour(step) {
+  if (chainOfStep(step) !== null && !neighbours.has(step.place)) neighbours.set(step.place, await lastOfLane(step.lane, step.place));
+}
+// The last step of a column before a place; null where there is none. The overview tells which parts of the run have one.
+async function lastOfLane(lane, end) {
+  const { rows: parts, size } = facts.overview;
+  for (let part = Math.floor((end - 1) / size); part >= 0 && end > 0; part--) {
+    if (!parts[lane][part]) continue;
+    for (let place = Math.min(end, (part + 1) * size) - 1; place >= part * size; place--) {
+      await need([place]);
+      if (stepAt(place).lane === lane) return place;
+    }
+  }
+  return null;
 }

@@ -7,15 +7,17 @@ import pathlib
 import re
 import zlib
 
+from channels import NAMES, channel_of
 from order import NO_CHAIN, RULES
 from picturing.bars import Arrows, atomics, bars, slots
 from picturing.ranges import lane, overview, touched
 from picturing.rows import own_rows
-from picturing.story import BEHIND, other_words, race_pairs, race_steps, race_words, waits
+from picturing.ending import Level
+from picturing.story import BEHIND, other_words, race_pairs, race_steps, race_words
 from texts import shown
 
 HERE = pathlib.Path(__file__).resolve().parent
-SCRIPTS = ("data", "order", "layout", "rows", "lines", "labels", "arrows", "drawing", "memory", "side", "actions")
+SCRIPTS = ("data", "order", "layout", "columns", "rows", "lines", "labels", "arrows", "drawing", "memory", "side", "find", "actions")
 BLOCK = 2048            # steps in a block
 MOST_ROWS = 100000      # steps that have a row of their own at the beginning
 ALL_ARROWS = 20000      # steps up to which all arrows are kept; of more, those between rows
@@ -47,18 +49,18 @@ def nearest(keys, focus):
 
 
 def focus_of(run):
-    """The step at which the page opens: a race, the end of a run that got stuck or met a fault, or the beginning."""
+    """The step at which the page opens: a race, the end of a run that didn't end well, or the beginning."""
     if run.pair:
         return run.pair[1]
-    return max(0, run.count - 1) if run.end.word == "Stuck" else 0
+    return 0 if run.ending.level is Level.GOOD else max(0, run.count - 1)
 
 
 def sites_of(run):
-    """The lines of the sources that were executed, as file, number and text, and of each processor and address which of them."""
+    """The lines of the sources that were executed, as file, number, text and channel, and of each processor and address which of them."""
     lines, numbers, code = [], {}, [{} for _ in range(run.spes)]
     for spe, address in sorted((int(spe), int(address)) for spe, address in set(FETCHED.findall(run.text))):
         site = run.sites.at(spe, address)
-        line = (site.file, site.number, site.text)
+        line = (site.file, site.number, site.text, channel_of(site.word))
         if line not in numbers:
             numbers[line] = len(lines)
             lines.append(line)
@@ -108,7 +110,7 @@ def tables_of(run, keys, code):
     lanes = [lane(run.trace.lines[place], run.spes) for place in keys]
     return {"slots": slots(commands, atomic, run.count), "keys": keys, "lanes": lanes, "bars": commands, "atomics": atomic,
             "arrows": [[i, j, RULES.index(rule)] for i, j, rule in dict.fromkeys(arrows)], "graph": graph_of(run.order),
-            "calls": calls_of(run, keys, code), "hosts": run.teller.hosts}
+            "calls": calls_of(run, keys, code), "hosts": run.teller.hosts, "labels": run.sites.labels}
 
 
 def facts_of(run, sources, code):
@@ -116,7 +118,7 @@ def facts_of(run, sources, code):
     return {"machine": str(run.machine), "record": str(run.record), "verdict": run.verdict, "end": run.end.word, "count": run.count, "spes": run.spes,
             "script": [text for _, text in run.sites.script], "sources": sources, "code": code, "block": BLOCK, "rules": RULES,
             "states": [[status.text, status.pc] for status in run.end.spes], "host": run.end.host, "focus": focus_of(run), "story": story_of(run),
-            "waits": waits(run) if run.end.word == "Stuck" else [], "overview": overview(run.trace.lines, run.spes), "touched": touched(run.text)}
+            "ending": run.ending.told, "channels": NAMES, "overview": overview(run.trace.lines, run.spes), "touched": touched(run.text)}
 
 
 def blocks_of(run):

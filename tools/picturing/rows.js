@@ -9,42 +9,54 @@ const COUNTED = {
 const EVENTS = [
   [0x400, 'lost line'], [0x200, 'signal 1'], [0x100, 'signal 2'], [0x80, 'outbox'], [0x40, 'intr. box'], [0x10, 'inbox'], [8, 'queue'], [2, 'stall'], [1, 'tags'],
 ];
-// A set of events by their names; in the short form, more than one of them as a number.
-function eventsOf(bits, is_long) {
-  const names = EVENTS.filter(([bit]) => bits & bit).map(([, name]) => name);
-  return names.length > 1 && !is_long ? hex(+bits) : `{${names.join(', ')}}`;
-}
+// A set of events by their names; where there are several, in brief as a number.
+const namesOf = bits => EVENTS.filter(([bit]) => bits & bit).map(([, name]) => name);
+const eventsOf = bits => `{${namesOf(bits).join(', ')}}`;
+const eventsInBrief = bits => namesOf(bits).length > 1 ? hex(+bits) : eventsOf(bits);
 const EVENT_WORDS = { 1: 'mask', 2: 'clears' };
+const STATUSES = { 0: 'stored', 1: 'lost', 2: 'PUTLLUC', 4: 'GETLLAR' }; // of an atomic command
 
-// What an instruction does beside computing, by its fields: the colour of a chip and its words, in a short and a long form.
+// What an instruction does beside computing, by its fields: the colour of a chip, the whole of it, and the chip's words, longer and shorter ones.
 const TOLD = [
-  ['issue', 'issue', ([number]) => `issues #${number}`],
-  ['tags', 'tag', ([groups]) => `tags ${tagsOf(+groups)}`],
-  ['stalls', 'tag', ([groups]) => `stalls ${tagsOf(+groups)}`],
-  ['ack', 'tag', ([tag]) => `resumes tag ${tag}`],
-  ['request', 'plain', ([, groups]) => `asks ${tagsOf(+groups)}`],
-  ['atomic', 'atomic', ([kind]) => ATOMICS[kind]],
-  ['atomicread', 'atomic', () => 'status'],
-  ['put', 'mail', ([, box]) => `puts ${BOXES[box]}`],
-  ['take', 'mail', ([, box]) => `takes ${BOXES[box]}`],
-  ['ended', 'end', () => 'ends'],
-  ['signal', 'mail', ([, register]) => `takes signal ${register}`],
-  ['rchcnt', 'plain', ([channel]) => `counts ${COUNTED[channel] || `channel ${channel}`}`],
-  ['rdch', 'plain', ([channel, bits], is_long) => channel === '0' ? `events ${eventsOf(bits, is_long)}` : ''],
-  ['wrch', 'plain', ([channel, bits], is_long) => channel in EVENT_WORDS ? `${EVENT_WORDS[channel]} ${eventsOf(bits, is_long)}` : ''],
+  ['issue', 'issue', ([number]) => [`issues #${number}`, `issues #${number}`]],
+  ['tags', 'tag', ([groups]) => [`reads the tag status ${hex(+groups)}: tags ${tagsOf(+groups)}`, `tags ${tagsOf(+groups)}`, `tags ${hex(+groups)}`]],
+  ['stalls', 'tag', ([groups]) => [`reads the stall status ${hex(+groups)}: stalls ${tagsOf(+groups)}`, `stalls ${tagsOf(+groups)}`, `stalls ${hex(+groups)}`]],
+  ['ack', 'tag', ([tag]) => [`resumes tag ${tag}`, `resumes tag ${tag}`, 'resumes']],
+  ['request', 'plain', ([, groups]) => [`asks ${tagsOf(+groups)}`, `asks ${tagsOf(+groups)}`, `asks ${hex(+groups)}`]],
+  ['atomic', 'atomic', ([kind]) => [ATOMICS[kind], ATOMICS[kind]]],
+  ['atomicread', 'atomic', (_, { rdch: [, bits] }) => [`reads the atomic status ${bits}: ${STATUSES[bits] || ''}`, `status ${bits}: ${STATUSES[bits] || ''}`, `status ${bits}`]],
+  ['put', 'mail', ([, box, value]) => [`puts ${hex(+value)} into its ${BOXES[box]}`, `puts ${BOXES[box]} ${hex(+value)}`, `puts ${BOXES[box]}`, 'puts']],
+  ['take', 'mail', ([, box, value]) => [`takes ${hex(+value)} out of its ${BOXES[box]}`, `takes ${BOXES[box]} ${hex(+value)}`, `takes ${BOXES[box]}`, 'takes']],
+  ['ended', 'end', () => ['ends', 'ends']],
+  ['signal', 'mail', ([, register], { rdch: [, value] }) =>
+    [`takes ${hex(+value)} out of signal ${register}`, `takes signal ${register} ${hex(+value)}`, `takes signal ${register}`, `signal ${register}`]],
+  ['rchcnt', 'plain', ([channel, number]) => countedForms(`counts ${COUNTED[channel] || `channel ${channel}`}`, number)],
+  ['rdch', 'plain', ([channel, bits]) => channel === '0' ? [`reads the events ${hex(+bits)}: ${eventsOf(bits)}`, `events ${eventsOf(bits)}`, `events ${eventsInBrief(bits)}`, 'events']
+    : [`reads ${hex(+bits)} from channel ${channel}`]],
+  ['wrch', 'plain', ([channel, bits]) => channel in EVENT_WORDS
+    ? [`${EVENT_WORDS[channel]} ${hex(+bits)}: ${eventsOf(bits)}`, `${EVENT_WORDS[channel]} ${eventsOf(bits)}`, `${EVENT_WORDS[channel]} ${eventsInBrief(bits)}`, EVENT_WORDS[channel]]
+    : [`writes ${hex(+bits)} to channel ${channel}`]],
 ];
-function toldOf(step, is_long) {
-  const found = TOLD.find(([name]) => name in step.fields), text = found ? found[2](step.fields[found[0]], is_long) : '';
-  return text ? { color: found[1], text } : null;
+const countedForms = (what, number) => [`${what}: ${number}`, `${what}: ${number}`, what, `counts: ${number}`];
+// What an instruction does: the whole of it, and its chip's words; null where it computes alone.
+function toldOf(step) {
+  const found = TOLD.find(([name]) => name in step.fields);
+  if (!found) return null;
+  const [whole, ...chips] = found[2](step.fields[found[0]], step.fields);
+  return { color: found[1], whole, chips };
 }
+// The first of some texts that is no wider than that, or else the last.
+const fitting = (texts, font, room) => texts.find(text => widthOf(text, font) <= room) || texts[texts.length - 1];
 
+// What is delivered to a signal register, or taken out of a mailbox by the host.
+const valueText = ({ fields: { deliver, take } }) => deliver || take ? `: ${hex(+(deliver ? deliver[0] : take[2]))}` : '';
 // What a step of a flow controller is.
 function flowText(step) {
   if (step.letter === 'a') return atomicText(step);
   const bar = barOfStep(step), name = `#${step.command}`;
   if (step.letter === 'r') return `${name} retires`;
   if (step.letter === 'e') return `${name} element${step.fields.element ? ` ${step.fields.element[0]}${step.fields.element[2] === '1' ? ', flag' : ''}` : ': a fault'}`;
-  if (bar.kind === 'SNDSIG') return step.fields.signal ? `${name} to SPE ${step.fields.signal[0]} sig ${step.fields.signal[1]}` : `${name} to no one`;
+  if (bar.kind === 'SNDSIG') return step.fields.signal ? `${name} to SPE ${step.fields.signal[0]} sig ${step.fields.signal[1]}${valueText(step)}` : `${name} to no one`;
   return bar.kind.endsWith('L') ? `${name} el. ${step.element} piece ${step.part}` : `${name} piece ${step.part}`;
 }
 function atomicText(step) {
@@ -59,14 +71,15 @@ function actionOf(place) {
 
 // A step in one line of words.
 function stepText(step) {
-  if (step.lane === HOST) return `host: ${actionOf(step.place)}`;
+  if (step.lane === HOST) return `host: ${actionOf(step.place)}${valueText(step)}`;
   if (step.lane % 2) return `MFC ${step.spe}: ${flowText(step)}`;
-  const [file, line, text] = sourceOf(step), told = toldOf(step, true);
-  return `SPE ${step.spe}: ${text}${told ? `, ${told.text}` : ''}${line ? ` (${file}:${line})` : ''}`;
+  const [file, line, text] = sourceOf(step), told = toldOf(step);
+  return `SPE ${step.spe}: ${text}${told ? `, ${told.whole}` : ''}${line ? ` (${file}:${line})` : ''}`;
 }
 
 const CODE_FONT = '11.5px ui-monospace, "DejaVu Sans Mono", monospace', CHIP_FONT = '600 10.5px system-ui, "DejaVu Sans", sans-serif';
-const CHIP_EDGES = 12, CELL_GAP = 8, RACE_MARK = 38, LINE_NUMBER = 46;
+const FLOW_FONT = '11px system-ui, "DejaVu Sans", sans-serif';
+const CHIP_EDGES = 12, CELL_GAP = 8, RACE_MARK = 38, LINE_NUMBER = 46, FLAG = 16;
 const chip = (color, text) => `<span class="chip ${color} t">${escaped(text)}</span>`;
 const box = (left, right, inner, title = '') =>
   `<div class="cell" role="gridcell" style="left:${left}px;width:${Math.max(0, right - left)}px"${title ? ` title="${escaped(title)}"` : ''}>${inner}</div>`;
@@ -75,18 +88,24 @@ const raceMark = place => !isRacing(place) ? '' : chip('race', place === story.f
 function stepCell(step) {
   const lane = lanes[step.lane];
   if (lane.fold) return '';
-  const flag = step.fields.fixed ? ' ⚑' : '', mark = raceMark(step.place);
-  if (step.lane === HOST) return box(textOf(lane), textEnd(lane), `${mark}<code class="t">${escaped(actionOf(step.place))}</code>`, actionOf(step.place));
-  if (lane.is_flow) return box(textOf(lane), textEnd(lane), `${mark}<span class="flow t">${escaped(flowText(step))}${flag}</span>`, flowText(step));
-  return box(textOf(lane), textEnd(lane), mark + instructionCell(step, lane, flag), stepText(step));
+  const flag = step.fields.fixed ? ' ⚑' : '', mark = raceMark(step.place), room = textEnd(lane) - textOf(lane) - (mark ? RACE_MARK : 0);
+  if (step.lane === HOST) return box(textOf(lane), textEnd(lane), `${mark}<code class="t">${escaped(hostText(step, room))}</code>`, stepText(step));
+  if (lane.is_flow) return box(textOf(lane), textEnd(lane), `${mark}<span class="flow t">${escaped(fitting(flowForms(step), FLOW_FONT, room - FLAG))}${flag}</span>`, flowText(step));
+  return box(textOf(lane), textEnd(lane), mark + instructionCell(step, room, flag), stepText(step));
+}
+const hostText = (step, room) => fitting([actionOf(step.place) + valueText(step), actionOf(step.place)], CODE_FONT, room);
+// What a step of a flow controller is, and less of it.
+function flowForms(step) {
+  const text = flowText(step), bare = text.slice(0, text.length - valueText(step).length), brief = bare.replace(/^#\d+ /, '');
+  return [text, bare, brief, brief.replace(/ (piece|sig) .*/, '')];
 }
 // The line of the source, what it does, and the line's number: as much of it as there is room for.
-function instructionCell(step, lane, flag) {
-  const [, line, text] = sourceOf(step), told = toldOf(step) || (flag ? { color: 'tag', text: '' } : null), said = told ? told.text + flag : '';
-  const room = textEnd(lane) - textOf(lane) - (isRacing(step.place) ? RACE_MARK : 0);
-  const chip_width = told ? widthOf(said, CHIP_FONT) + CHIP_EDGES : 0, code_width = widthOf(text, CODE_FONT) + CELL_GAP;
-  const has_code = !told || code_width + chip_width <= room, has_line = has_code && line && code_width + chip_width + LINE_NUMBER <= room;
-  return (has_code ? `<code class="t">${escaped(text)}</code>` : '') + (told ? chip(told.color, said) : '') + (has_line ? `<span class="at t">:${line}</span>` : '');
+function instructionCell(step, room, flag) {
+  const [, line, text] = sourceOf(step), told = toldOf(step), chips = told ? told.chips : [];
+  const color = chips.length ? told.color : 'tag', said = (fitting(chips.map(words => words + flag), CHIP_FONT, room - CHIP_EDGES) || flag).trimStart();
+  const chip_width = said ? widthOf(said, CHIP_FONT) + CHIP_EDGES : 0, code_width = widthOf(text, CODE_FONT) + CELL_GAP;
+  const has_code = !said || code_width + chip_width <= room, has_line = has_code && line && code_width + chip_width + LINE_NUMBER <= room;
+  return (has_code ? `<code class="t">${escaped(text)}</code>` : '') + (said ? chip(color, said) : '') + (has_line ? `<span class="at t">:${line}</span>` : '');
 }
 
 // How many steps a gap has, and which columns made them, where its block is open and it isn't long.
@@ -105,11 +124,13 @@ function wideGap(size) {
   const lane = lanes.find(one => one.w > FOLDED && !one.fold) || lanes[0];
   return box(textOf(lane), textEnd(lane), `<span class="t">⋮ ${count(size)} steps</span>`);
 }
+const endChip = (lane, text, is_bad) => chip(is_bad ? 'race' : 'end', fitting([text, text.split(' ').pop()], CHIP_FONT, textEnd(lane) - textOf(lane) - CHIP_EDGES));
+const isFault = text => text.startsWith('dma') || text.startsWith('bad');
 function endCells() {
-  const told = text => text === 'running' && facts.end === 'Stuck' ? 'waits here' : text, isBad = text => text === 'running' || text.startsWith('dma');
+  const told = text => text === 'running' && facts.end === 'Stuck' ? 'waits here' : text, isBad = text => text === 'running' || isFault(text);
   const found = facts.states.map(([text], spe) => [lanes[2 * spe], told(text), isBad(text)]);
   if (hasScript() && facts.host[0] < facts.host[1]) found.push([lanes[HOST], facts.script[facts.host[0]].replace(/^host /, ''), true]);
-  return found.filter(([lane]) => !lane.fold).map(([lane, text, is_bad]) => box(textOf(lane), textEnd(lane), chip(is_bad ? 'race' : 'end', text), text)).join('');
+  return found.filter(([lane]) => !lane.fold).map(([lane, text, is_bad]) => box(textOf(lane), textEnd(lane), endChip(lane, text, is_bad), text)).join('');
 }
 
 function rowHtml(row, n) {
@@ -120,7 +141,7 @@ function rowHtml(row, n) {
     return `<div class="row gap" ${id} aria-label="${name}, folded" title="${name}: a click opens them"><span class="number t" role="rowheader">⋯ ${size}</span>${gapCells(row)}</div>`;
   }
   const step = stepAt(row.a);
-  const racing = isRacing(row.a) ? ' race' : '';
+  const racing = (isRacing(row.a) ? ' race' : '') + (isHit(row.a) ? ' hit' : '');
   const label = step ? ` aria-label="${escaped(`step ${row.a}, ${stepText(step)}`)}"` : '';
   const number = `<span class="number t" role="rowheader">${count(row.a)}</span>`;
   return `<div class="row${racing}" ${id} aria-selected="${row.a === state.selected}"${label}>${number}${step ? stepCell(step) : ''}</div>`;

@@ -1,4 +1,5 @@
-"""Which steps have a row of their own in a picture: what isn't a plain instruction, the ends of each command, and what touches the bytes of a race."""
+"""Which steps have a row of their own in a picture: what isn't a plain instruction, the ends of each command, what touches the bytes of a race,
+and the last steps of what waits or has a fault at the end."""
 import bisect
 import re
 
@@ -20,6 +21,7 @@ def own_rows(run):
         steps = run.steps_of(key)
         keys.update(steps[:1] + steps[-1:])
     keys.update(place for member in run.order.commands.values() for place in member.stalls)
+    keys.update(place for _, place in run.ending.said if place is not None)
     if run.race:
         keys.update(run.pair)
         keys.update(touching(run))

@@ -4,12 +4,14 @@ import re
 
 from effects import Trace, shared_bytes
 from order import Order
+from picturing.ending import ending_of
 from reasons import Race
 from runs import Refused, ask_tracer, verdict
 from sites import Sites
 from words import Teller
 
 RACE = re.compile(r"race (\d+) (\d+)$")
+FAULTS = ("dmafault", "badword", "badchannel")  # how the statuses of faults begin
 
 
 class Status:
@@ -19,6 +21,8 @@ class Status:
         at = words.index("pc")
         self.text, self.pc = " ".join(words[2:at]), int(words[at + 1], 16)
         self.is_running = self.text == "running"
+        self.is_halted = self.text == "halted"
+        self.is_fault = self.text.startswith(FAULTS)
 
 
 class End:
@@ -81,6 +85,10 @@ class Run:
         if not shared_bytes(race.one, race.two):
             raise Refused(f"steps {first} and {second} don't race: they share no byte that one of them writes")
         return race
+
+    @functools.cached_property
+    def ending(self):
+        return ending_of(self)
 
     def shared(self):
         """The bytes that the two steps of the race share, with what each does to them."""

@@ -18,7 +18,11 @@ function othersHtml() {
   const more = '<p class="dim">One for each two lines of sources. --race I J draws one of them.</p>';
   return `<details><summary>Other steps that race (${story.others.length})</summary><ul>${found}</ul>${more}</details>`;
 }
-const waitsHtml = () => facts.waits.length ? `<h2>Why nothing goes on</h2><ul>${facts.waits.map(([, text]) => `<li>${linked(text)}</li>`).join('')}</ul>` : '';
+// How the run ended, with the last step of each that is told of.
+function endingHtml() {
+  const { title, said } = facts.ending, lastOf = place => place === null ? 'no step before' : `last step ${goButton(place)}`;
+  return said.length ? `<h2>${escaped(title)}</h2><ul>${said.map(([text, place]) => `<li>${linked(text)}: ${lastOf(place)}</li>`).join('')}</ul>` : '';
+}
 
 function selectedHtml() {
   const step = state.selected === null ? null : stepAt(state.selected);
@@ -29,12 +33,18 @@ function selectedHtml() {
     if (bytes) said.push(`${way} ${hex(bytes.low)} to ${hex(bytes.high - 1)} of ${placeName(bytes.place)}`);
   }
   if (step.fields.fixed) said.push('⚑ a tag status is fixed at the end of this step');
-  return `<h2>Step ${count(step.place)}</h2>${said.map(text => `<p>${escaped(text)}</p>`).join('')}${directHtml(step)}${relationHtml(step)}`;
+  return `<h2>Step ${count(step.place)}</h2>${said.map(text => `<p>${escaped(text)}</p>`).join('')}${beforeHtml(step)}${relationHtml(step)}`;
 }
-function directHtml(step) {
-  const found = direct(step, 20);
-  const list = found.slice(0, 12).map(([place, rule]) => `<li>${goButton(place)} by <b>${rule}</b>${otherText(place)}</li>`).join('');
-  return `<h3>directly before it</h3><ul>${list}${found.length > 12 ? '<li>and others</li>' : ''}${found.length ? '' : '<li>nothing</li>'}</ul>`;
+// What is ordered before a step: the one before it in its own program, and by each other rule those that the rule names.
+function beforeHtml(step) {
+  const neighbour = neighbourOf(step), own = neighbour === null ? [] : [`<li>the step before it in its program, ${goButton(neighbour)}, by <b>${chainRule(step)}</b>${otherText(neighbour)}</li>`];
+  const others = direct(step).map(([rule, places]) => places.length === 1 ? `<li>${goButton(places[0])} by <b>${rule}</b>${otherText(places[0])}</li>` : manyHtml(rule, places));
+  const none = tables.graph ? 'nothing: it is the first of its program, and no rule names one' : 'nothing that is drawn';
+  return `<h3>what comes before it</h3><ul>${[...own, ...others].join('') || `<li>${none}</li>`}</ul>`;
+}
+function manyHtml(rule, places) {
+  const named = places.slice(0, MOST_NAMED).map(place => `<li>${goButton(place)}${otherText(place)}</li>`).join(''), more = places.length - MOST_NAMED;
+  return `<li>${count(places.length)} steps by <b>${rule}</b>, the latest first:<ul>${named}${more > 0 ? `<li>and ${count(more)} earlier ones</li>` : ''}</ul></li>`;
 }
 const otherText = place => { const step = stepAt(place); return step ? `: ${escaped(stepText(step))}` : ''; };
 function relationHtml() {
@@ -78,8 +88,10 @@ function legendHtml() {
     + 'Thick: how far the order comes towards the second step. ⚑ a tag status is fixed. Plain instructions are folded: ⋯ opens them.</p></details>';
 }
 const KEYS = [['j, k, ↓, ↑', 'the next step, the one before'], ['J, K', 'those of the same column'], ['Enter', 'opens what is folded; Shift and Enter from its end'],
-  ['r', 'to the race'], ['o', 'only the race’s steps'], ['g', 'to a step by its number'], ['f', 'fold again'], ['c', 'all columns'], ['n', 'names of rules'],
-  ['s', 'the words beside'], ['t', 'dark or light']];
+  ['g', 'to a step by its number'], ['/', 'finds a label, file.s:12, 0x400, ch24, or words of a step, as lost'], ['n, N', 'the next hit, the one before'],
+  ['e', 'to the end'], ...(facts.ending.said.length ? [['w', 'to the last step of the next that waits, or has a fault']] : []),
+  ...(story ? [['r', 'to the race'], ['o', 'only the race’s steps, or all again']] : []),
+  ['c', 'all columns, or those before'], ['f', 'fold again'], ['a', 'names of rules at the arrows'], ['s', 'the words beside'], ['t', 'dark or light']];
 const keysHtml = () => `<details><summary>Keys</summary><dl>${KEYS.map(([key, text]) => `<dt><kbd>${key}</kbd></dt><dd>${text}</dd>`).join('')}</dl></details>`;
 
 function side() {
@@ -93,11 +105,12 @@ function side() {
 }
 // A step that isn't of the race stands in front of its story.
 function selectedFirst() {
-  const told = storyHtml() + waitsHtml();
+  const told = storyHtml() + endingHtml();
   return state.selected !== null && !isRacing(state.selected) ? selectedHtml() + told : told + selectedHtml();
 }
 // What a reader's ear is told of the step that is chosen.
 function say(step) {
-  const before = step ? direct(step, 4).slice(0, 3).map(([place, rule]) => `after step ${place} by ${rule}`) : [];
+  const neighbour = step ? neighbourOf(step) : null, own = neighbour === null ? [] : [`after step ${neighbour} by ${chainRule(step)}`];
+  const before = step ? [...direct(step).map(([rule, places]) => `after step ${places[0]}${places.length > 1 ? ` and ${places.length - 1} earlier` : ''} by ${rule}`), ...own].slice(0, 3) : [];
   byId('said').textContent = step ? `step ${step.place}, ${stepText(step)}. ${before.join(', ')}` : '';
 }
