@@ -38,7 +38,8 @@ class Block:
     before: str  # the paragraph before it
 
     def is_session(self) -> bool:
-        return bool(PROMPT.match(self.lines[0]))
+        """Whether it is a session of tools/debug, or a part of one, whose first line may say where it begins."""
+        return any(map(PROMPT.match, self.lines[:2]))
 
     def is_commands(self) -> bool:
         return bool(IN_BLOCK.match(self.lines[0]))

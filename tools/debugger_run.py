@@ -53,6 +53,7 @@ class Run:
         self.memory = MEMORY_LINE * int(SIZE_LINE.search(self.text)[1], 0)
         self.trace, self.heads, self.place = Trace([]), [], 0
         self.left = []  # the ways that were left, the latest last
+        self.is_unkept = False  # whether steps were made that stand in no file
         self.states, self.is_written = {}, False
         self.spes = len(self.state().spes)
 
@@ -75,9 +76,14 @@ class Run:
                 way.lines = self.trace.lines[self.place:way.base] + way.lines
                 way.base = self.place
         self.left.append(Way(self.place, self.lines()))
-        self.trace.cut(self.place)
-        del self.heads[self.place:]
-        self.states = {place: state for place, state in self.states.items() if place <= self.place}
+        self.drop(self.place)
+
+    def drop(self, place):
+        """Forgets the steps from a place on, which were just made, and goes there."""
+        self.place = place
+        self.trace.cut(place)
+        del self.heads[place:]
+        self.states = {known: state for known, state in self.states.items() if known <= place}
         self.is_written = False
 
     def take_way(self, number):
@@ -114,6 +120,7 @@ class Run:
             self.cut()
         if same < len(lines):
             self.extend(lines[same:])
+            self.is_unkept = True
         self.place = end
         if state:
             self.keep(end, state)

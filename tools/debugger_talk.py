@@ -47,13 +47,21 @@ def prepare_terminal(debugger):
 def typed(debugger):
     """The lines of a terminal; an empty one repeats a step."""
     prepare_terminal(debugger)
-    before = ""
+    before, is_warned = "", False
     while True:
         try:
             line = input(debugger.prompt())
-        except (EOFError, KeyboardInterrupt):
+        except EOFError:
             print()
             return
+        except KeyboardInterrupt:
+            print()
+            if is_warned or not debugger.run.is_unkept:
+                return
+            is_warned = True
+            print("steps that no file has would be lost: `record FILE` keeps them; ctrl-C once more, or the end of input, ends the session")
+            continue
+        is_warned = False
         if line.strip():
             before = line
         elif not before.split() or before.split()[0] not in REPEATED:
@@ -93,10 +101,11 @@ def answered(debugger, line):
     return is_right
 
 
-def talk(debugger):
-    """A session, with its exit status. Refused where standard input is no script."""
+def talk(debugger, said=()):
+    """A session, with its exit status, which begins by saying these lines. Refused where standard input is no script."""
     is_terminal = sys.stdin.isatty()
     status = 0
+    say(*said)
     if is_terminal:
         print("`help` tells the commands")
         answered(debugger, "where")

@@ -20,11 +20,16 @@ def quad(digits):
     return " ".join(digits[k:k + 8] for k in range(0, 32, 8))
 
 
-def dump(at, data):
-    """Bytes in rows, each with its address."""
+def grouped(data, width):
+    """Bytes in hexadecimal, so many together."""
+    return " ".join(data[k:k + width].hex() for k in range(0, len(data), width))
+
+
+def dump(at, data, width=None):
+    """Bytes in rows, each with its address, so many together, or four."""
     for start in range(0, len(data), ROW):
         row = data[start:start + ROW]
-        words = " ".join(row[k:k + 4].hex() for k in range(0, len(row), 4))
+        words = grouped(row, width or 4)
         text = "".join(chr(byte) if ord(" ") <= byte <= LAST_PRINTABLE else "." for byte in row)
         yield f"0x{at + start:05x} {words:35} {text}"
 
@@ -89,6 +94,10 @@ class Words(Standing):
         issue = teller.issue(place)
         if issue is not None:
             yield f"    issued in step {issue}, at {teller.site(issue)}"
+
+    def calls(self, place):
+        """From where the routine of a step was called, or that of its command's issue."""
+        return [f"    {line}" for line in self.teller().origin(place)[1:]]
 
     def site(self, teller, place, step):
         """Where an instruction or an action of the host stands; the instruction as it was then, where that is known."""

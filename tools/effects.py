@@ -92,6 +92,7 @@ class Trace:
         self.steps = Steps(self.lines)
         self.issues, self.commands = {}, {}  # (processor, number): the place of the issue, and what the command asks for
         self.elements = {}  # (processor, number): the places at which its elements are read
+        self.cuts = 0  # how often steps were forgotten
         self.extend(lines)
 
     def extend(self, lines):
@@ -108,6 +109,7 @@ class Trace:
 
     def cut(self, end):
         """Forgets the steps from a place on."""
+        self.cuts += 1
         del self.lines[end:]
         self.steps.made = {place: step for place, step in self.steps.made.items() if place < end}
         for key in [key for key, place in self.issues.items() if place >= end]:

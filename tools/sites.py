@@ -145,28 +145,47 @@ class Sites:
         return f"{self.machine}:{line}: {text}"
 
 
-def callers(trace, sites):
-    """Of each instruction of a routine, the place of the branch that called it: one that sets a link, and is open until what stands behind it is
-    executed."""
-    calls = [{at for at, site in found.items() if site.is_call()} for found in sites.of_processor]
-    open_calls, led, called = [[] for _ in calls], {}, {}
-    for place, line in enumerate(trace.lines):
-        if line[0] != "x":
-            continue
+class Calls:
+    """The calls that are open, as instructions come one after the other: of branches that set a link, until what stands behind one is executed."""
+
+    def __init__(self, sites):
+        self.calls = [{at for at, site in found.items() if site.is_call()} for found in sites.of_processor]
+        self.open, self.led = [[] for _ in self.calls], {}  # of each processor the (place, address behind) of its calls, and of the branch that it made last
+
+    def take(self, place, line):
+        """Takes in an instruction, and answers the place of the branch that called its routine; None where none did."""
         words = line.split(" ", 6)
         spe, at = int(words[1]), int(words[5])
-        stack = open_calls[spe]
-        if spe in led:
-            branch, behind = led.pop(spe)
+        self.come(spe, at)
+        if at in self.calls[spe]:
+            self.led[spe] = place, at + 4
+        return self.open[spe][-1][0] if self.open[spe] else None
+
+    def come(self, spe, at):
+        """A processor comes to an address."""
+        stack = self.open[spe]
+        if spe in self.led:
+            branch, behind = self.led.pop(spe)
             if at != behind:
                 stack.append((branch, behind))
                 del stack[:-MOST_CALLS]
         if stack:
             leave(stack, at)
-            if stack:
-                called[place] = stack[-1][0]
-        if at in calls[spe]:
-            led[spe] = place, at + 4
+
+    def innermost(self, spe, at):
+        """The address of the branch that called the routine in which a processor is that stands at an address; None where none did."""
+        self.come(spe, at)
+        return self.open[spe][-1][1] - 4 if self.open[spe] else None
+
+
+def callers(trace, sites):
+    """Of each instruction of a routine, the place of the branch that called it."""
+    calls, called = Calls(sites), {}
+    for place, line in enumerate(trace.lines):
+        if line[0] == "x":
+            caller = calls.take(place, line)
+            if caller is not None:
+                called[place] = caller
     return called
 
 

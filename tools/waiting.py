@@ -15,8 +15,6 @@ WAITS = {
     3: "nothing is in signal register 1",
     4: "nothing is in signal register 2",
     21: "no place is free for a command",
-    24: "no tag status is there",
-    25: "no list has stalled",
     27: "no atomic status is there",
     28: "the outbound mailbox is full",
     29: "the inbound mailbox is empty",
@@ -60,9 +58,8 @@ class Standing:
         if not spe.runs or f"x {spe.number}" in state.may or state.end == "Budget" or spe.word is None or not may_wait(spe.word):
             return None
         channel = channel_of(spe.word)
-        if channel == EVENT_STATUS:
-            return f"it waits at channel {channel}: {self.no_event(spe, state)}"
-        return f"it waits at channel {channel}: {WAITS.get(channel, 'it has no count')}{self.request(spe, state) if channel == 24 else ''}"
+        why = NO_VALUE[channel](self, spe, state) if channel in NO_VALUE else WAITS.get(channel, "it has no count")
+        return f"it waits at channel {channel}: {why}"
 
     def remark(self, spe, state):
         """What there is to say of how a processor stands: what it waits for, if it does."""
@@ -74,9 +71,18 @@ class Standing:
         outside = f"; pending outside it: {events_in(pending)}" if pending else ""
         return (f"no event of its mask, {events_in(mask)}, is pending" if mask else "its event mask is 0, so no event shows") + outside
 
-    def request(self, spe, state):
+    def no_tag_status(self, spe, state):
         """What is behind a tag status that doesn't come."""
-        return ", though one was asked for" if "request" in self.flow(spe.number, state) else ", and none was asked for"
+        return "no tag status is there" + (", though one was asked for" if "request" in self.flow(spe.number, state) else ", and none was asked for")
+
+    def no_stall(self, spe, state):
+        """What is behind a stall status that has no bit: lists may wait for an acknowledgement of what was read before."""
+        stalled = [fields_of(line)[0] for number, line in state.flows if number == spe.number and line.startswith("command ") and line.endswith("| stalled")]
+        if not stalled:
+            return "no list has stalled"
+        named = " and ".join(f"command {words[2]} of tag {words[5]}" for words in stalled)
+        how = "has stalled, was read" if len(stalled) == 1 else "have stalled, were read"
+        return f"no stall is unread: {named} {how} and not acknowledged (`wrch` of channel 26)"
 
     def where(self, state, looked_at):
         """Where all processors are, and the host."""
@@ -99,6 +105,10 @@ class Standing:
     def flow(self, spe, state):
         """What run_trace tells of a processor's flow controller, by names."""
         return next(fields_of(line)[1] for number, line in state.flows if number == spe and line.startswith("flow "))
+
+
+# Of channels whose wait has more to tell, what says it.
+NO_VALUE = {EVENT_STATUS: Standing.no_event, 24: Standing.no_tag_status, 25: Standing.no_stall}
 
 
 def state_behind(machine: os.PathLike, record: os.PathLike) -> State:
