@@ -1,0 +1,2 @@
+	lnop
+	rdch	$3,$ch29
