@@ -9,7 +9,7 @@ from typing import Callable, Dict, Iterator, List
 from browser import NAMED_KEYS, SHIFT, Browser, Silent
 
 WIDTHS = (1400, 900)
-SECONDS = 20   # that a page may take for what it was asked
+SECONDS = 60   # that a page may take for what it was asked
 NEAR = 2       # pixels by which a row that stays may move
 MOST_TABS = 99
 AMBER, RED, GREEN = "rgb(240, 180, 41)", "rgb(198, 70, 0)", "rgb(0, 127, 95)"

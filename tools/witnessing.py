@@ -183,6 +183,11 @@ WAYS: Dict[str, Callable[[Race], List[int]]] = {
 }
 
 
+def puts(race: Race) -> Iterator[List[int]]:
+    """The steps before the race, put in one way after the other."""
+    return (put(race) for put in WAYS.values())
+
+
 # ---- what `check` says
 
 def judged(machine: os.PathLike, folder: str, race: Race, places: Sequence[int]) -> Witness:

@@ -115,7 +115,7 @@ async function select(place) {
 async function go(place) {
   if (!(place >= 0 && place < facts.count)) return;
   await need([place]);
-  openFor([place]);
+  openFor(place);
   if (!isShown(place)) openAround(place);
   await select(place);
   layout(); build();
@@ -311,9 +311,11 @@ function listen() {
 // ---- the beginning
 function headline() {
   byId('title').textContent = facts.machine;
-  byId('verdict').textContent = `${facts.verdict} · ${facts.ending.words}`;
+  const { whole } = facts, verdict = whole ? `race ${whole.pair.join(' ')}` : facts.verdict;
+  byId('verdict').textContent = `${verdict} · ${facts.ending.words}`;
   byId('verdict').classList.add(facts.ending.level);
-  byId('summary').textContent = `${facts.record}: ${count(facts.count)} steps, ${facts.spes} processor${facts.spes > 1 ? 's' : ''}`;
+  const steps = whole ? `${whole.record}, its short record: ${count(facts.count)} of ${count(whole.count)} steps` : `${facts.record}: ${count(facts.count)} steps`;
+  byId('summary').textContent = `${steps}, ${facts.spes} processor${facts.spes > 1 ? 's' : ''}`;
   if (!story) for (const id of ['to-race', 'only']) byId(id).hidden = true;
 }
 async function begin() {

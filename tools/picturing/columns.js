@@ -44,14 +44,14 @@ function fitAt(place) {
   if (is_crowd || !isInWindow()) fit(story ? [...raceLists(), ...(is_crowd ? [] : nearLanes(place))] : [...waitingLanes(), ...nearLanes(place), ...allLists()]);
 }
 
-// Sees that the columns of these steps are open and can be in the window together.
-function openFor(places) {
-  const wanted = flat(places.map(place => stepAt(place)).filter(Boolean).map(step => [step.lane]));
-  if (!wanted.some(isFolded)) return;
-  wanted.forEach(lane => state.folded.delete(lane));
+// Sees that the column of a step is open and can be in the window: it and its partner, and of the others those that have something near it.
+function openFor(place) {
+  const { lane } = stepAt(place);
+  if (!isFolded(lane)) return;
+  columnsOf(lane).forEach(one => state.folded.delete(one));
   state.kept_folds = null;
   layout();
-  if (!isInWindow()) fit([wanted, ...wanted.map(columnsOf), ...nearLanes(places[places.length - 1])]);
+  if (!isInWindow()) fit([[lane], columnsOf(lane), ...nearLanes(place)]);
 }
 // Shows columns by as little as is needed: all of them, or where they are too far from each other the last one.
 function showColumns(numbers) {

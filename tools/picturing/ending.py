@@ -1,18 +1,13 @@
 """How a run ended: how well, and of what waits or has a fault what it waits for and which step was its last."""
 import dataclasses
 import enum
-from typing import Iterator, List, Optional, Tuple
+from typing import Callable, Iterator, List, Optional, Tuple
 
+from faults import faults_of
 from order import HOST
+from waiting import waiting_of
 from words import name_of, with_article
 
-READ, WRITE, COUNT = 0x00D, 0x10D, 0x00F  # the opcodes of rdch, wrch and rchcnt
-WAITS = {
-    (WRITE, 21): "room in its queue, or in the slot of its atomic commands", (READ, 24): "a tag status", (READ, 25): "a stall status",
-    (WRITE, 23): "the tag status before to be read", (READ, 27): "the status of an atomic command", (WRITE, 28): "its outbound mailbox to be emptied",
-    (READ, 0): "an event of its mask", (READ, 3): "a signal in its register 1", (READ, 4): "a signal in its register 2",
-    (READ, 29): "a value in its inbound mailbox", (WRITE, 30): "its outbound interrupt mailbox to be emptied",
-}
 TITLES = {"Stuck": "Why nothing goes on", "Budget": "Where it was when its budget was spent", "Open": "Where it stops"}
 WORDS = {"Budget": "Budget: all {count:,} steps are spent", "Open": "Open: another step is still allowed"}
 MOST_NAMED = 3  # processors that are told by their numbers
@@ -81,11 +76,8 @@ def agreed(spes: List[int], verb: str) -> str:
 
 def said_of(run) -> Iterator[Said]:
     """What each processor, command and the host waits for, has or did at the end."""
-    for spe, status in enumerate(run.end.spes):
-        if status.is_running:
-            yield f"processor {spe} {self_wait(run, spe, status)}", last_of(run, spe)
-    for spe in spes_that(run, "is_fault"):
-        yield fault(run, spe), last_of(run, spe)
+    yield from of_processors(run, "is_running", waiting_of)
+    yield from of_processors(run, "is_fault", faults_of)
     for spe in spes_that(run, "is_halted"):
         yield f"processor {spe} halted: the condition of a halt instruction held", last_of(run, spe)
     for spe, number in sorted(run.end.outstanding):
@@ -96,26 +88,16 @@ def said_of(run) -> Iterator[Said]:
         yield f"the host waits in its action {done}, {run.sites.action(done)}", last_of(run, HOST)
 
 
+def of_processors(run, kind: str, lines_of: Callable[..., List[str]]) -> Iterator[Said]:
+    """What is told of the processors that stood so, a line each."""
+    spes = spes_that(run, kind)
+    return zip(lines_of(run.machine, run.record), [last_of(run, spe) for spe in spes]) if spes else iter(())
+
+
 def last_of(run, chain: int) -> Optional[int]:
     """The last step of a processor's program, or of the host's script; None where it made none."""
     found = run.order.chains.tobytes().rfind(chain.to_bytes(1, "little", signed=True))
     return None if found < 0 else found
-
-
-def self_wait(run, spe, status) -> str:
-    """Where a processor that runs waits, and for what; or where it is, in a run that might go on."""
-    site = run.sites.at(spe, status.pc)
-    if run.end.word != "Stuck":
-        return f"runs, at {site}"
-    wait = WAITS.get((site.word >> 21, site.word >> 7 & 127))
-    return f"waits at {site}" + (f", for {wait}" if wait else "")
-
-
-def fault(run, spe) -> str:
-    """What is told of a processor with a fault."""
-    status = run.end.spes[spe]
-    behind = ": its flow controller makes no step any more" * status.text.startswith("dmafault")
-    return f"processor {spe} has a fault ({status.text}), at {run.sites.at(spe, status.pc)}{behind}"
 
 
 def command_wait(run, key):

@@ -11,7 +11,6 @@ from channels import NAMES, channel_of
 from order import NO_CHAIN, RULES
 from picturing.bars import Arrows, atomics, bars, slots
 from picturing.ranges import lane, overview, touched
-from picturing.rows import own_rows
 from picturing.ending import Level
 from picturing.story import BEHIND, other_words, race_pairs, race_steps, race_words
 from texts import shown
@@ -110,7 +109,8 @@ def tables_of(run, keys, code):
     lanes = [lane(run.trace.lines[place], run.spes) for place in keys]
     return {"slots": slots(commands, atomic, run.count), "keys": keys, "lanes": lanes, "bars": commands, "atomics": atomic,
             "arrows": [[i, j, RULES.index(rule)] for i, j, rule in dict.fromkeys(arrows)], "graph": graph_of(run.order),
-            "calls": calls_of(run, keys, code), "hosts": run.teller.hosts, "labels": run.sites.labels}
+            "calls": calls_of(run, keys, code), "hosts": run.teller.hosts, "labels": run.sites.labels,
+            "places": run.whole.places if run.whole else None}
 
 
 def facts_of(run, sources, code):
@@ -118,7 +118,7 @@ def facts_of(run, sources, code):
     return {"machine": str(run.machine), "record": str(run.record), "verdict": run.verdict, "end": run.end.word, "count": run.count, "spes": run.spes,
             "script": [text for _, text in run.sites.script], "sources": sources, "code": code, "block": BLOCK, "rules": RULES,
             "states": [[status.text, status.pc] for status in run.end.spes], "host": run.end.host, "focus": focus_of(run), "story": story_of(run),
-            "ending": run.ending.told, "channels": NAMES, "overview": overview(run.trace.lines, run.spes), "touched": touched(run.text)}
+            "ending": run.ending.told, "channels": NAMES, "whole": run.whole and run.whole.told, "overview": overview(run.trace.lines, run.spes), "touched": touched(run.text)}
 
 
 def blocks_of(run):
@@ -129,7 +129,7 @@ def blocks_of(run):
 def page_of(run):
     """The page, in parts that follow one another."""
     sources, code = sites_of(run)
-    keys = nearest(own_rows(run), focus_of(run))
+    keys = nearest(run.rows, focus_of(run))
     title = shown(f"{os.path.basename(str(run.machine))}: {run.verdict}")
     style = (HERE / "picture.css").read_text(encoding="utf-8")
     yield '<!doctype html>\n<html lang="en"><head><meta charset="utf-8"><meta name="viewport" content="width=device-width">\n'

@@ -127,9 +127,10 @@ function wideGap(size) {
 const endChip = (lane, text, is_bad) => chip(is_bad ? 'race' : 'end', fitting([text, text.split(' ').pop()], CHIP_FONT, textEnd(lane) - textOf(lane) - CHIP_EDGES));
 const isFault = text => text.startsWith('dma') || text.startsWith('bad');
 function endCells() {
-  const told = text => text === 'running' && facts.end === 'Stuck' ? 'waits here' : text, isBad = text => text === 'running' || isFault(text);
+  const goes_on = facts.end === 'Open', told = text => text !== 'running' ? text : goes_on ? 'goes on' : facts.end === 'Stuck' ? 'waits here' : text;
+  const isBad = text => text === 'running' && !goes_on || isFault(text);
   const found = facts.states.map(([text], spe) => [lanes[2 * spe], told(text), isBad(text)]);
-  if (hasScript() && facts.host[0] < facts.host[1]) found.push([lanes[HOST], facts.script[facts.host[0]].replace(/^host /, ''), true]);
+  if (hasScript() && facts.host[0] < facts.host[1]) found.push([lanes[HOST], facts.script[facts.host[0]].replace(/^host /, ''), !goes_on]);
   return found.filter(([lane]) => !lane.fold).map(([lane, text, is_bad]) => box(textOf(lane), textEnd(lane), endChip(lane, text, is_bad), text)).join('');
 }
 

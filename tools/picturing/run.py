@@ -1,10 +1,12 @@
 """A run to be drawn: its machine file and record, what `check` says, its steps, their order, and how it ended."""
+import dataclasses
 import functools
 import re
 
 from effects import Trace, shared_bytes
 from order import Order
 from picturing.ending import ending_of
+from picturing.rows import own_rows
 from reasons import Race
 from runs import Refused, ask_tracer, verdict
 from sites import Sites
@@ -48,10 +50,10 @@ class End:
 
 
 class Run:
-    """A run, and what is asked of it more than once."""
+    """A run, and what is asked of it more than once; of a short record also the whole one that it is made of."""
 
-    def __init__(self, machine, record, pair=None):
-        self.machine, self.record = machine, record
+    def __init__(self, machine, record, pair=None, whole=None):
+        self.machine, self.record, self.whole = machine, record, whole
         self.verdict = verdict(machine, record)[0]
         found = RACE.match(self.verdict)
         self.pair = pair or (tuple(map(int, found.groups())) if found else None)
@@ -88,7 +90,13 @@ class Run:
 
     @functools.cached_property
     def ending(self):
-        return ending_of(self)
+        """How the run ended; of a short record, how the whole run did."""
+        return dataclasses.replace(self.whole.run.ending, said=[]) if self.whole else ending_of(self)
+
+    @functools.cached_property
+    def rows(self):
+        """The places of the steps that have a row."""
+        return own_rows(self)
 
     def shared(self):
         """The bytes that the two steps of the race share, with what each does to them."""

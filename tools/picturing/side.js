@@ -4,10 +4,18 @@ const goButton = place => `<button class="go" data-go="${place}">${count(place)}
 const linked = text => escaped(text).replace(/\bstep (\d+)\b/g, (_, place) => `step ${goButton(+place)}`);
 const lines = found => found.map(line => `<p>${linked(line)}</p>`).join('');
 
+// What the page has of a record that has many rows before its race, and where the two steps stand in it.
+function shortHtml() {
+  const { whole } = facts;
+  if (!whole) return '';
+  const [first, second] = whole.pair.map(count);
+  return `<p class="dim">Drawn are the ${count(facts.count)} steps that lead to the race, of ${count(whole.count)}: the first record of <code>tools/witness</code>. `
+    + `They are counted anew: the two are steps ${first} and ${second} of ${escaped(whole.record)}. <code>tools/picture --whole</code> draws all steps, and tells other races.</p>`;
+}
 function storyHtml() {
   if (!story) return '';
   const head = `<h2>Why steps ${goButton(story.first)} and ${goButton(story.second)} race</h2>`;
-  return head + wordsHtml() + `<p class="dim">${escaped(story.behind)}</p>` + othersHtml();
+  return head + shortHtml() + wordsHtml() + `<p class="dim">${escaped(story.behind)}</p>` + othersHtml();
 }
 const classOf = part => part < 2 ? 'card' : part === 5 ? 'remedy' : '';
 const wordsHtml = () => story.words.map(([title, found], k) => `<section class="${classOf(k)}"><h3>${escaped(title)}</h3>${lines(found)}</section>`).join('');
@@ -32,6 +40,7 @@ function selectedHtml() {
   for (const [way, bytes] of [['reads', step.read], ['writes', step.write]]) {
     if (bytes) said.push(`${way} ${hex(bytes.low)} to ${hex(bytes.high - 1)} of ${placeName(bytes.place)}`);
   }
+  if (tables.places) said.push(`in ${facts.whole.record} it is step ${count(tables.places[step.place])}`);
   if (step.fields.fixed) said.push('⚑ a tag status is fixed at the end of this step');
   return `<h2>Step ${count(step.place)}</h2>${said.map(text => `<p>${escaped(text)}</p>`).join('')}${beforeHtml(step)}${relationHtml(step)}`;
 }

@@ -35,7 +35,7 @@ def race_pairs(run):
 
 def other_words(run):
     """The other races, each as its two steps and what draws it; None where the record is too long to look for them."""
-    found = other_races(run)
+    found = [] if run.whole else other_races(run)  # a short record is made for one race
     return found and [[first, second, f"{run.teller.what(first)}; {run.teller.what(second)}"] for first, second in found]
 
 
