@@ -87,7 +87,7 @@ class Debugger(Going, Looking):
         return self.keep_stop(Watch(self.things.thing(words, self.spe), condition))
 
     def told_stops(self):
-        return [f"{number}: {stop}" for number, stop in self.stops.items()] or ["nothing stops a run: `break PLACE` and `watch RANGE` do"]
+        return [f"{number}: {stop}" for number, stop in self.stops.items()] or ["nothing stops a run: `break PLACE` and `watch THING` do"]
 
     def do_delete(self, words):
         if words == ["all"]:

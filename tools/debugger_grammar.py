@@ -164,7 +164,7 @@ class Grammar:
         parts: List[List[str]] = []
         left = list(words)
         while left:
-            many = {"mem": 2, "ls": 3}.get(left[0], 2 if is_processor(left[0]) else 1)
+            many = self.least(left)
             if left[many:] and number_of(left[many]) is not None and not self.is_sizeless(left[:many]):
                 many += 1
             parts.append(left[:many])
@@ -174,6 +174,10 @@ class Grammar:
     def is_sizeless(self, words: Sequence[str]) -> bool:
         """Whether words name what has a size of its own: a register or a PC, and not the bytes at its address."""
         return words[0] not in ("mem", "ls") and (words[-1] == "pc" or self.register(words[-1], None) is not None)
+
+    def least(self, words: Sequence[str]) -> int:
+        """How many words the thing has at least with which these begin."""
+        return {"mem": 2, "ls": 3}.get(words[0], 2 if is_processor(words[0]) else 1)
 
     def value(self, words: Sequence[str], looked_at: int) -> Value:
         """The value that the words of one side of a comparison name. A register without a processor is of the one that the condition is asked of."""
@@ -187,8 +191,7 @@ class Grammar:
             number = number_of(NEGATIVE.sub("", rest[0], count=1))
             if number is not None and spe is None:
                 return Number(-number if rest[0].startswith("-") else number)
-        has_size = len(words) == {"mem": 3, "ls": 4}.get(words[0] if words else "", 3 if spe is not None else 2)
-        found = self.bytes(words if has_size else [*words, str(WORD)], looked_at)
+        found = self.bytes([*words, str(WORD)] if len(words) == self.least(words) else words, looked_at)
         if found.span.size not in VALUE_BYTES:
             raise Wrong(f"{counted(found.span.size, 'byte')} are no number: type 1, 2, 4, 8 or 16 behind the address")
         return found
@@ -196,14 +199,14 @@ class Grammar:
     def condition(self, words: Sequence[str], looked_at: int) -> Condition:
         """What words say behind `if`."""
         tokens = TOKEN.findall(" ".join(words))
-        comparisons = []
-        for part in split_at(tokens, {"and"}):
-            signs = [k for k, token in enumerate(part) if token in COMPARED]
-            if len(signs) != 1 or not part[:signs[0]] or not part[signs[0] + 1:]:
-                raise Wrong(f"`{' '.join(part)}` is no comparison: {OF_CONDITIONS}")
-            at = signs[0]
-            comparisons.append(Comparison(self.value(part[:at], looked_at), part[at], self.value(part[at + 1:], looked_at)))
-        return Condition(" ".join(tokens), tuple(comparisons))
+        return Condition(" ".join(tokens), tuple(self.comparison(part, looked_at) for part in split_at(tokens, "and")))
+
+    def comparison(self, tokens: Sequence[str], looked_at: int) -> Comparison:
+        signs = [k for k, token in enumerate(tokens) if token in COMPARED]
+        if len(signs) != 1 or not 0 < signs[0] < len(tokens) - 1:
+            raise Wrong((f"`{' '.join(tokens)}` is no comparison: " if tokens else "a comparison is missing: ") + OF_CONDITIONS)
+        at = signs[0]
+        return Comparison(self.value(tokens[:at], looked_at), tokens[at], self.value(tokens[at + 1:], looked_at))
 
     def conditional(self, words: Sequence[str], looked_at: int) -> Tuple[List[str], Optional[Condition]]:
         """The words before `if`, and the condition behind it; None where there is none."""
@@ -213,11 +216,11 @@ class Grammar:
         return list(words[:at]), self.condition(words[at + 1:], looked_at)
 
 
-def split_at(tokens: Sequence[str], marks: set) -> List[List[str]]:
+def split_at(tokens: Sequence[str], mark: str) -> List[List[str]]:
     """The tokens between marks."""
     parts: List[List[str]] = [[]]
     for token in tokens:
-        if token in marks:
+        if token == mark:
             parts.append([])
         else:
             parts[-1].append(token)

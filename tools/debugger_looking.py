@@ -2,7 +2,7 @@
 from debugger_grammar import with_width
 from debugger_places import PLAIN_SIZE, STORE, Wrong, processor_of
 from debugger_stops import Break
-from debugger_words import dump, grouped, quad
+from debugger_words import dump, grouped
 from effects import Span
 from texts import lines_of, number_of, shown
 from words import counted
@@ -32,7 +32,7 @@ class Looking:
     def do_print(self, words):
         words, width = with_width(words)
         if not words:
-            return self.told_registers(self.run.state().spes[self.spe])
+            return self.told_registers(self.run.state().spes[self.spe], width)
         return [line for part in self.grammar.split(words) for line in self.told_value(part, width)]
 
     def told_value(self, words, width=None):
@@ -59,9 +59,9 @@ class Looking:
         data = self.run.bytes_of(Span(self.spe, at, min(size or PLAIN_SIZE, MOST_PRINTED, STORE - at)))
         return [*dump(at, data, width), *([f"and more, {size} in all: `x {name}` prints them"] if size > MOST_PRINTED else [])]
 
-    def told_registers(self, spe):
+    def told_registers(self, spe, width):
         """All registers of a processor that aren't zero."""
-        lines = [f"${number} = {quad(digits)}" for number, digits in spe.registers.items()]
+        lines = [f"${number} = {grouped(bytes.fromhex(digits), width or 4)}" for number, digits in spe.registers.items()]
         return [f"pc = 0x{spe.pc:05x}", *lines]
 
     def do_x(self, words):
@@ -74,9 +74,9 @@ class Looking:
     # ---- what is shown at each stop
 
     def do_display(self, words):
-        if not words:
-            return self.told_displays() or ["nothing is shown at each stop: `display` and what `print` takes do that"]
         things, width = with_width(words)
+        if not things:
+            return self.told_displays() or ["nothing is shown at each stop: `display` and what `print` takes do that"]
         parts = self.grammar.split(things)
         told = [self.told_value(part, width) for part in parts]  # what is wrong is said now
         for part in parts:

@@ -3,13 +3,15 @@ import os
 import sys
 
 from channels import NAMES
+from debugger_grammar import WIDTHS
 from debugger_help import COMMANDS
 from debugger_places import Wrong
+from debugger_things import KINDS
 from runs import Refused
 from texts import decoded, say
 
 MOST_SCRIPT_LINE = 100_000  # bytes
-REPEATED = {"step", "next", "back", "s", "n"}  # commands that an empty line at a terminal repeats
+REPEATED = {"step", "next", "back", "reverse", "last", "s", "n"}  # commands that an empty line at a terminal repeats
 DELIMITERS = " \t"
 
 
@@ -19,7 +21,7 @@ def words_to_complete(debugger):
     paths = {site.file for sites in debugger.sites.of_processor for site in sites.values()}
     files = {f"{name}:" for path in paths for name in (path, os.path.basename(path))}
     actors = [f"{kind}{spe}" for spe in range(debugger.run.spes) for kind in "xm"] + ["h"]
-    return sorted({*labels, *files, *actors, *(f"${number}" for number in range(128)), *NAMES.values(), "mem", "ls", "pc"})
+    return sorted({*labels, *files, *actors, *(f"${number}" for number in range(128)), *NAMES.values(), *KINDS, *WIDTHS, "mem", "ls", "pc", "if", "as"})
 
 
 def completer(debugger, readline):
@@ -44,13 +46,12 @@ def prepare_terminal(debugger):
     readline.parse_and_bind("tab: complete")
 
 
-def typed(debugger):
-    """The lines of a terminal; an empty one repeats a step."""
-    prepare_terminal(debugger)
+def typed(debugger, read=input):
+    """The lines of a terminal; an empty one repeats a step. `read` shows a prompt and reads a line."""
     before, is_warned = "", False
     while True:
         try:
-            line = input(debugger.prompt())
+            line = read(debugger.prompt())
         except EOFError:
             print()
             return
@@ -109,6 +110,7 @@ def talk(debugger, said=()):
     if is_terminal:
         print("`help` tells the commands")
         answered(debugger, "where")
+        prepare_terminal(debugger)
     for line in typed(debugger) if is_terminal else given(debugger):
         try:
             status |= not answered(debugger, line)

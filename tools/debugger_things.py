@@ -139,6 +139,8 @@ class Things:
         register = self.grammar.register(rest[0], owner) if len(rest) == 1 else None
         if register:
             return Target(" ".join(words), register, self.executed)
+        if rest and rest[0] not in ("mem", "ls") and self.grammar.address(rest[0], owner) is None:
+            raise Wrong(f"`{rest[0]}` is no address, label or register of processor {owner}, and none of {', '.join(KINDS)}: `help watch` has more")
         found = self.grammar.bytes(words, looked_at)
         size = [] if len(rest) > {"mem": 2, "ls": 3}.get(rest[0], 1) else [str(found.span.size)]
         return Range(" ".join([*words, *size]), found, self.trace)

@@ -4,9 +4,9 @@ import dataclasses
 from typing import Dict, Iterator, List, Mapping, Optional, Sequence, Tuple
 
 from language import ROOT
-from runs import Refused, ended, prepare, said_of
+from runs import Refused, ended, next_step, prepare, said_of
 from snapshots import Snapshot, snapshots
-from texts import number_of
+from texts import MOST_NUMBER, number_of
 
 MOST_SEED = 0xFFFF_FFFF_FFFF_FFFF
 FIRST_SEED = 1
@@ -49,7 +49,7 @@ def options_of(words: Sequence[str], flags: Sequence[str], valued: Mapping[str, 
         elif word in valued and not valued[word]:
             options[word] = next(left, "")
         elif word in valued:
-            options[word] = tuple(number_of(next(left, ""), MOST_SEED) for _ in range(valued[word]))
+            options[word] = tuple(number_of(next(left, ""), MOST_NUMBER if word == "--run" else MOST_SEED) for _ in range(valued[word]))
         else:
             names.append(word)
     is_whole = all(value != "" and not (isinstance(value, tuple) and None in value) for value in options.values())
@@ -77,7 +77,8 @@ def record_of_hunt(machine: Snapshot, number: int, seed: int = FIRST_SEED) -> Sn
     prepare()
     done = ended([ROOT / "hunt", machine, "record", str(number), str(seed)])
     if not done.stdout.startswith("cell-record"):
-        raise Refused(said_of(done))
+        said = said_of(done)
+        raise Refused(said + next_step(said, machine, ""))
     record = Snapshot(f"{machine.path}-record", f"run {number} of the hunt with seed {seed}")
     with open(record, "w") as file:
         file.write(done.stdout)

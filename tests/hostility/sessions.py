@@ -102,7 +102,19 @@ PLACES = [f"break buffer{end}" for end in ("+08", f"+{LONG}", "+0x", f"-{LONG}",
     f"watch buffer+{LONG} 4", "watch buffer 08", f"spe {LONG}", "queue 00", f"tags {LONG}", "signals 0x", "x\u0661"]
 COUNTS = [f"{command} {number}" for command in ("step", "back to", "other", "delete", "step x0") for number in (LONG, "08", "-1", "0x")] + [
     "step p 0 08 0 0", f"step p {LONG} 0 0 0", "step \u0661", "step x", "\x1b[2J", "break \x00", "record \x00", "picture \x00", "help \udcff"]
+THINGS = [f"{command} {thing}" for command in ("last", "watch") for thing in (
+    "", "if", "if if", "$128", f"${LONG}", "$3.4", "$3.", "x0", "x1 lost", "mem", "mem $3", "ls", "ls 0", "lost lost", f"stall {LONG}", "stall 32", "event",
+    "event x", "event 0x", f"signal {LONG}", "mailbox \udcff", f"reservation {LONG}", "nowhere", "buffer 0", "\u0661")]
+CONDITIONS = [f"break 0x0 if {condition}" for condition in (
+    "", "and", "$3", "$3 ==", "== $3", "$3 == $4 == $5", "$3 = 1", "$3 == 08", f"$3 < {LONG}", "$3 < -", "$3 < --1", "$3 == -0x", "1 == 1 and", "if",
+    "mem == 1", "mem 0 3 > 1", "mem 128 == 1", "x1 $3 == 1", "buffer+08 == 1", "$3.9 == 1", "\udcff == \x00", "pc ! 1", "$3 == \u0661")]
+VALUES = [f"{command} {value}" for command in ("print", "display", "x") for value in (
+    "as", "$3 as", "$3 as words words", "$3.0 as quadwords", "as bytes", "$3 4", "mem", "mem 0 as doublewords", "ls 0 0 16 16", "x0", "x0 x0 $3", "pc pc pc",
+    "-1", "as as", f"mem 0 {LONG}", "$3.4", "nowhere as bytes")]
 WORDS = [
+    session("odd things, conditions and values", ["step", *THINGS, *CONDITIONS, *VALUES, "undisplay all", "undisplay", "finish", "finish 1", "reverse",
+                                                  "tbreak if", "tbreak", "delete all", "back to 1", "where"],
+            NO_ESCAPE + r"(?!.*the debugger failed).*> where\nafter 1 step; \d+ steps? ahead\n", 1),
     session("odd numbers and names", ["step", *PLACES, *COUNTS, "where"], NO_ESCAPE + r"(?!.*the debugger failed).*1> where\nafter 1 step; 0 steps ahead\n", 1),
     session("a line without end", ["where", "x" * 200_000], r"(?s)0> where\nafter 0 steps", 2, said=r"standard input has a line of more than 100000 bytes"),
     session("odd lines of a script", ["step\r", "# \x85\r step", "\x0cwhere"], r"(?s)1> # \\x85\\x0d step\n1> \\x0cwhere\nafter 1 step; "),
@@ -129,6 +141,15 @@ TEXTS = [
         files={**FILES, NOT_UTF8: MACHINE}),
     Row("states: a missing file of an odd name", ("tools/states", "m.cell", "\x1b[2J.out"), 2, r"^states: \\x1b\[2J\.out: No such file", files=FILES),
 ]
+
+# ---- runs of hunts in the place of records
+
+RUNS = [Row(f"{tool}: {what}", (f"tools/{tool}", *words), 2, said, files=FILES) for tool in ("debug", "picture", "race", "states") for what, words, said in (
+    ("a run beyond the last", ("--run", "4294967296", "m.cell"), rf"(?m)^Usage: tools/{tool} "),
+    ("a run and a record", ("m.cell", "m.out", "--run", "0", "1", "2"), rf"(?m)^Usage: tools/{tool} "),
+    ("a seed without a run", ("m.cell", "m.out", "--seed", "2"), rf"(?m)^Usage: tools/{tool} "),
+    ("a run of what is no machine file", ("--run", "0", "s.s"), rf"(?m)^{tool}: cell: machine file, line \d+\n +tools/explain s\.s"),
+)]
 
 # ---- files that are none, have no end, or change
 
@@ -166,7 +187,7 @@ REFUSED = [
         standard_input=MACHINE),
 ]
 
-ROWS = [*WRITING, *WORDS, *TEXTS, *REFUSED]
+ROWS = [*WRITING, *WORDS, *TEXTS, *RUNS, *REFUSED]
 
 
 # ---- what no row can say
