@@ -62,6 +62,14 @@ class Reader:
         if wanted not in (found or ""):
             self.said.append(f"{what}: {found!r} hasn't {wanted!r}")
 
+    def comes_by_tab(self, place: int) -> bool:
+        """Whether the key Tab comes to a button that goes to a step."""
+        for _ in range(MOST_TABS):
+            self.browser.key("Tab")
+            if self.browser.answer("document.activeElement.dataset.go || ''") == str(place):
+                return True
+        return False
+
     def go(self, place: int) -> Dict:
         return self.keys("g", str(place), "Enter")
 
@@ -159,11 +167,7 @@ def waiting(reader: Reader) -> None:
     reader.expect("the words of what waits", f"last step {place:,}", " ".join(re.findall(rf"last step {place:,}", reader.seen()["side"])[:1]))
     reader.expect_in("`w`", f"step {place},", reader.keys("w")["chosen"])
     reader.go(0)
-    for _ in range(MOST_TABS):
-        found = reader.keys("Tab")
-        if found["in_side"] and found["focus"] == str(place):
-            break
-    reader.expect("the key Tab comes to the last step", str(place), found["focus"])
+    reader.expect("the key Tab comes to the last step", True, reader.comes_by_tab(place))
     reader.expect_in("Enter on the last step", f"step {place},", reader.keys("Enter")["chosen"])
 
 

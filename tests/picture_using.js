@@ -18,7 +18,5 @@
     is_at_end: [...document.querySelectorAll('#body .row.end')].some(row => row.getBoundingClientRect().bottom <= frame.bottom + 1),
     badge: document.getElementById('verdict').textContent, color: getComputedStyle(document.getElementById('verdict')).backgroundColor,
     field: document.getElementById('jump').value, hits: document.getElementById('hits').textContent, side: document.getElementById('side').innerText,
-    focus: document.activeElement.id || document.activeElement.dataset.go || '', in_side: document.activeElement.closest('#side .go') !== null,
-    row: chosen ? chosen.innerText : '',
   });
 }
