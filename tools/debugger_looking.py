@@ -56,8 +56,8 @@ class Looking:
         """The bytes of a label, or the first of many."""
         if at >= STORE:
             return [f"`{name}` is 0x{at:x}, the end of the store: no byte stands there"]
-        data = self.run.bytes_of(Span(self.spe, at, min(size or PLAIN_SIZE, MOST_PRINTED, STORE - at)))
-        return [*dump(at, data, width), *([f"and more, {size} in all: `x {name}` prints them"] if size > MOST_PRINTED else [])]
+        span = Span(self.spe, at, min(size or PLAIN_SIZE, MOST_PRINTED, STORE - at))
+        return [*self.dump(span, width), *([f"and more, {size} in all: `x {name}` prints them"] if size > MOST_PRINTED else [])]
 
     def told_registers(self, spe, width):
         """All registers of a processor that aren't zero."""
@@ -68,8 +68,10 @@ class Looking:
         return self.told_range(*with_width(words))
 
     def told_range(self, words, width):
-        span = self.grammar.span(words, self.spe)
-        return list(dump(span.at, self.run.bytes_of(span), width))
+        return self.dump(self.grammar.span(words, self.spe), width)
+
+    def dump(self, span, width):
+        return list(dump(span, self.run.bytes_of(span), self.sites.names, width))
 
     # ---- what is shown at each stop
 

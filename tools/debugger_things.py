@@ -7,8 +7,9 @@ from debugger_grammar import Bytes, Grammar, Register
 from debugger_places import Wrong
 from debugger_words import dump, quad
 from effects import MEMORY_LINE, Span
-from happenings import Happenings, Kind
 from executed import Executed
+from happenings import Happenings, Kind
+from names import Names
 from target_registers import target_of
 from texts import number_of
 
@@ -45,6 +46,7 @@ class Range(Thing):
     text: str
     bytes: Bytes
     trace: object
+    names: Names
 
     def __str__(self) -> str:
         return f"{self.text}{self.bytes.addressed}"
@@ -60,7 +62,8 @@ class Range(Thing):
         watched, written = self.bytes.span, self.trace.steps[place].writes
         at = max(watched.at, written.at)
         span = Span(watched.spe, at, min(SHOWN, min(watched.at + watched.size, written.at + written.size) - at))
-        return [f"    {when} {line}" for when, behind in (("before", place), ("behind", place + 1)) for line in dump(at, run.bytes_of(span, behind))]
+        return [f"    {when} {line}" for when, behind in (("before", place), ("behind", place + 1))
+                for line in dump(span, run.bytes_of(span, behind), self.names)]
 
     @property
     def deed(self) -> str:
@@ -126,7 +129,7 @@ class Things:
     """Reads the words that name a thing."""
 
     def __init__(self, grammar: Grammar, trace, sites) -> None:
-        self.grammar, self.trace = grammar, trace
+        self.grammar, self.trace, self.names = grammar, trace, sites.names
         self.executed = Executed(trace, sites, grammar.run.bytes_of)
         self.happenings = Happenings(trace, self.executed)
 
@@ -143,7 +146,7 @@ class Things:
             raise Wrong(f"`{rest[0]}` is no address, label or register of processor {owner}, and none of {', '.join(KINDS)}: `help watch` has more")
         found = self.grammar.bytes(words, looked_at)
         size = [] if len(rest) > {"mem": 2, "ls": 3}.get(rest[0], 1) else [str(found.span.size)]
-        return Range(" ".join([*words, *size]), found, self.trace)
+        return Range(" ".join([*words, *size]), found, self.trace, self.names)
 
     def key(self, kind: Kind, words: Sequence[str]) -> Optional[object]:
         """What the words behind a kind name; None where there are none."""

@@ -1,7 +1,7 @@
 """Says in words how a run stands: its processors, flow controllers and host, and what its steps did."""
 from channels import SIGNAL_REGISTERS
 from faults import Faults
-from flows import command_line, event_lines, fields_of, flow_lines, line_name, signal_line
+from flows import command_line, event_lines, fields_of, flow_lines, signal_line
 from machine_state import actor_of
 from waiting import Standing
 from words import ATOMIC, Teller, with_article
@@ -25,13 +25,14 @@ def grouped(data, width):
     return " ".join(data[k:k + width].hex() for k in range(0, len(data), width))
 
 
-def dump(at, data, width=None):
-    """Bytes in rows, each with its address, so many together, or four."""
+def dump(span, data, names, width=None):
+    """The bytes of a span in rows, so many together, or four, each with its address, and where that has a name, with it."""
     for start in range(0, len(data), ROW):
         row = data[start:start + ROW]
         words = grouped(row, width or 4)
         text = "".join(chr(byte) if ord(" ") <= byte <= LAST_PRINTABLE else "." for byte in row)
-        yield f"0x{at + start:05x} {words:35} {text}"
+        name = names.of(span.spe, span.at + start)
+        yield f"0x{span.at + start:05x} {words:35} " + (f"{text:{ROW}} {name}" if name else text)
 
 
 class Words(Standing):
@@ -73,7 +74,7 @@ class Words(Standing):
         spe = numbers[0]
         if letter == "a":
             kind, _, line = self.flow(spe, state)["atomic"]
-            return f"{with_article(ATOMIC[kind])} of {line_name(line)}, of processor {spe}"
+            return f"{with_article(ATOMIC[kind])} of {self.sites.names.line(int(line))}, of processor {spe}"
         command = self.teller().command_of(self.run.trace.commands[spe, numbers[1]])
         if letter == "p":
             element = f" of element {numbers[2]}" if (spe, numbers[1]) in self.run.trace.elements else ""
@@ -119,7 +120,7 @@ class Words(Standing):
 
     def queue(self, spe, state):
         """The outstanding commands of a processor."""
-        lines = [command_line(*self.command_fields(line)) for number, line in state.flows if number == spe and line.startswith("command ")]
+        lines = [command_line(*self.command_fields(line), self.sites.names) for number, line in state.flows if number == spe and line.startswith("command ")]
         return lines or [f"no command of processor {spe} is in the queue"]
 
     def command_fields(self, line):
@@ -128,7 +129,7 @@ class Words(Standing):
 
     def tags(self, spe, state):
         """A processor's flow controller beside its queue."""
-        return flow_lines(self.flow(spe, state))
+        return flow_lines(self.flow(spe, state), spe, self.sites.names)
 
     # ---- signals and events
 

@@ -7,6 +7,9 @@ import stat
 from explain_source import explain_source
 from explaining import MOST, cell, cell_of, in_latin, short
 from language import STORE
+from names import name_in, named_by_labels
+from runs import Refused
+from sites import source_labels, source_lines
 from texts import MOST_BYTES, bytes_of, number_of
 
 LINE = 128  # bytes of a line of main memory
@@ -39,6 +42,11 @@ class Seen:
     def spe(self):
         return self.counts["spe"] - 1
 
+    def place(self, number, address):
+        """An address that the line of a number has placed, with its name, if it has one."""
+        name = "".join(label_at(source, address) for line, _, source in self.sources if line == number)
+        return f"0x{address:05x}" + (f" ({name})" if name else "")
+
     def take(self, number, words):
         """Takes an accepted line."""
         name = words[0]
@@ -56,6 +64,14 @@ class Seen:
             self.sources.append((number, self.spe, words[1]))
         elif name == "entry":
             self.entries.add(self.spe)
+
+
+def label_at(source, address):
+    """The name that a source has for an address; nothing where it has none, or its lines can't be placed."""
+    try:
+        return name_in(named_by_labels(source_labels(source_lines(source))), address)
+    except Refused:
+        return ""
 
 
 def why_head(words, seen):
@@ -242,7 +258,7 @@ def machine_warnings(seen, places):
         if covered and kind != "bytes" and number not in told:
             told.add(number)
             linker = " (each source begins at 0, and nothing is linked)" if kind == "source" else ""
-            yield number, f"covers 0x{covered[1]:05x}, which line {covered[0]} has placed: the later stays{linker}"
+            yield number, f"covers {seen.place(*covered)}, which line {covered[0]} has placed: the later stays{linker}"
     filled = {place[1] for place in places} | {spe for _, spe, _ in seen.sources}
     for spe, number in enumerate(seen.begun):
         if spe not in filled:

@@ -4,7 +4,7 @@ docs/PROFILE.md has the rules, each with the kind of fault that a status names, 
 """
 import os
 import tempfile
-from typing import Callable, Dict, Iterator, List, NamedTuple, Optional, Tuple
+from typing import Callable, Dict, Iterable, Iterator, List, NamedTuple, Optional, Tuple
 
 from channels import COMMANDS, NAMES, READ, WRITE, channel_name, channel_of
 from debugger_run import Run
@@ -12,12 +12,12 @@ from effects import MEMORY_LINE, Trace
 from flows import fields_of
 from language import STORE
 from machine_state import Spe, State
+from names import NONE, Names
 from sites import Sites
 from waiting import Standing
 from words import Teller, name_of, with_article
 
 FAULTS = ("dmafault", "badchannel", "badword")  # how the status of a processor with a fault begins
-MFC_CMD = 21
 LIST_ENTRY = 8  # bytes
 MOST_BYTES = 16_384  # of a transfer, and of a list
 MOST_TAG, MOST_REGISTER = 31, 31
@@ -39,69 +39,84 @@ class Asked(NamedTuple):
     tag: int
 
 
-def first_broken(rules: Iterator[Tuple[bool, str, str]]) -> Broken:
+def first_broken(rules: Iterable[Tuple[bool, str, str]]) -> Broken:
     """The first rule that is broken, of some that say whether they are."""
     return next(((kind, words) for is_broken, kind, words in rules if is_broken), None)
 
 
-def leaves_store(name: str, at: int, size: int) -> Tuple[bool, str, str]:
-    return at + size > STORE, "store", f"{name} 0x{at:x} with size {size} leaves the store, which ends at 0x{STORE:x}"
+class Owner(NamedTuple):
+    """Whose command it is: how many bytes main memory has, the number of the processor, and what the places of both are called."""
+    memory: int
+    spe: int = 0
+    names: Names = NONE
+
+    def local(self, at: int) -> str:
+        return self.names.address(self.spe, at)
+
+    def remote(self, at: int) -> str:
+        return self.names.address(None, at)
 
 
-def leaves_memory(name: str, at: int, size: int, memory: int) -> Tuple[bool, str, str]:
-    return at + size > memory, "memory", f"{name} 0x{at:x} with size {size} leaves main memory, which ends at 0x{memory:x}"
+Rules = Iterator[Tuple[bool, str, str]]  # each whether it is broken, the kind of its fault, and in words
 
 
-def transfer_rules(local: str, ls: int, remote: str, ea: int, size: int, memory: int) -> Iterator[Tuple[bool, str, str]]:
-    """The rules of a transfer between an address of the store and one of main memory, each with its name."""
+def within_store(name: str, at: int, size: int, owner: Owner) -> Rules:
+    yield at + size > STORE, "store", f"{name} {owner.local(at)} with size {size} leaves the store, which ends at 0x{STORE:x}"
+
+
+def within_memory(name: str, at: int, size: int, owner: Owner) -> Rules:
+    yield at + size > owner.memory, "memory", f"{name} {owner.remote(at)} with size {size} leaves main memory, which ends at 0x{owner.memory:x}"
+
+
+def transfer_rules(local: str, ls: int, remote: str, ea: int, size: int, owner: Owner) -> Rules:
+    """The rules of a transfer between an address of the store and one of main memory, each with what it is called."""
+    here, there = f"{local} {owner.local(ls)}", f"{remote} {owner.remote(ea)}"
     yield size > MOST_BYTES, "size", f"size {size} is above {MOST_BYTES}"
     yield size % WHOLE != 0 and size not in SMALL, "size", f"size {size} is none of {', '.join(map(str, SMALL))} and no multiple of {WHOLE}"
     if 0 < size < WHOLE:
-        yield ea % size != 0, "alignment", f"{remote} 0x{ea:x} is no multiple of the size, {size}"
-        yield ls % WHOLE != ea % WHOLE, "alignment", f"the low four bits of {local} 0x{ls:x} and {remote} 0x{ea:x} differ, and size {size} wants them equal"
+        yield ea % size != 0, "alignment", f"{there} is no multiple of the size, {size}"
+        yield ls % WHOLE != ea % WHOLE, "alignment", f"the low four bits of {here} and {there} differ, and size {size} wants them equal"
     elif size:
-        for name, at in ((local, ls), (remote, ea)):
-            yield at % WHOLE != 0, "alignment", f"{name} 0x{at:x} is no multiple of {WHOLE}, which size {size} wants"
-    yield leaves_store(local, ls, size)
-    yield leaves_memory(remote, ea, size, memory)
+        yield from ((at % WHOLE != 0, "alignment", f"{what} is no multiple of {WHOLE}, which size {size} wants") for at, what in ((ls, here), (ea, there)))
+    yield from within_store(local, ls, size, owner)
+    yield from within_memory(remote, ea, size, owner)
 
 
-def of_transfer(asked: Asked, memory: int) -> Iterator[Tuple[bool, str, str]]:
-    return transfer_rules("LSA", asked.lsa, "EAL", asked.low, asked.size, memory)
+def of_transfer(asked: Asked, owner: Owner) -> Rules:
+    return transfer_rules("LSA", asked.lsa, "EAL", asked.low, asked.size, owner)
 
 
-def of_list(asked: Asked, memory: int) -> Iterator[Tuple[bool, str, str]]:
+def of_list(asked: Asked, owner: Owner) -> Rules:
     yield asked.size % LIST_ENTRY != 0, "size", f"size {asked.size}, that of the list, is no multiple of {LIST_ENTRY}"
     yield asked.size > MOST_BYTES, "size", f"size {asked.size}, that of the list, is above {MOST_BYTES}"
-    yield asked.low % LIST_ENTRY != 0, "alignment", f"EAL 0x{asked.low:x}, the list's address in the store, is no multiple of {LIST_ENTRY}"
-    yield leaves_store("the list at EAL", asked.low, asked.size)
+    yield asked.low % LIST_ENTRY != 0, "alignment", f"EAL {owner.local(asked.low)}, the list's address in the store, is no multiple of {LIST_ENTRY}"
+    yield from within_store("the list at EAL", asked.low, asked.size, owner)
 
 
-def of_signal(asked: Asked, memory: int) -> Iterator[Tuple[bool, str, str]]:
+def of_signal(asked: Asked, owner: Owner) -> Rules:
     yield asked.size != SIGNAL, "size", f"size {asked.size} has to be {SIGNAL}"
-    yield asked.lsa % SIGNAL != 0, "alignment", f"LSA 0x{asked.lsa:x} is no multiple of {SIGNAL}"
-    yield leaves_store("LSA", asked.lsa, SIGNAL)
+    yield asked.lsa % SIGNAL != 0, "alignment", f"LSA {owner.local(asked.lsa)} is no multiple of {SIGNAL}"
+    yield from within_store("LSA", asked.lsa, SIGNAL, owner)
     yield asked.low > MOST_REGISTER, "memory", f"EAL 0x{asked.low:x} is the number of no signal register: it is above {MOST_REGISTER}"
 
 
-def of_line(asked: Asked, memory: int) -> Iterator[Tuple[bool, str, str]]:
-    for name, at in (("LSA", asked.lsa), ("EAL", asked.low)):
-        yield at % MEMORY_LINE != 0, "alignment", f"{name} 0x{at:x} is no multiple of {MEMORY_LINE}"
-    yield leaves_store("LSA", asked.lsa, MEMORY_LINE)
-    yield leaves_memory("EAL", asked.low, MEMORY_LINE, memory)
+def of_line(asked: Asked, owner: Owner) -> Rules:
+    for what, at in ((f"LSA {owner.local(asked.lsa)}", asked.lsa), (f"EAL {owner.remote(asked.low)}", asked.low)):
+        yield at % MEMORY_LINE != 0, "alignment", f"{what} is no multiple of {MEMORY_LINE}"
+    yield from within_store("LSA", asked.lsa, MEMORY_LINE, owner)
+    yield from within_memory("EAL", asked.low, MEMORY_LINE, owner)
 
 
-def of_barrier(asked: Asked, memory: int) -> Iterator[Tuple[bool, str, str]]:
+def of_barrier(asked: Asked, owner: Owner) -> Rules:
     return iter(())
 
 
 ATOMIC = ("GETLLAR", "PUTLLC", "PUTLLUC")  # which have no tag
-Rules = Callable[[Asked, int], Iterator[Tuple[bool, str, str]]]
-OTHERS: Dict[str, Rules] = {"BARRIER": of_barrier, "PUTQLLUC": of_line, **dict.fromkeys(ATOMIC, of_line)}
+OTHERS: Dict[str, Callable[[Asked, Owner], Rules]] = {"BARRIER": of_barrier, "PUTQLLUC": of_line, **dict.fromkeys(ATOMIC, of_line)}
 NAMES_OF_COMMANDS = {opcode: name[len("MFC_"):-len("_CMD")] for name, opcode in COMMANDS.items()}
 
 
-def rules_of(name: str) -> Rules:
+def rules_of(name: str) -> Callable[[Asked, Owner], Rules]:
     """The rules of a command but for those of its tag and of EAH."""
     if name in OTHERS:
         return OTHERS[name]
@@ -110,25 +125,25 @@ def rules_of(name: str) -> Rules:
     return of_list if name.startswith(("PUTL", "GETL")) else of_transfer
 
 
-def command_rules(name: str, asked: Asked, memory: int) -> Iterator[Tuple[bool, str, str]]:
+def command_rules(name: str, asked: Asked, owner: Owner) -> Rules:
     """All rules of a command, in the order in which they are tested."""
     yield name not in ATOMIC and asked.tag > MOST_TAG, "tag", f"tag {asked.tag} is above {MOST_TAG}"
-    yield from rules_of(name)(asked, memory)
+    yield from rules_of(name)(asked, owner)
     yield name != "BARRIER" and asked.high != 0, "high", f"EAH is 0x{asked.high:x} and has to be 0"
 
 
-def broken_by_command(opcode: int, asked: Asked, memory: int) -> Broken:
-    """What a command breaks in a machine with so many bytes of main memory; None where it breaks nothing."""
+def broken_by_command(opcode: int, asked: Asked, owner: Owner) -> Broken:
+    """What a command breaks; None where it breaks nothing."""
     name = NAMES_OF_COMMANDS.get(opcode & LOW_HALF)
     if name is None:
         return "opcode", f"0x{opcode & LOW_HALF:x} is the opcode of no command"
-    return first_broken(command_rules(name, asked, memory))
+    return first_broken(command_rules(name, asked, owner))
 
 
-def broken_by_element(place: int, ea: int, size: int, memory: int) -> Broken:
+def broken_by_element(place: int, ea: int, size: int, owner: Owner) -> Broken:
     """What an element of a list breaks that is the next to come at a place in the store; None where it breaks nothing."""
     ls = place + ea % WHOLE if size < WHOLE else place
-    return first_broken(transfer_rules("its place", ls, "its address", ea, size, memory))
+    return first_broken(transfer_rules("its place", ls, "its address", ea, size, owner))
 
 
 def broken_by_channel(word: int) -> str:
@@ -171,13 +186,16 @@ class Faults:
         """Whether a fault is that of an element: it was read in the last step."""
         return spe.status.startswith("dmafault") and self.run.heads[self.last_step(spe)].startswith("e ")
 
+    def owner(self, spe: Spe) -> Owner:
+        return Owner(self.run.memory, spe.number, self.standing.sites.names)
+
     def of_command(self, spe: Spe, state: State) -> str:
         """Why a command was refused that a processor was to issue."""
         opcode = int(spe.register(spe.word & 0x7F)[:8], 16)
         params = fields_of(next(line for number, line in state.flows if number == spe.number and line.startswith("flow ")))[1]["params"]
         lsa, high, low, size, tag = map(int, params)
         name = NAMES_OF_COMMANDS.get(opcode & LOW_HALF)
-        return said(spe, "the command" if name is None else with_article(name), broken_by_command(opcode, Asked(lsa, high, low, size, tag), self.run.memory))
+        return said(spe, "the command" if name is None else with_article(name), broken_by_command(opcode, Asked(lsa, high, low, size, tag), self.owner(spe)))
 
     def of_element(self, spe: Spe) -> str:
         """Why an element was refused. No step has changed its words since it was read."""
@@ -188,7 +206,7 @@ class Faults:
         size, ea = int.from_bytes(words[:4], "big") % ELEMENT_SIZES, int.from_bytes(words[4:], "big")
         issue = trace.issues[step.command_key()]
         what = f"element {number} of command {command.number} ({name_of(command)}, issued in step {issue}, at {Teller(trace, self.standing.sites).site(issue)})"
-        return said(spe, what, broken_by_element(place_behind(trace, command.ls, last), ea, size, self.run.memory))
+        return said(spe, what, broken_by_element(place_behind(trace, command.ls, last), ea, size, self.owner(spe)))
 
 
 def has_fault(spe: Spe) -> bool:

@@ -1,7 +1,8 @@
 """Says in words what the flow controllers, mailboxes and signal registers of a run hold, from the lines that run_trace prints of them."""
 from channels import SIGNAL_REGISTERS, events_in
 from effects import Command
-from words import ATOMIC, ATOMIC_LINE, BOXES, name_of, signal_register, tags
+from names import NONE
+from words import ATOMIC, BOXES, name_of, signal_register, tags
 
 HOW = {"0": "at once", "1": "any"}
 STATUSES = {"0": "PUTLLC stored", "1": "PUTLLC lost its line", "2": "PUTLLUC", "4": "GETLLAR"}
@@ -13,10 +14,10 @@ def fields_of(line):
     return first, {name: words for name, *words in fields}
 
 
-def flow_lines(told):
-    """A flow controller beside its outstanding commands, in words."""
+def flow_lines(told, spe, names):
+    """A processor's flow controller beside its outstanding commands, in words."""
     lsa, high, low, size, tag = map(int, told["params"])
-    yield f"next command: LSA 0x{lsa:x}, EAH 0x{high:x}, EAL 0x{low:x}, size {size}, tag {tag}"
+    yield f"next command: LSA {names.address(spe, lsa)}, EAH 0x{high:x}, EAL 0x{low:x}, size {size}, tag {tag}"
     yield f"tag mask: {groups_of(told['mask'][0])}"
     if "request" in told:
         how, groups = told["request"]
@@ -28,13 +29,13 @@ def flow_lines(told):
         yield f"unread stall status: {groups_of(told['stalls'][0])}"
     if "atomic" in told:
         kind, lsa, line = told["atomic"]
-        yield f"atomic command in its slot: {ATOMIC[kind]} of {line_name(line)}, 0x{int(lsa):x} of the store"
+        yield f"atomic command in its slot: {ATOMIC[kind]} of {names.line(int(line))}, {names.address(spe, int(lsa))} of the store"
     if "status" in told:
         status = told["status"][0]
         yield f"unread atomic status: {status}, {STATUSES.get(status, 'unknown')}"
     if "reserved" in told:
         line, state = told["reserved"]
-        yield f"reservation: of {line_name(line)}, {'held' if state == 'held' else 'lost: a store has touched it since'}"
+        yield f"reservation: of {names.line(int(line))}, {'held' if state == 'held' else 'lost: a store has touched it since'}"
     for box in (box for box in BOXES if box in told):
         yield f"{BOXES[box].removeprefix('the ')}: {', '.join(f'0x{int(value):x}' for value in told[box])}"
 
@@ -72,31 +73,28 @@ def groups_of(groups):
     return f"0x{int(groups):08x}, {tags(int(groups))}"
 
 
-def line_name(number):
-    return f"the line at 0x{int(number) * ATOMIC_LINE:x}"
-
-
-def command_line(words, told):
+def command_line(words, told, names):
     """An outstanding command in words."""
     spe, number, kind, mark, *rest = words
     command = Command(int(spe), int(number), kind, mark, *map(int, rest))
-    return f"command {number}: {name_of(command)} of tag {command.tag}{moved(command)}{', '.join(['', *left_of(told)])}"
+    return f"command {number}: {name_of(command)} of tag {command.tag}{moved(command, names)}{', '.join(['', *left_of(told, names)])}"
 
 
-def moved(command):
+def moved(command, names):
     """From where to where a command moves bytes."""
     if command.kind == "barrier":
         return ""
+    local = names.address(command.spe, command.ls)
     if command.kind in ("putl", "getl"):
-        return f", a list of {command.size} bytes at 0x{command.ea:x} of the store, elements from 0x{command.ls:x} on"
+        return f", a list of {command.size} bytes at {names.address(command.spe, command.ea)} of the store, elements from {local} on"
     if command.kind == "sndsig":
-        return f", {command.size} bytes from 0x{command.ls:x} of the store to {signal_register(command.ea)}"
-    store, memory = f"0x{command.ls:x} of the store", f"0x{command.ea:x} of main memory"
+        return f", {command.size} bytes from {local} of the store to {signal_register(command.ea)}"
+    store, memory = f"{local} of the store", f"{names.address(None, command.ea)} of main memory"
     source, target = (memory, store) if command.kind == "get" else (store, memory)
     return f", {command.size} bytes from {source} to {target}"
 
 
-def left_of(told):
+def left_of(told, names):
     """What is left of an outstanding command."""
     if "read" in told:
         yield "{} of {} elements read".format(*told["read"])
@@ -104,20 +102,21 @@ def left_of(told):
     if "element" in told:
         number, _, flagged, memory, size = told["element"]
         stalls = ", behind which it stalls" if flagged == "1" else ""
-        yield f"{left} of {parts} pieces left of element {number} ({size} bytes at 0x{int(memory):x} of main memory{stalls})"
+        yield f"{left} of {parts} pieces left of element {number} ({size} bytes at {names.address(None, int(memory))} of main memory{stalls})"
     elif parts != "0":
         yield f"{left} of {parts} pieces left"
     if "stalled" in told:
         yield "stalled: it waits for an acknowledgement of its tag (`wrch` of channel 26)"
 
 
-def in_words(line, or_modes):
+def in_words(line, or_modes, names=NONE):
     """A line of run_trace about a flow controller, a command or the host's script, in words; every other as it is. The registers of processors that are in
     OR mode are pairs of their numbers."""
     if not line.startswith(("flow ", "command ", "script ")):
         return [line]
     (name, *words), told = fields_of(line)
     if name == "flow":
-        in_or_mode = [register for spe, register in or_modes if spe == int(words[0])]
-        return [f"flow controller {words[0]}", *(f"    {said}" for said in [*flow_lines(told), *used_lines(told, in_or_mode)])]
-    return [f"    {command_line(words, told)}"] if name == "command" else []
+        spe = int(words[0])
+        in_or_mode = [register for other, register in or_modes if other == spe]
+        return [f"flow controller {spe}", *(f"    {said}" for said in [*flow_lines(told, spe, names), *used_lines(told, in_or_mode)])]
+    return [f"    {command_line(words, told, names)}"] if name == "command" else []

@@ -10,10 +10,11 @@ from disassembly import Disassembler
 from effects import Span, Step, shared_bytes
 from flows import in_words
 from machine_state import State
+from names import Names
 from sites import Sites
 from texts import lines_of, number_of
 from witnessing import Pair, Witness
-from words import counted, range_of
+from words import counted
 
 ROW = 16  # bytes of a line
 REGISTERS = 128
@@ -69,7 +70,7 @@ def rows(data: bytes) -> List[str]:
     return [" ".join(data[at:at + ROW][k:k + 4].hex() for k in range(0, len(data[at:at + ROW]), 4)) for at in range(0, len(data), ROW)]
 
 
-def of_bytes(span: Span, first: bytes, second: bytes, name: str = "{}") -> Difference:
+def of_bytes(names: Names, span: Span, first: bytes, second: bytes, name: str = "{}") -> Difference:
     """The first row of a range that differs, or its first row; and how many others do."""
     both = list(zip(rows(first), rows(second)))
     differing = [at for at, (one, other) in enumerate(both) if one != other] or [0]
@@ -77,7 +78,7 @@ def of_bytes(span: Span, first: bytes, second: bytes, name: str = "{}") -> Diffe
     row = Span(span.spe, span.at + start, min(ROW, span.size - start))
     more = f" (and {counted(len(differing) - 1, 'row')} of {ROW} bytes more)" if len(differing) > 1 else ""
     one, other = both[differing[0]]
-    return Difference(name.format(range_of(row)) + more, (one,), (other,))
+    return Difference(name.format(names.range(row)) + more, (one,), (other,))
 
 
 # ---- the parts of a state
@@ -95,9 +96,10 @@ def registers(state: State) -> List[Part]:
     return [Part(f"${number} of processor {spe.number}", (quad(spe.register(number)),)) for spe in state.spes for number in range(REGISTERS)]
 
 
-def controllers(state: State, or_modes: set) -> List[Part]:
+def controllers(state: State, sites: Sites) -> List[Part]:
     """The flow controllers with their commands, a part for each."""
-    return [Part(f"flow controller {spe.number}", tuple(said for number, line in state.flows if number == spe.number for said in in_words(line, or_modes)))
+    return [Part(f"flow controller {spe.number}",
+                 tuple(said for number, line in state.flows if number == spe.number for said in in_words(line, sites.or_modes, sites.names)))
             for spe in state.spes]
 
 
@@ -135,6 +137,7 @@ class Both:
 
     def __init__(self, machine: os.PathLike, folder: str, pair: Pair) -> None:
         self.machine, self.count, self.sites = machine, len(pair.first.heads), Sites(machine)
+        self.names = self.sites.names
         self.runs = [self.run_of(witness, os.path.join(folder, name)) for name, witness in pair.named]
 
     def run_of(self, witness: Witness, folder: str) -> Run:
@@ -163,7 +166,7 @@ class Both:
         found = []
         for way, other, span in shared_bytes(one, two):
             if way == other:
-                found.append(of_bytes(span, *self.bytes_of(span), "{}, which both write"))
+                found.append(of_bytes(self.names, span, *self.bytes_of(span), "{}, which both write"))
             elif other == "writes":
                 found.append(self.found_by(one, Reader(True, way, span)))
             else:
@@ -174,20 +177,20 @@ class Both:
         """What a step finds in each order."""
         name = f"{{}}, when {step.line} {reader.way} them"
         if reader.way != "fetches":
-            return of_bytes(reader.span, *self.bytes_of(reader.span, reader.places(self.count)), name)
+            return of_bytes(self.names, reader.span, *self.bytes_of(reader.span, reader.places(self.count)), name)
         words = self.bytes_of(step.fetch, reader.places(self.count))
         first, second = ((f"{word.hex()}  {Disassembler().text(step.fetch.at, int.from_bytes(word, 'big'))}",) for word in words)
-        return Difference(name.format(range_of(step.fetch)), first, second)
+        return Difference(name.format(self.names.range(step.fetch)), first, second)
 
     # ---- how the machine stands behind the two steps
 
     def behind(self) -> List[Difference]:
         """What differs behind the two steps. The steps before them are the same, so of bytes only those can that one of the two has written."""
         written = dict.fromkeys(step.writes for number in (0, 1) for step in self.steps(number) if step.writes)
-        found = [of_bytes(span, *self.bytes_of(span)) for span in written]
+        found = [of_bytes(self.names, span, *self.bytes_of(span)) for span in written]
         first, second = (run.state() for run in self.runs)
         found += compared([*statuses(first), *host_parts(first), *registers(first)], [*statuses(second), *host_parts(second), *registers(second)])
-        flows = compared(*(controllers(state, self.sites.or_modes) for state in (first, second)))
+        flows = compared(*(controllers(state, self.sites) for state in (first, second)))
         return [difference for difference in found if difference.is_one] + list(map(differing_lines, flows))
 
     # ---- how they end
@@ -208,7 +211,7 @@ class Both:
     def ends(self) -> Ends:
         shows = self.shows()
         first, second = (self.end(run, shows) for run in self.runs)
-        bytes_shown = [of_bytes(span_shown(show), *both) for show, *both in zip(shows, first.shown, second.shown)]
+        bytes_shown = [of_bytes(self.names, span_shown(show), *both) for show, *both in zip(shows, first.shown, second.shown)]
         found = [difference for difference in bytes_shown if difference.is_one]
         found += compared([*host_parts(first), *statuses(first), *registers(first)], [*host_parts(second), *statuses(second), *registers(second)])
         return Ends((first.end, second.end), found, len(shows))

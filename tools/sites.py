@@ -1,7 +1,9 @@
 """Where the instructions of a machine come from: of each processor's addresses the file, the line and the text that was placed there."""
+import functools
 import re
 
 from language import without_comments
+from names import Names, named_by_labels, named_range
 from placed import LABELS, placed_lines
 from runs import Refused
 from texts import lines_of
@@ -96,7 +98,8 @@ def machine_lines(machine, name):
 
 
 class Sites:
-    """The sites and the labels of each processor of a machine file, the modes of its signal registers, and the lines of the host's script.
+    """The sites and the labels of each processor of a machine file, the modes of its signal registers, the names of ranges of main memory, and the lines of the
+    host's script.
 
     `name` is what the user calls the machine file, where another one is read in its place.
     """
@@ -104,8 +107,10 @@ class Sites:
     def __init__(self, machine, name=None):
         self.machine, self.of_processor, self.labels, self.script = name or machine, [], [], []
         self.or_modes = set()  # the processors and numbers of the signal registers in OR mode
+        self.stores, self.memory = [], []  # the ranges that have names, of each processor's store and of main memory
         self.sources = {}  # by their names the sites and the labels of each
         for number, line in enumerate(machine_lines(machine, self.machine), 1):
+            self.memory += filter(None, [named_range(line)])
             try:
                 self.read(number, WORD.findall(line.partition("#")[0]))
             except (IndexError, ValueError):
@@ -116,10 +121,12 @@ class Sites:
         if words[:1] == ["spe"]:
             self.of_processor.append({})
             self.labels.append({})
+            self.stores.append([])
         elif words[:1] == ["source"]:
             sites, labels = self.of_source(words[1])
             self.of_processor[-1].update(sites)
             self.labels[-1].update(labels)
+            self.stores[-1] += named_by_labels(labels)
         elif words[:1] in (["code"], ["bytes"]):
             self.of_processor[-1].update(code_sites(self.machine, number, int(words[1], 0), words[2]))
         elif words[:1] == ["host"]:
@@ -133,6 +140,11 @@ class Sites:
             lines = source_lines(name)
             self.sources[name] = source_sites(name, lines), source_labels(lines)
         return self.sources[name]
+
+    @functools.cached_property
+    def names(self):
+        """The names of the places of the machine."""
+        return Names(self.stores, self.memory)
 
     def at(self, spe, address):
         """The site of an instruction."""

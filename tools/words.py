@@ -12,22 +12,8 @@ MARKS = {"-": "", "fence": "F", "barrier": "B"}
 ATOMIC = {"getllar": "GETLLAR", "putllc": "PUTLLC", "putlluc": "PUTLLUC"}
 OUTCOMES = {("putllc", 0): "stored", ("putllc", 1): "lost its line and didn't store"}
 BOXES = {"in": "the inbound mailbox", "out": "the outbound mailbox", "intr": "the outbound interrupt mailbox"}
-ATOMIC_LINE = 128
 OF_EVENTS = {("rdch", EVENT_STATUS): "the reading of the event status", ("rdch", EVENT_MASK_READ): "the reading of the event mask",
              ("wrch", EVENT_MASK_WRITE): "the setting of the event mask", ("wrch", EVENT_ACK): "the acknowledgement of events"}
-
-
-def place_of(span):
-    return "main memory" if span.spe is None else f"the store of processor {span.spe}"
-
-
-def start_of(span):
-    return f"0x{span.at:x} of {place_of(span)}"
-
-
-def range_of(span):
-    """A span as its first and its last address."""
-    return f"0x{span.at:x} to 0x{span.at + span.size - 1:x} of {place_of(span)}"
 
 
 def tags(groups):
@@ -59,7 +45,7 @@ class Teller:
     """Says what the steps of one trace are."""
 
     def __init__(self, trace, sites):
-        self.trace, self.sites = trace, sites
+        self.trace, self.sites, self.names = trace, sites, sites.names
 
     @functools.cached_property
     def called(self):
@@ -133,8 +119,7 @@ class Teller:
         step = self.trace.steps[place]
         kind, _, line = step.told["atomic"]
         outcome = OUTCOMES.get((kind, step.number("status")))
-        address = f"0x{int(line) * ATOMIC_LINE:x}"
-        return f"{ATOMIC[kind]} of the line at {address}" + (f", which {outcome}" if outcome else "")
+        return f"{ATOMIC[kind]} of {self.names.line(int(line))}" + (f", which {outcome}" if outcome else "")
 
     def what(self, place):
         """What a step is."""
@@ -152,14 +137,14 @@ class Teller:
             number = self.trace.element_of(place)[2]
             return f"the reading of element {number} of {self.command(place)}"
         element = f" of element {step.element}" if self.trace.element_of(place) else ""
-        way = f"{step.reads.size} bytes from {start_of(step.reads)} to {self.target(step)}"
+        way = f"{step.reads.size} bytes from {self.names.start(step.reads)} to {self.target(step)}"
         return f"piece {step.part}{element} of {self.command(place)}: {way}"
 
     def target(self, step):
         """Where a piece brings its bytes."""
         command = self.trace.commands[step.command_key()]
         if command.kind != "sndsig":
-            return start_of(step.writes)
+            return self.names.start(step.writes)
         return signal_register(command.ea) + ("" if "signal" in step.told else ", which isn't there")
 
     def instruction(self, place):

@@ -8,7 +8,7 @@ BEHIND = "`check` names the race whose later step comes first. Others may follow
 def race_words(run):
     """The paragraphs of a race, each a title and its lines, as tools/race tells it."""
     race, teller = run.race, run.teller
-    shared = [f"{span.size} bytes, {place_range(span)}: the first {way} them, the second {other} them" for way, other, span in shared_bytes(race.one, race.two)]
+    shared = [f"{span.size} bytes, {teller.names.range(span)}: the first {way} them, the second {other} them" for way, other, span in shared_bytes(race.one, race.two)]
     return [
         [f"first, step {race.first}", [teller.what(race.first), *teller.origin(race.first)]],
         [f"second, step {race.second}", [teller.what(race.second), *teller.origin(race.second)]],
@@ -17,11 +17,6 @@ def race_words(run):
         ["why nothing orders the first before the second", race.reasons()],
         ["what would order them", race.remedies()],
     ]
-
-
-def place_range(span):
-    name = "main memory" if span.spe is None else f"the store of processor {span.spe}"
-    return f"0x{span.at:x} to 0x{span.at + span.size - 1:x} of {name}"
 
 
 def race_pairs(run):
