@@ -1,14 +1,11 @@
-"""Says in words what `cell` refuses in the form of a record file, and which faults its states tell."""
+"""Says in words what `cell` refuses in the form of a record file."""
 import pathlib
 import re
 import tempfile
 
+from explain_run import run_warnings
 from explaining import MOST, MOST_QUOTED, cell, in_latin, short
-from faults import FAULTS, faults_of
 from language import value_of
-from runs import Refused
-from snapshots import Snapshot
-from texts import shown
 
 HEADS = [b"cell-record 1", b"cell-record 2"]
 NEWEST = HEADS[-1]
@@ -16,7 +13,6 @@ MACHINE = b"cell-machine 1\nlines 1\nbudget 1\nspe\n"  # the form of a record is
 OTHER = rb"a \d+|(e|r) \d+ \d+|p \d+ \d+ \d+ \d+|h"
 STEPS = {HEADS[0]: re.compile(rb"x \d+|" + OTHER), HEADS[1]: re.compile(rb"x \d+ \d+|" + OTHER)}
 STRETCH = re.compile(rb"x (\d+) (\d+)")
-FAULT = re.compile(rf"spe (\d{{1,2}}) ((?:{'|'.join(FAULTS)})(?: \w+)?) pc .*".encode())
 COUNT = re.compile(rb"steps (\d+)")
 FORMS = {
     HEADS[0]: "a step is `x P`, `p P C E K`, `e P C`, `r P C`, `a P` or `h`, with decimal numbers and one blank before each",
@@ -128,34 +124,13 @@ class RecordFile:
         return HEADS[1] if any(STRETCH.fullmatch(line) for line in self.lines) else HEADS[0]
 
 
-def faults_by(machine, name, data):
-    """What the faults of a record's processors were, by their numbers, where a machine file is known of which it is a run."""
-    with tempfile.TemporaryDirectory(prefix="cell-explain-") as folder:
-        files = [Snapshot(f"{folder}/{kind}", called) for kind, called in (("machine", machine[0]), ("record", name))]
-        for file, content in zip(files, (machine[1], data)):
-            pathlib.Path(file).write_bytes(content)
-        try:
-            return {int(line.split()[1]): line for line in faults_of(*files)}
-        except Refused:
-            return {}
-
-
-def fault_warnings(name, data, machine):
-    """The lines of the states that tell a fault, each with what it was, or how that is seen."""
-    lines = ((number, FAULT.fullmatch(line)) for number, line in enumerate(data.split(b"\n"), 1) if line.startswith(b"spe "))
-    found = {int(fault[1]): (number, in_latin(fault[2])) for number, fault in lines if fault}
-    told = faults_by(machine, name, data) if found and machine else {}
-    for spe, (number, status) in found.items():
-        yield number, told.get(spe, f"processor {spe} has a fault, {status}: tools/states MACHINE {name} says what it was")
-
-
-def explain_record(name, data, report, machine=None):
-    """Explains a record; `machine` is the name and the bytes of the machine file that was named last, if one was."""
+def explain_record(name, data, report, machines):
+    """Explains a record; `machines` has the names and the bytes of the machine files that were named before."""
     before = report.refusals
     for count, (number, words) in enumerate(RecordFile(data).faults(), 1):
         report.fault(f"{name}:{number}" if number else name, words)
         if count == MOST:
             report.fault(name, f"only the first {MOST} faulty lines are told")
             return
-    for number, words in fault_warnings(name, data, machine) if report.refusals == before else ():
-        report.warning(f"{name}:{number}", shown(words))
+    for place, words in run_warnings(name, data, machines) if report.refusals == before else ():
+        report.warning(place, words)

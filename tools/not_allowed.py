@@ -4,7 +4,7 @@ import pathlib
 from typing import List, Sequence
 
 from debugger_run import Run
-from debugger_words import Words
+from debugger_words import ENDS, Words
 from machine_state import Spe, State, actor_of
 from records import record_text
 from sites import Sites
@@ -24,8 +24,12 @@ def reason(machine: os.PathLike, folder: str, heads: Sequence[str], place: int) 
 
 def of_step(words: Words, state: State, head: str) -> List[str]:
     kind, number = actor_of(head)
+    if state.end == "Budget":
+        return [ENDS["Budget"]]
     if kind == "h":
-        return [line.strip() for line in words.host(state)]
+        return [line.strip() for line in words.host(state)] or ["the machine file has no action of the host"]
+    if number >= len(state.spes):
+        return [f"the machine file has no processor {number}"]
     spe = state.spes[number]
     return of_processor(words, state, spe) if kind == "x" else of_controller(words, state, spe, head)
 

@@ -22,6 +22,7 @@ ADVICE = [
                                    "tools/states {machine} {record} {number}"),
     (r"states differ", "the record was made with another machine file, or was changed: run it again: ./cell run {machine} > FILE"),
 ]
+NO_RUN = re.compile(r"step (\d+) is not allowed|states differ")
 
 
 class Refused(Exception):
@@ -56,8 +57,17 @@ def verdict(machine, record):
     done = asked("cell_cli", "check", machine, record)
     if done.returncode not in (0, 1) or not done.stdout:
         said = said_of(done)
-        raise Refused(said + next_step(said, machine, record))
+        raise Refused(said + why_no_run(said, machine, record) + next_step(said, machine, record))
     return done.stdout.splitlines()
+
+
+def why_no_run(said, machine, record):
+    """What is known of a record that `cell` says to be no run of a machine file, as an ending of the sentence."""
+    found = NO_RUN.search(said)
+    if not found:
+        return ""
+    import stale  # asks about the record's first steps, by this module
+    return "".join(f"\n    {line}" for line in stale.told(machine, record, found[1] and int(found[1])))
 
 
 @functools.cache  # the sources are looked at once, however often a program is asked
