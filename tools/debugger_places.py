@@ -82,7 +82,7 @@ class Places:
         """The addresses of a processor's instructions that come from a line of a file."""
         origin = f"{file}:{number}"
         return [at for at, site in self.sites.of_processor[spe].items()
-                if site.number == number and is_named(site.file, file) or site.origin and is_named(site.origin, origin)]
+                if site.number == number and is_named(site.file, file) or site.origin and is_named(site.origin_line, origin)]
 
     def last_line(self, file, spe):
         """The last line of a file that placed something in a processor's store; 0 where none did."""

@@ -1,13 +1,15 @@
 """Rewrites sources of GNU as for SPUs, a compiler's or hand-written, in the language of docs/ASSEMBLER.md: statement by statement."""
+import bisect
 import collections
 import itertools
 import re
+from typing import NamedTuple
 
 from channels import VALUES, channel_named
 from gas_expressions import ATOM, CHARACTERS, NUMERIC_LABEL, Expression, Unwritable, Value, combined
 from language import CHANNEL, DATA, FORMS, NAME, NUMBER, REGISTER, RELATIVE_FORMS, SECTIONS, STORE, STRINGS
 from language import cut, hiding, is_text_section, operand_forms, without_comments
-from texts import shown
+from texts import decoded, shown
 
 # Directives that say nothing about the bytes of a program.
 DROPPED = set(
@@ -15,10 +17,12 @@ DROPPED = set(
     " .eject .psize .list .nolist .sbttl .symver".split()
 )
 SETS = (".set", ".equ", ".equiv")
+OF_PREPROCESSOR = {".macro": "#define", ".endm": "#define", ".include": "#include", ".if": "#if", ".else": "#else", ".endif": "#endif"}
 RENAMED = {".zero": ".space", ".half": ".hword", "hbrp": "lnop", "syncc": "sync"}
 BLANKS = " \t\n\r\f\v"
 STATEMENT = re.compile(r"((?:[\w.$]+\s*:\s*)*)(?:([\w.$]+)\s*(=(?!=))?\s*(.*))?", re.S | re.A)
 WORD = re.compile(r"\S+", re.A)
+LINE_MARK = re.compile(r'#[ \t]+(\d{1,9})[ \t]+"((?:[^"\\]|\\.)*)"[ \t\d\r]*', re.A)  # of a C preprocessor
 MOST_REPEATS = 4096
 MOST_ALIGNED = 12
 MOST_WORKED_OUT = 50_000  # values of names that later lines set: they are worked out again where names that they need are set again
@@ -26,10 +30,19 @@ MOST_WORKED_OUT = 50_000  # values of names that later lines set: they are worke
 Statement = collections.namedtuple("Statement", "labels word rest")
 
 
+class Fault(NamedTuple):
+    """A statement that can't be rewritten: the line of the text, where it comes from, and why."""
+    at: int
+    place: str
+    reason: str
+
+
 def statements(text):
-    """Each statement of a source with the number of its line."""
-    for number, line in enumerate(without_comments(text).split("\n"), 1):
-        for part in cut(line, ";"):
+    """Each statement of a source with the number of its line and its column there, which is 0 where it has the line for itself."""
+    lines = zip(without_comments(text).split("\n"), blanked(text).split("\n"))
+    for number, (line, same) in enumerate(lines, 1):
+        parts = cut(line, ";")
+        for part, column in zip(parts, columns(same) if len(parts) > 1 else [0]):
             part = part.strip(BLANKS)
             found = STATEMENT.fullmatch(part)
             labels, word, equal, rest = found.groups() if found else ("", WORD.match(part)[0], None, "")
@@ -37,8 +50,33 @@ def statements(text):
             if equal:
                 word, rest = ".set", f"{word},{rest}"
             for rest in operands_apart(word, rest or ""):
-                yield number, Statement(labels, word or "", rest)
+                yield number, column, Statement(labels, word or "", rest)
                 labels = []
+
+
+def blanked(text):
+    """The text with blanks in place of comments, each as long as it is."""
+    kept, at = [], 0
+    for start, end in hiding(text):
+        if text[start] in "#/":
+            kept += [text[at:start], re.sub(r"[^\n]", " ", text[start:end])]
+            at = end
+    return "".join([*kept, text[at:]])
+
+
+def columns(line):
+    """The column of each statement of a line, from 1."""
+    found, at = [], 1
+    for part in cut(line, ";"):
+        found.append(at + len(part) - len(part.lstrip(BLANKS)))
+        at += len(part) + 1
+    return found
+
+
+def marks(text):
+    """The line marks of a C preprocessor by the numbers of their lines: each the file and the line from which the next line comes."""
+    found = ((number, LINE_MARK.fullmatch(line)) for number, line in enumerate(text.split("\n"), 1) if line.startswith("#"))
+    return {number: (decoded(re.sub(r"\\(.)", r"\1", mark[2]).encode("latin1")), int(mark[1])) for number, mark in found if mark}
 
 
 def comments(text):
@@ -64,13 +102,15 @@ class Source:
     """One source: its statements, and which names it defines, gives to others, or sets to a value."""
 
     def __init__(self, name, text):
-        self.name = name
-        self.statements, self.comments = [], comments(text)
+        self.name, self.marks = name, marks(text)
+        self.marked = sorted(self.marks)
+        self.statements = []
+        self.comments = {number: said for number, said in comments(text).items() if number not in self.marks}
         self.labels, self.shared, self.sets, self.kept_local = set(), set(), {}, set()
-        for number, statement in statements(text):
+        for number, column, statement in statements(text):
             if statement.word == ".end":
                 break
-            self.statements.append((number, statement))
+            self.statements.append((number, column, statement))
             self.labels.update(label for label in statement.labels if not label.isdecimal())
             names = [part.strip() for part in cut(statement.rest, ",")]
             if statement.word in (".global", ".globl", ".weak"):
@@ -83,6 +123,17 @@ class Source:
                 self.sets[names[0]] = names[1]
             elif statement.word in (".comm", ".lcomm"):
                 (self.kept_local if statement.word == ".lcomm" else self.shared).add(names[0])
+
+    def origin(self, number):
+        """The file and the line that a line of the text comes from."""
+        last = bisect.bisect_right(self.marked, number) - 1
+        if last < 0:
+            return self.name, number
+        name, line = self.marks[self.marked[last]]
+        return name, line + number - self.marked[last] - 1
+
+    def has_marks_before(self, number):
+        return bool(self.marked) and self.marked[0] < number
 
     def own(self):
         """The names that mean something in this file alone."""
@@ -141,32 +192,43 @@ class Writer:
         for number, source in enumerate(self.sources):
             self.begin(number, source)
             for line, statements_of in itertools.groupby(source.statements, lambda entry: entry[0]):
-                self.line, before = line, len(self.lines)
-                for _, statement in statements_of:
+                self.line, first = line, len(self.lines)
+                for _, self.column, statement in statements_of:
+                    before = len(self.lines)
                     self.checked(statement)
-                self.add_notes(before)
+                    self.note_origin(before)
+                self.add_comment(first)
         self.place_commons()
 
     def checked(self, statement):
         try:
             self.statement(statement)
         except Unwritable as why:
-            self.faults.append((self.source.name, self.line, str(why)))
+            self.faults.append(Fault(self.line, self.place_in_source(), str(why)))
+
+    def place_in_source(self):
+        """Where a statement comes from: with its column where several stand on the line, and the line is as its author wrote it."""
+        name, line = self.source.origin(self.line)
+        return f"{name}:{line}" + (f":{self.column}" if self.column and not self.source.has_marks_before(self.line) else "")
 
     def origin(self):
-        """Where a line comes from, as a comment says it."""
-        return f"{in_comment(self.source.name)}:{self.line}"
+        """The same as a comment says it."""
+        return in_comment(self.place_in_source())
 
-    def add_notes(self, before):
-        """Says where the lines from a place on come from, and keeps the comment, on a line of its own where no line was written."""
+    def note_origin(self, before):
+        """Says of the lines from a place on where they come from."""
+        self.notes += [""] * (before - len(self.notes))
+        self.notes += [self.origin()] * (len(self.lines) - len(self.notes))
+
+    def add_comment(self, first):
+        """Keeps the comment of a line, behind the first line that was written for it, or on one of its own where none was."""
         said = self.source.comments.get(self.line, "")
-        if len(self.lines) == before:
+        if len(self.lines) == first:
             if not said or self.section[1].startswith(".debug"):
                 return
             self.lines.append("")
-        self.notes += [""] * (before - len(self.notes)) + [self.origin() if self.lines[before] else ""]
-        self.notes[before] = f"{self.notes[before]} {said}".strip()
-        self.notes += [self.origin()] * (len(self.lines) - len(self.notes))
+            self.notes += [""] * (len(self.lines) - len(self.notes))
+        self.notes[first] = f"{self.notes[first]} {said}".strip()
 
     def text(self):
         """What was written, each line with where it comes from."""
@@ -175,7 +237,7 @@ class Writer:
 
     def begin(self, number, source):
         """Each source begins in the text, with its own numeric labels and sets."""
-        self.source, self.ending, self.line = source, self.endings[number], 1
+        self.source, self.ending, self.line, self.column = source, self.endings[number], 1, 0
         self.section = self.previous = (".text", "")
         self.stack, self.number = [], number
         # a value of its place holds from its line on, every other in the lines before too
@@ -360,7 +422,7 @@ class Writer:
             return [f"\t.org\t{self.constant(rest, 'the address')}"]
         if word in DROPPED or word.startswith(".cfi_"):
             return []
-        raise Unwritable(f"there is no `{word}` in this language")
+        raise Unwritable(f"there is no `{word}` in this language{by_preprocessor(word)}")
 
     def instruction(self, word, rest):
         if self.forms.get(word) is None:
@@ -473,6 +535,12 @@ class Writer:
             self.notes += [origin] * 3
 
 
+def by_preprocessor(word):
+    """What a C preprocessor has in place of a directive, as an ending of the sentence."""
+    way = next((way for start, way in OF_PREPROCESSOR.items() if word.startswith(start)), None)
+    return f": write `{way}`, and have it expanded by `cpp -x assembler-with-cpp`, as docs/ASSEMBLER.md shows" if way else ""
+
+
 def in_comment(name):
     """A file's name as the text of a source has it, which is read as bytes."""
     return shown(name).encode().decode("latin1")
@@ -538,10 +606,10 @@ def written(sources):
         if earlier and (writer.places, writer.values) == (earlier.places, earlier.values):
             break
     else:
-        writer.faults.append((sources[0].name, 1, "the addresses depend on distances that depend on them"))
+        writer.faults.append(Fault(1, f"{sources[0].name}:1", "the addresses depend on distances that depend on them"))
     return writer
 
 
 def refused_lines(name, text):
     """The numbers of the lines of a source that can't be rewritten."""
-    return {line for _, line, _ in written([Source(name, text.replace("\r\n", "\n"))]).faults}
+    return {fault.at for fault in written([Source(name, text.replace("\r\n", "\n"))]).faults}

@@ -9,6 +9,7 @@ from runs import Refused
 from texts import lines_of
 
 ORIGIN = re.compile(r"\s*(\S+:\d+)(?:\s|$)")  # what from_gas puts at the front of a line's comment
+LINE_OF = re.compile(r"(\S+?:\d+)(?::\d+)?")  # of an origin, which may have a column behind it
 # The opcodes of branches that set a link, and of the bits of a word that they are.
 CALLS = {(23, 0x66), (23, 0x62), (21, 0x1A9)}
 WORD = re.compile(r"[^ \t]+")  # of a machine file
@@ -29,6 +30,11 @@ class Site:
     @property
     def place(self):
         return f"{self.origin} ({self.file}:{self.number})" if self.origin else f"{self.file}:{self.number}"
+
+    @property
+    def origin_line(self):
+        """The origin without its column."""
+        return self.origin and LINE_OF.fullmatch(self.origin)[1]
 
     def __str__(self):
         return f"{self.place}: {self.text}"
