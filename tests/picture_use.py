@@ -45,8 +45,8 @@ class Reader:
 
     def click(self, selector: str) -> Dict:
         """Clicks at the middle of the first node of a kind."""
-        box = self.browser.answer(f"(box => [box.left + box.width / 2, box.top + box.height / 2])(document.querySelector({json.dumps(selector)}).getBoundingClientRect())")
-        self.browser.click(*box)
+        node = f"document.querySelector({json.dumps(selector)})"
+        self.browser.click(*self.browser.answer(f"(box => [box.left + box.width / 2, box.top + box.height / 2])({node}.getBoundingClientRect())"))
         self.settle("document.getElementById('scroll').getAttribute('aria-busy') !== 'true'")
         return self.seen()
 
@@ -264,7 +264,8 @@ USES = {
     "stuck": [badge("accepted 4 · Stuck, processor 0 waits, the host did 2 of 3 actions", AMBER), waiting],
     "fault": [badge("accepted 10 · AllStopped, processor 0 has a fault", RED), waiting],
     "spent": [badge("accepted 400 · Budget: all 400 steps are spent, 16 processors run", AMBER), waiting],
-    "wait_any": [values((r"rdch 0 17$", "reads the events 0x11: {inbox, tags}"), (r"take 0 in 256", "takes 0x100 out of its inbox"), (r"rdch 27 4 ", "reads the atomic status 4: GETLLAR"),
+    "wait_any": [values((r"rdch 0 17$", "reads the events 0x11: {inbox, tags}"), (r"take 0 in 256", "takes 0x100 out of its inbox"),
+                        (r"rdch 27 4 ", "reads the atomic status 4: GETLLAR"),
                         (r" tags 8 1", "reads the tag status 0x8: tags {3}"), ("put 0 in 256", "send 0"))],
     "signal": [values((r"deliver 1", "to SPE 1 sig 1: 0x1"), (r"rdch 3 1 ", "takes 0x1 out of signal 1"))],
     "follow": [values((r" stalls 32", "reads the stall status 0x20: stalls {5}"))],

@@ -2,8 +2,10 @@
 {
   const scroll = document.getElementById('scroll'), frame = scroll.getBoundingClientRect(), heads = document.getElementById('heads').getBoundingClientRect();
   // Whether a node is within the picture's frame and below the heads of its columns.
-  const isSeen = (node, top) => { const box = node.getBoundingClientRect(); return box.width > 0 && box.left >= frame.left - 1 && box.right <= frame.right + 1 && box.top >= top - 1 && box.bottom <= frame.bottom + 1; };
-  const columns = [...document.querySelectorAll('#heads .head')], nameOf = head => head.querySelector('button')?.textContent || head.querySelector('select')?.selectedOptions[0].textContent || head.textContent;
+  const isWithin = (box, top) => box.left >= frame.left - 1 && box.right <= frame.right + 1 && box.top >= top - 1 && box.bottom <= frame.bottom + 1;
+  const isSeen = (node, top) => { const box = node.getBoundingClientRect(); return box.width > 0 && isWithin(box, top); };
+  const columns = [...document.querySelectorAll('#heads .head')];
+  const nameOf = head => head.querySelector('button')?.textContent || head.querySelector('select')?.selectedOptions[0].textContent || head.textContent;
   const cells = [...document.querySelectorAll('#body .row .chip.race')].filter(chip => /^(1st|2nd)/.test(chip.textContent));
   const strips = [...document.querySelectorAll('#heads .fold button')], chosen = document.querySelector('#body [aria-selected=true]');
   const isReadable = button => button.textContent.length > 0 && button.scrollHeight <= button.clientHeight + 1 && isSeen(button, frame.top);
