@@ -15,7 +15,7 @@ ROOT = pathlib.Path(__file__).resolve().parent.parent
 sys.path.insert(0, str(ROOT / "tools"))
 sys.dont_write_bytecode = True
 
-from records import steps_in  # noqa: E402
+from celltools.run.records import steps_in  # noqa: E402
 
 CELL = ROOT / "crates" / "cell_cli" / "out" / "cell_cli"
 RUNS = 7

@@ -3,8 +3,8 @@ import pathlib
 import subprocess
 import sys
 
+from celltools.common.texts import number_of
 from order_rules import trace_of_lines
-from texts import number_of  # of tools/
 
 ROOT = pathlib.Path(__file__).resolve().parent.parent
 TRACER = ROOT / "crates" / "run_trace" / "out" / "run_trace"

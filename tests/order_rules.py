@@ -1,11 +1,11 @@
-"""Which pairs of a run's steps docs/ORDER.md orders, directly and by chains, and which of them race: the rules told once more beside tools/order.py, each as a
-look at one pair of places. Nothing here is fast: every rule looks at every pair.
+"""Which pairs of a run's steps docs/ORDER.md orders, directly and by chains, and which of them race: told once more, beside
+tools/celltools/order/graph.py, each rule as a look at one pair of places. Nothing here is fast: every rule looks at every pair.
 """
 import re
 
+from celltools.run.effects import Trace, has_group, mailbox, shared_bytes
+from celltools.run.records import steps_in  # noqa: F401
 from debug_text import Step  # noqa: F401  (of what `trace` prints, for tests that compare it with `effects`)
-from effects import Trace, has_group, mailbox, shared_bytes
-from records import steps_in  # noqa: F401
 
 INBOX_PLACES, OTHER_PLACES = 4, 1
 

@@ -6,7 +6,7 @@ from asking import output, said_of, trace_of
 from order_rules import steps_in
 from settled_rules import broken, reordering
 
-from records import record_text  # of tools/, which order_rules has put first
+from celltools.run.records import record_text
 
 TEN = range(10)
 GREATEST = 4294967295

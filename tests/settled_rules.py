@@ -6,7 +6,7 @@ the bits of a number. Nothing here is fast: every clause looks at every place.
 """
 from order_rules import is_stalled
 
-from effects import MEMORY_LINE  # of tools/, which order_rules has put first
+from celltools.run.effects import MEMORY_LINE
 
 TAG_UPDATE, TAG_STATUS, STALL_STATUS, STALL_ACK, ATOMIC_STATUS = 23, 24, 25, 26, 27
 SETTLED_CHANNELS = {12, *range(16, 31)}

@@ -97,14 +97,14 @@ def interrupts_are_quiet() -> Iterator[str]:
 
 def relative_names_in_a_removed_folder() -> Iterator[str]:
     """A tool that is called by a relative name in a folder that was removed can't tell where it is, and says so."""
-    for tool in sorted((ROOT / "tools").iterdir()):
+    for tool in sorted([*(ROOT / "tools").iterdir(), *(ROOT / "tools" / "dev").iterdir()]):
         if tool.is_file() and tool.read_bytes().startswith(b'#!/bin/sh\n"trap"'):
             with tempfile.TemporaryDirectory(prefix="cell-gone-") as room:
                 name = os.path.relpath(tool, os.path.join(os.path.realpath(room), "gone"))
                 done = subprocess.run(["sh", "-c", 'mkdir gone && cd gone && rmdir ../gone && exec "$1" none none', "sh", name], cwd=room, capture_output=True,
                                       timeout=SECONDS)
             if not done.returncode or TRACEBACK in done.stderr:
-                yield f"tools/{tool.name} by a relative name in a removed folder ends with status {done.returncode}, and says {done.stderr!r}"
+                yield f"{tool.relative_to(ROOT)} by a relative name in a removed folder ends with status {done.returncode}, and says {done.stderr!r}"
 
 
 CHECKS = [relative_names_in_a_removed_folder, interrupts_are_quiet]

@@ -10,7 +10,7 @@ from typing import Iterator, List, Mapping, Optional, Sequence
 from hostility.rows import ROOT, Row, ended
 
 sys.path.insert(0, str(ROOT / "tools"))
-from texts import lines_in, number_of, shown  # noqa: E402  (the path comes first)
+from celltools.common.texts import lines_in, number_of, shown  # noqa: E402  (the path comes first)
 
 RACES = ROOT / "examples" / "races"
 SOURCE, RECORD = ((RACES / name).read_bytes() for name in ("reuse_race.s", "reuse_race.out"))
@@ -196,12 +196,12 @@ ROWS = [*WRITING, *WORDS, *TEXTS, *RUNS, *REFUSED]
 FAULTY = """
 import sys
 sys.dont_write_bytecode = True
-import debugger_talk
+from celltools.debugger import talk
 class Faulty:
     def obey(self, why):
         raise why
 for why in (ValueError("digits"), KeyError(7), RecursionError(), OSError(2, "gone", "name")):
-    assert not debugger_talk.answered(Faulty(), why)
+    assert not talk.answered(Faulty(), why)
 """
 
 

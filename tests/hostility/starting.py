@@ -8,7 +8,7 @@ from typing import Dict, Iterator, List, Optional, Set, Tuple
 
 from hostility.rows import ROOT, TRACEBACK, Row, ended, shown
 
-TOOLS = ("debug", "explain", "from_gas", "listing", "picture", "race", "site_lines", "states", "witness")
+TOOLS = ("debug", "explain", "from_gas", "hunts", "listing", "picture", "race", "site_lines", "states", "witness")
 OLDEST = (3, 9)
 FOLDERS = ["/usr/bin", "/usr/local/bin", *glob.glob(os.path.expanduser("~/.pyenv/versions/*/bin")),
            *(folder for folder in os.environ["PATH"].split(":") if os.path.basename(folder) != "shims")]

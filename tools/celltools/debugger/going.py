@@ -1,0 +1,259 @@
+"""How a debugger goes on and back: steps, runs to what stops them, and goes back to who did something last."""
+from celltools.common.texts import number_of
+from celltools.debugger.calls import open_call
+from celltools.debugger.places import MOST_STEPS, Wrong, actor_of_word, count_of
+from celltools.debugger.stops import Behind, Watch, found_stops, stop_among
+from celltools.debugger.things import Matter, Target, last_before
+from celltools.run.machine_state import actor_of
+from celltools.source.sites import sets_link
+from celltools.telling.states import ENDS
+from celltools.telling.words import counted
+
+CHUNKS = (1000, 10_000, 100_000)  # steps that are made at a time, the last from there on
+STEP_LETTERS = {"x", "p", "e", "r", "a"}  # that begin the line of a step, beside the host's
+
+
+def turns(start, count, actors):
+    """The numbers of turns: the actors take them one after the other, and the choice is the number of the turn."""
+    return (turn % actors + actors * turn for turn in range(start, start + count))
+
+
+class Going:
+    """The commands that move a session's place in its run."""
+
+    # ---- going on
+
+    def do_step(self, words):
+        if words and actor_of_word(words[0], self.run.spes):
+            return self.step_actor(actor_of_word(words[0], self.run.spes), count_of(words[1:]))
+        if words and words[0] in STEP_LETTERS:
+            return self.step_line(" ".join(words))
+        if len(words) > 1 or words and number_of(words[0]) is None:
+            raise Wrong(f"`{' '.join(words)}` names no step: type a number of steps, an actor (x0, m0, h) with or without one, or a line that `actors` tells")
+        return self.told_move(self.run.place, *self.advance([], count_of(words)))
+
+    def step_actor(self, actor, count):
+        """Makes steps of one actor, as long as it has one."""
+        start, left = self.run.place, len(self.run.left)
+        if actor[0] == "x":
+            self.spe = actor[1]
+        for size in self.chunks(count):
+            if not self.take_own(actor, size):
+                break
+        made = self.run.place - start
+        state = self.run.state()
+        said = [self.no_step(actor, state)] if made < count and (state.may or not made) else []
+        return [*self.told_left(left), *(self.told_move(start, None, False) if made else []), *said]
+
+    def told_left(self, left):
+        """Says that what lay ahead was left, where it was: so many ways had been left before."""
+        if len(self.run.left) == left:
+            return []
+        return [f"this leaves {counted(self.run.left[-1].ahead, 'step')} that lay ahead; `other` lays them ahead again"]
+
+    def take_own(self, actor, count):
+        """Makes up to so many steps of one actor, and says whether it had as many."""
+        number = self.run.state().actors().index(actor)
+        lines, state = self.run.make([number] * count)
+        own = next((k for k, line in enumerate(lines) if actor_of(line.partition(" | ")[0]) != actor), len(lines))
+        self.run.take(lines[:own], state if own == len(lines) else None)
+        return own == count
+
+    def chunks(self, count):
+        """So many steps in parts, the first ones smaller: a run that stops early is soon told."""
+        sizes, size = iter(CHUNKS), 0
+        while count:
+            size = min(next(sizes, size), count)
+            yield size
+            count -= size
+
+    def step_line(self, step):
+        """Makes the one step that a line of a record names."""
+        state, start = self.run.state(), self.run.place
+        number = state.choice(step)
+        if number is None:
+            raise Wrong(f"the step `{step}` isn't allowed now: `actors` tells those that are")
+        left = len(self.run.left)
+        self.run.take(*self.run.make([number]))
+        return [*self.told_left(left), *self.told_move(start, None, False)]
+
+    def no_step(self, actor, state):
+        """Why an actor makes no step."""
+        kind, number = actor
+        if state.end == "Budget":
+            return ENDS["Budget"]
+        if kind == "h":
+            return "the host makes no step" + (": " + next(self.words.host(state)).strip() if state.host[1] else ": the machine file has no action of it")
+        if kind == "m":
+            return f"the flow controller of processor {number} has no step that is allowed: `queue {number}` tells what is outstanding"
+        spe = state.spes[number]
+        return f"{self.words.stands(spe)}: {self.words.remark(spe, state) or 'it makes no further step'}"
+
+    def do_next(self, words):
+        if words:
+            raise Wrong("`next` stands alone: it goes to the next instruction of the processor that is looked at")
+        spe = self.run.state().spes[self.spe]
+        if not spe.runs:
+            return [f"{self.words.stands(spe)}: it makes no further step; `spe P` looks at another"]
+        behind = Behind(self.spe, spe.pc, sets_link(spe.word or 0))
+        return self.told_move(self.run.place, *self.advance([behind, *self.stops.values()], MOST_STEPS))
+
+    def do_finish(self, words):
+        if words:
+            raise Wrong("`finish` stands alone: it goes to where the processor that is looked at is back from the routine that it is in")
+        call = open_call(self.run, self.sites, self.spe)
+        if call is None:
+            raise Wrong(f"processor {self.spe} is in no routine that a brsl, brasl or bisl of this run called: `run` goes on")
+        return self.told_move(self.run.place, *self.advance([Behind(self.spe, call, True), *self.stops.values()], MOST_STEPS))
+
+    def do_run(self, words):
+        words, condition = self.grammar.conditional(words, self.spe)
+        if len(words) > 1 or condition and not words:
+            raise Wrong("type `run`, or `run` and one place to run to: a label, FILE:LINE, an address or a channel")
+        once = [self.stop_at(words[0], range(self.run.spes), condition)] if words else []
+        return self.told_move(self.run.place, *self.advance([*self.stops.values(), *once], MOST_STEPS))
+
+    def advance(self, whats, most):
+        """Makes up to so many steps, until one of these stops it: those that lie ahead, or else the actors take turns. Answers the stop, and whether
+        it came to the end of what lay ahead."""
+        if self.run.ahead:
+            return self.advance_ahead(whats, most)
+        for size in self.chunks(most):
+            start = self.run.place
+            lines, state = self.run.make(turns(start, size, 2 * self.run.spes + 1))
+            self.run.take(lines, state)
+            try:
+                stop = self.first_stop(whats, start, start + len(lines))
+            except BaseException:  # a condition that can't be told, or an interrupt: these steps weren't looked at to their end
+                self.run.drop(start)
+                raise
+            if stop:
+                self.run.drop(stop.behind)
+            if stop or len(lines) < size:
+                return stop, False
+        return None, False
+
+    def advance_ahead(self, whats, most):
+        """The same for steps that lie ahead."""
+        end = self.run.place + min(most, self.run.ahead)
+        stop = self.first_stop(whats, self.run.place, end)
+        self.run.place = stop.behind if stop else end
+        return stop, not stop and not self.run.ahead
+
+    def first_stop(self, whats, start, end):
+        return stop_among(found_stops(whats, self.run, start, end), self.run, self.spe)
+
+    def told_move(self, start, stop, is_at_end):
+        """What is told of the steps that were made."""
+        place, state = self.run.place, self.run.state()
+        self.look_on(state)
+        if place == start:
+            return [ENDS.get(state.end, "no step was made"), *self.words.where(state, self.spe)]
+        lines = [f"{counted(place - start, 'step')}, up to step {place - 1}"] if place > start + 1 else []
+        if isinstance(stop and stop.what, Watch) or place == start + 1:
+            lines += self.words.step(place - 1)
+        if place == start + 1 and start in self.run.states:
+            lines += self.words.changed(self.run.state(start), state)
+        if stop:
+            lines += self.told_stop(stop)
+        if is_at_end and state.may:
+            lines.append("these were the steps that lay ahead: from here on the actors take turns")
+        if not state.may:
+            lines.append(ENDS[state.end])
+        return [*lines, *self.told_place(state)]
+
+    def look_on(self, state):
+        """Where the processor that is looked at runs no more, looks at the one that made the last step, or whose flow controller did."""
+        last = processor_of_step(self.run.heads[self.run.place - 1]) if self.run.place else None
+        if last is not None and state.spes[last].runs and not state.spes[self.spe].runs:
+            self.spe = last
+
+    def told_stop(self, stop):
+        """What stopped a run."""
+        is_watch = isinstance(stop.what, Watch)
+        if stop.spe is not None and (not is_watch or isinstance(stop.what.thing, (Matter, Target))):
+            self.spe = stop.spe
+        number = next((number for number, what in self.stops.items() if what is stop.what), None)
+        lines = [] if number is None else [f"stopped by {number}: {stop.what}"]
+        if stop.what.is_once:
+            self.stops.pop(number, None)
+        return lines + (stop.what.thing.told(self.run, self.run.place - 1) if is_watch else [])
+
+    def told_place(self, state):
+        """Where the run stands: the processor that is looked at, and at an end all."""
+        if not state.may:
+            return self.words.where(state, self.spe)
+        spe = state.spes[self.spe]
+        remark = self.words.remark(spe, state)
+        return [f"> {self.words.stands(spe)}", *([f"      {remark}"] if remark else [])]
+
+    # ---- going back
+
+    def do_back(self, words):
+        if words[:1] == ["to"]:
+            place = number_of(words[1]) if len(words) == 2 else None
+            if place is None or place > self.run.place:
+                raise Wrong(f"type `back to` and a number of steps, from 0 to {self.run.place}")
+        else:
+            place = max(0, self.run.place - count_of(words))
+        self.run.place = place
+        return self.told_back()
+
+    def told_back(self):
+        return [self.told_count(), *self.told_place(self.run.state())]
+
+    def told_count(self):
+        return f"after {counted(self.run.place, 'step')}; {counted(self.run.ahead, 'step')} ahead"
+
+    def do_reverse(self, words):
+        if words:
+            raise Wrong("`reverse` stands alone: it goes back to where a break or a watch holds")
+        if not self.stops:
+            raise Wrong("nothing stops a run: `break PLACE` and `watch THING` do, and `reverse` goes back to where one of them does")
+        found = (stop for stop in reversed(found_stops(self.stops.values(), self.run, 0, self.run.place)) if stop.behind < self.run.place)
+        stop = stop_among(found, self.run, self.spe)
+        if stop is None:
+            return ["before this step nothing stops the run", *self.told_back()]
+        self.run.place = stop.behind
+        step = list(self.words.step(stop.behind - 1)) if isinstance(stop.what, Watch) else []
+        return [*step, *self.told_stop(stop), *self.told_back()]
+
+    def do_last(self, words):
+        if not words:
+            raise Wrong("type `last` and what was done: a range, a register, mailbox, signal, event, stall, reservation, lost or fault; `help last` has more")
+        thing = self.things.thing(words, self.spe)
+        place = last_before(thing, self.run.place)
+        if place is None:
+            return [f"no step before step {self.run.place} {thing.deed}: this stays there"]
+        self.run.place = place
+        spe = self.run.trace.steps[place].spe
+        self.spe = self.spe if spe is None else spe
+        return [*self.words.step(place), *self.words.calls(place), *thing.told(self.run, place), *self.told_back()]
+
+    def do_cut(self, words):
+        if words or not self.run.ahead:
+            raise Wrong("no steps lie ahead: `cut` leaves those that `back` went back over, or the rest of a record" if not words else "`cut` stands alone")
+        self.run.cut()
+        return ["no steps lie ahead any more: from here on the actors take turns; `other` lays them ahead again"]
+
+    def do_other(self, words):
+        many = len(self.run.left)
+        if not many:
+            raise Wrong("no steps were left for others: `other` lays those ahead again")
+        number = many if not words else number_of(words[0]) if len(words) == 1 else None
+        if not number or number > many:
+            raise Wrong(f"type `other`, or `other` and a number from 1 to {many}: `left` tells what was left")
+        self.run.take_way(number - 1)
+        return self.told_back()
+
+    def do_left(self, words):
+        if words:
+            raise Wrong("`left` stands alone: it tells the steps that were left for others")
+        told = [f"{number}: left after {counted(way.place, 'step')}, with {counted(way.ahead, 'step')} ahead, the next `{way.next_head}`"
+                for number, way in enumerate(self.run.left, 1)]
+        return told or ["no steps were left for others"]
+
+
+def processor_of_step(step):
+    """The processor that makes a step, or whose flow controller does; None for the host's and where there is no step."""
+    return actor_of(step)[1] if step else None

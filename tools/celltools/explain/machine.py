@@ -1,0 +1,331 @@
+"""Says in words what `cell` refuses in a machine file and its sources, and warns of what is accepted and probably wrong."""
+import collections
+import os
+import re
+import stat
+
+from celltools.common.texts import MOST_BYTES, bytes_of, number_of
+from celltools.explain.report import MOST, cell, cell_of, in_latin, short
+from celltools.explain.source import explain_source
+from celltools.run.runs import Refused
+from celltools.source.language import STORE
+from celltools.source.names import name_in, named_by_labels
+from celltools.source.sites import source_labels, source_lines
+
+LINE = 128  # bytes of a line of main memory
+HEADS = {"cell-machine": 1, "lines": 524_288, "budget": 1_000_000}  # each with its greatest number
+LINES = {
+    "spe": "", "code": "A HEX", "bytes": "A HEX", "source": "NAME", "entry": "A", "mem": "A HEX", "host send": "P V",
+    "host take": "P", "host takeintr": "P", "host await": "P", "host signal": "P R V", "host store": "A HEX", "ormode": "P R",
+    "show ls": "P A N", "show mem": "A N",
+}  # fmt: skip
+OF_SIGNALS = {
+    "host signal": "the value V for signal register R, 1 or 2, of processor P",
+    "ormode": "signal register R, 1 or 2, of processor P",
+}
+MOST_LINES = {"spe": 16, "source": 32, "host": 4096, "show": 64}
+MACHINE_NUMBER = re.compile(r"0|[1-9]\d*|0x[0-9A-Fa-f]{1,8}", re.A)
+
+
+class Seen:
+    """What the accepted lines of a machine file said."""
+
+    def __init__(self):
+        self.heads, self.memory = 0, 0
+        self.counts = dict.fromkeys(MOST_LINES, 0)
+        self.begun = []  # the line of each `spe`
+        self.entries = set()  # the processors that have one
+        self.placed = []  # line, processor, address, size, the first word of the line
+        self.sources = []  # line, processor, name
+
+    @property
+    def spe(self):
+        return self.counts["spe"] - 1
+
+    def place(self, number, address):
+        """An address that the line of a number has placed, with its name, if it has one."""
+        name = "".join(label_at(source, address) for line, _, source in self.sources if line == number)
+        return f"0x{address:05x}" + (f" ({name})" if name else "")
+
+    def take(self, number, words):
+        """Takes an accepted line."""
+        name = words[0]
+        if name in HEADS:
+            self.heads += 1
+            if name == "lines":
+                self.memory = int(words[1], 0) * LINE
+        if name in self.counts:
+            self.counts[name] += 1
+        if name == "spe":
+            self.begun.append(number)
+        elif name in ("code", "bytes"):
+            self.placed.append((number, self.spe, int(words[1], 0), len(words[2]) // 2, name))
+        elif name == "source":
+            self.sources.append((number, self.spe, words[1]))
+        elif name == "entry":
+            self.entries.add(self.spe)
+
+
+def label_at(source, address):
+    """The name that a source has for an address; nothing where it has none, or its lines can't be placed."""
+    try:
+        return name_in(named_by_labels(source_labels(source_lines(source))), address)
+    except Refused:
+        return ""
+
+
+def why_head(words, seen):
+    want = list(HEADS)[seen.heads]
+    if words[0] != want:
+        return f"`{want}` stands here: the first three lines are `cell-machine 1`, `lines N` and `budget N`, in this order"
+    if want == "cell-machine":
+        return "the first line is `cell-machine 1`"
+    return f"`{want}` takes one number from 1 to {HEADS[want]}"
+
+
+def why_hex(word):
+    if word.startswith("0x"):
+        return "bytes are hexadecimal digits without 0x"
+    if not re.fullmatch("[0-9A-Fa-f]+", word) or len(word) % 2:
+        return "bytes are an even number of hexadecimal digits"
+    return "at most 4,096 bytes stand on one line" if len(word) > 8192 else None
+
+
+def why_word(kind, word):
+    """What is wrong with one word of a line, by itself."""
+    if kind == "HEX":
+        return why_hex(word)
+    if kind == "NAME":
+        fits = len(word) <= 255 and re.fullmatch("[!-~]+", word)
+        return None if fits else "a source's name has 1 to 255 characters of ASCII"
+    if MACHINE_NUMBER.fullmatch(word) and number_of(word) is not None:
+        return None
+    labels = "; a label has no value here, tools/listing shows its address" if word[:1].isalpha() else ""
+    return f"`{short(word)}` is no number: decimal without a leading zero or sign, or 0x and 1 to 8 digits" + labels
+
+
+def why_range(name, value, seen):
+    """What is wrong with the range of bytes that a line names."""
+    size = value.get("N", value.get("HEX", 1))
+    if name in ("code", "entry") and value["A"] % 4 or name == "code" and size % 4:
+        return "the address is a multiple of 4" + (", and so is the number of bytes" if name == "code" else "")
+    if name == "host store" and (size > 16 or value["A"] % LINE + size > LINE):
+        return "`host store` takes 1 to 16 bytes within one line of 128 bytes"
+    is_memory = "mem" in name or name == "host store"
+    if value["A"] + size > (seen.memory if is_memory else STORE):
+        whole = f"main memory, {seen.memory} bytes (`lines`)" if is_memory else "the local store, 262,144 bytes"
+        return f"the range ends outside {whole}"
+    return None if 1 <= size <= 4096 else "a range has 1 to 4,096 bytes"
+
+
+def hint_of_form(name, form, count):
+    """What is to be known of a line's form, behind the form itself."""
+    if name in OF_SIGNALS:
+        return f": {OF_SIGNALS[name]}"
+    return "; the bytes stand together, without blanks" if "HEX" in form and count > len(form) else ""
+
+
+def why_machine_line(words, seen):
+    """What is wrong with a line of a machine file, behind the first three, in words."""
+    name = " ".join(words[:2]) if words[0] in ("host", "show") else words[0]
+    if name not in LINES:
+        return f"no line begins with `{short(name)}`; lines are: {', '.join(LINES)}"
+    arguments, form = words[name.count(" ") + 1 :], LINES[name].split()
+    if len(arguments) != len(form):
+        return f"the form is `{' '.join([name, *form])}`{hint_of_form(name, form, len(arguments))}"
+    for kind, word in zip(form, arguments):
+        if why := why_word(kind, word):
+            return why
+    sizes = {"HEX": lambda word: len(word) // 2, "NAME": len}
+    value = {kind: sizes.get(kind, lambda word: int(word, 0))(word) for kind, word in zip(form, arguments)}
+    if name in ("code", "bytes", "source", "entry") and seen.spe < 0:
+        return f"`{name}` stands behind a `spe` line"
+    if value.get("P", -1) > seen.spe:
+        return f"there is no processor {value['P']}: {seen.counts['spe']} `spe` lines stand before, counted from 0"
+    if value.get("R", 1) not in (1, 2):
+        return f"there is no signal register {value['R']}: each processor has 1 and 2"
+    if why := why_range(name, value, seen) if "A" in value else None:
+        return why
+    if name == "entry" and seen.spe in seen.entries:
+        return "`entry` stands once for a processor"
+    most = MOST_LINES.get(words[0], 0)
+    return f"there are at most {most} lines of `{words[0]}`" if seen.counts.get(words[0]) == most else None
+
+
+def words_of(line):
+    return re.findall(r"[^ \t]+", in_latin(line).split("#")[0])
+
+
+class MachineFile:
+    """A machine file, of which the faulty lines are mended one after the other."""
+
+    END = b"end-of-the-file"  # begins no line, so that the program stops there at the latest
+
+    def __init__(self, data):
+        self.lines = data.split(b"\n")
+        if self.lines[-1] == b"":
+            self.lines.pop()
+        self.seen, self.taken = Seen(), 0
+
+    def faults(self):
+        """Each faulty line's number with the reason, in order."""
+        while True:
+            _, _, said = cell_of("run", [*self.lines, self.END], ".cell")
+            found = re.fullmatch(r"machine file, line (\d+)", said)
+            if not found:
+                yield None, said
+                return
+            number = int(found[1])
+            self.take(number - 1)
+            if number > len(self.lines):
+                if self.seen.heads < len(HEADS) or self.seen.spe < 0:
+                    yield number, "the file ends too early: it has `cell-machine 1`, `lines N`, `budget N` and a `spe`"
+                return
+            yield number, self.mended(number - 1)
+            if not self.goes_on:
+                return
+
+    def take(self, end):
+        for at in range(self.taken, end):
+            if words := words_of(self.lines[at]):
+                self.seen.take(at + 1, words)
+        self.taken = max(self.taken, end)
+
+    def mended(self, at):
+        """Takes the fault out of a line; what it was."""
+        line, self.goes_on = self.lines[at], True
+        if line.startswith(b"\xef\xbb\xbf"):
+            self.lines[at] = line[3:]
+            return "the file begins with a byte order mark: save it without"
+        if line.endswith(b"\r"):
+            self.lines = [other.rstrip(b"\r") for other in self.lines]
+            return "lines end with CR LF: a machine file has LF alone, `tr -d '\\r'` takes the others away"
+        words = words_of(line)
+        if self.seen.heads < len(HEADS):
+            want = list(HEADS)[self.seen.heads]
+            self.goes_on = words[0] == want
+            self.lines[at] = f"{want} {HEADS[want]}".encode()
+            return why_head(words, self.seen)
+        why = why_machine_line(words, self.seen) or "the line is outside the form"
+        is_spe = words[0] == "spe" and self.seen.spe + 1 < MOST_LINES["spe"]
+        self.lines[at] = b"spe" if is_spe else b""
+        return why
+
+    def whole(self):
+        """What the program says of the file when all its lines and sources are in order."""
+        at = [at for at, line in enumerate(self.lines) if words_of(line)][2]
+        _, _, said = cell_of("run", [*self.lines[:at], b"budget 1", *self.lines[at + 1 :]], ".cell")
+        return said
+
+
+def image_ranges(name):
+    """Address and size of each range of a source's image."""
+    for words in map(str.split, cell("asm", name)[1].splitlines()):
+        if words[0] in ("code", "bytes"):
+            yield int(words[1], 16), len(words[2]) // 2
+
+
+def source_places(seen, explained):
+    """What the lines of a machine file place, those of sources with their images, in the order of the lines."""
+    places = list(seen.placed)
+    for number, spe, name in seen.sources:
+        if explained.get(name):
+            places += [(number, spe, start, size, "source") for start, size in image_ranges(name)]
+    return sorted(places, key=lambda place: place[0])
+
+
+class Stores:
+    """Which line placed each byte first, in the store of each processor."""
+
+    def __init__(self):
+        self.lines = collections.defaultdict(lambda: [0] * STORE)
+
+    def cover(self, place):
+        """Takes a place in: the first line before it that placed one of its bytes, and the address of the first such byte; None where there is none."""
+        number, spe, start, size, _ = place
+        lines = self.lines[spe]
+        there = lines[start : start + size]
+        lines[start : start + size] = [before or number for before in there]
+        first = min(filter(None, there), default=number)
+        return (first, start + there.index(first)) if first < number else None
+
+
+def machine_warnings(seen, places):
+    stores, told = Stores(), set()
+    for place in places:
+        number, _, _, _, kind = place
+        covered = stores.cover(place)
+        if covered and kind != "bytes" and number not in told:
+            told.add(number)
+            linker = " (each source begins at 0, and nothing is linked)" if kind == "source" else ""
+            yield number, f"covers {seen.place(*covered)}, which line {covered[0]} has placed: the later stays{linker}"
+    filled = {place[1] for place in places} | {spe for _, spe, _ in seen.sources}
+    for spe, number in enumerate(seen.begun):
+        if spe not in filled:
+            yield number, f"nothing is placed in the store of processor {spe}, which stops at once with 0"
+
+
+def placed_at(said, places):
+    """The number of the line that placed the word which the program names, if it names one."""
+    found = re.match(r"processor (\d+), 0x([0-9a-f]+)", said)
+    if not found:
+        return None
+    spe, address = int(found[1]), int(found[2], 16)
+    lines = [place[0] for place in places if place[1] == spe and place[2] < address + 4 and address < place[2] + place[3]]
+    return lines[-1] if lines else None
+
+
+def refusal_of(said, seen, places):
+    """What the program says of a whole machine file, in words, and the number of the line that it means, if it means one."""
+    found = re.search(r"source (\d+)", said)
+    if found and int(found[1]) < len(seen.sources):
+        number, _, source = seen.sources[int(found[1])]
+        return number, f"{said}: it is `{source}`"
+    number = placed_at(said, places)
+    return number, f"{said}: the word spells no instruction" if number else said
+
+
+def source_text(source):
+    """The text of a source, or why there is none."""
+    try:
+        if not stat.S_ISREG(os.stat(source).st_mode):
+            return None, f"`{source}` is no regular file, and isn't looked at"
+        return bytes_of(source), None
+    except FileNotFoundError:
+        return None, f"there is no file `{source}`: names are taken from the folder in which cell is called"
+    except OSError as why:
+        return None, f"`{source}`: {why.strerror}"
+
+
+def explain_sources(name, seen, report):
+    """Explains each source that a machine file names; for each whether it has an image."""
+    explained = {}
+    for number, _, source in seen.sources:
+        if source in explained:
+            continue
+        explained[source] = False
+        text, why = source_text(source)
+        if why:
+            report.fault(f"{name}:{number}", why)
+        elif len(text) > MOST_BYTES:
+            report.fault(source, f"the file is too long: `cell` reads at most {MOST_BYTES:,} bytes")
+        else:
+            explained[source] = explain_source(source, text, report)
+    return explained
+
+
+def explain_machine(name, data, report):
+    file, before = MachineFile(data), report.refusals
+    for count, (number, words) in enumerate(file.faults(), 1):
+        report.fault(f"{name}:{number}" if number else name, words)
+        if count == MOST:
+            report.fault(name, f"only the first {MOST} faulty lines are told")
+            break
+    explained = explain_sources(name, file.seen, report)
+    places = source_places(file.seen, explained)
+    said = file.whole() if report.refusals == before else ""
+    if said:
+        number, words = refusal_of(said, file.seen, places)
+        report.fault(f"{name}:{number}" if number else name, words)
+    for number, words in machine_warnings(file.seen, places):
+        report.warning(f"{name}:{number}", words)

@@ -1,0 +1,1 @@
+"""docs/ORDER.md as a graph, and why nothing orders two steps."""

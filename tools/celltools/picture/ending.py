@@ -1,0 +1,120 @@
+"""How a run ended: how well, and of what waits or has a fault what it waits for and which step was its last."""
+import dataclasses
+import enum
+from typing import Callable, Iterator, List, Optional, Tuple
+
+from celltools.order.graph import HOST
+from celltools.telling.faults import faults_of
+from celltools.telling.waiting import waiting_of
+from celltools.telling.words import name_of, with_article
+
+TITLES = {"Stuck": "Why nothing goes on", "Budget": "Where it was when its budget was spent", "Open": "Where it stops"}
+WORDS = {"Budget": "Budget: all {count:,} steps are spent", "Open": "Open: another step is still allowed"}
+MOST_NAMED = 3  # processors that are told by their numbers
+Said = Tuple[str, Optional[int]]  # what is told of an actor or a command, and its last step, if it made one
+
+
+class Level(enum.Enum):
+    """How well a run ended, as the page's colours have it."""
+    GOOD = "good"
+    WARNED = "warned"  # it stopped before its programs' ends
+    BAD = "bad"        # it has a race or a fault
+
+
+@dataclasses.dataclass(frozen=True)
+class Ending:
+    level: Level
+    words: str        # beside the verdict
+    title: str        # of what is told
+    said: List[Said]  # of a run that ended well nothing
+
+    @property
+    def told(self) -> dict:
+        """As the page has it."""
+        return {"level": self.level.value, "words": self.words, "title": self.title, "said": self.said}
+
+
+def ending_of(run) -> Ending:
+    """How a run ended."""
+    words = list(words_of(run))
+    is_well = words == ["AllStopped"]
+    level = Level.BAD if run.pair or spes_that(run, "is_fault") else Level.GOOD if is_well else Level.WARNED
+    return Ending(level, ", ".join(words), TITLES.get(run.end.word, "How it ended"), [] if is_well else list(said_of(run)))
+
+
+def words_of(run) -> Iterator[str]:
+    """The end word, with what else there is to know."""
+    running, faults, halted = (spes_that(run, kind) for kind in ("is_running", "is_fault", "is_halted"))
+    yield WORDS.get(run.end.word, run.end.word).format(count=run.count)
+    if running:
+        yield f"{named(running)} {agreed(running, 'wait' if run.end.word == 'Stuck' else 'run')}"
+    if faults:
+        yield f"{named(faults)} {'has' if len(faults) == 1 else 'have'} a fault"
+    if halted:
+        yield f"{named(halted)} halted"
+    done, actions = run.end.host
+    if done < actions and run.end.word in ("AllStopped", "Stuck"):
+        yield f"the host did {done} of {actions} actions"
+
+
+def spes_that(run, kind: str) -> List[int]:
+    """The processors that stood so at the end."""
+    return [spe for spe, status in enumerate(run.end.spes) if getattr(status, kind)]
+
+
+def named(spes: List[int]) -> str:
+    """Processors by their numbers, or where they are many by how many they are."""
+    if len(spes) > MOST_NAMED:
+        return f"{len(spes)} processors"
+    numbers = list(map(str, spes))
+    return f"processor {numbers[0]}" if len(spes) == 1 else f"processors {', '.join(numbers[:-1])} and {numbers[-1]}"
+
+
+def agreed(spes: List[int], verb: str) -> str:
+    return f"{verb}s" if len(spes) == 1 else verb
+
+
+def said_of(run) -> Iterator[Said]:
+    """What each processor, command and the host waits for, has or did at the end."""
+    yield from of_processors(run, "is_running", waiting_of)
+    yield from of_processors(run, "is_fault", faults_of)
+    for spe in spes_that(run, "is_halted"):
+        yield f"processor {spe} halted: the condition of a halt instruction held", last_of(run, spe)
+    for spe, number in sorted(run.end.outstanding):
+        steps = run.steps_of((spe, number))
+        yield command_wait(run, (spe, number)), steps[-1] if steps else run.trace.issues[spe, number]
+    done, actions = run.end.host
+    if done < actions:
+        yield f"the host waits in its action {done}, {run.sites.action(done)}", last_of(run, HOST)
+
+
+def of_processors(run, kind: str, lines_of: Callable[..., List[str]]) -> Iterator[Said]:
+    """What is told of the processors that stood so, a line each."""
+    spes = spes_that(run, kind)
+    return zip(lines_of(run.machine, run.record), [last_of(run, spe) for spe in spes]) if spes else iter(())
+
+
+def last_of(run, chain: int) -> Optional[int]:
+    """The last step of a processor's program, or of the host's script; None where it made none."""
+    found = run.order.chains.tobytes().rfind(chain.to_bytes(1, "little", signed=True))
+    return None if found < 0 else found
+
+
+def command_wait(run, key):
+    """Why a command isn't done."""
+    member = run.order.commands[key]
+    name = f"{with_article(name_of(member.command))} of tag {member.command.tag}, command {key[1]} of processor {key[0]},"
+    if key in run.end.stalled:
+        return f"{name} is stalled behind element {len(member.elements) - 1}: it waits for an acknowledgement of its tag (`wrch` of channel 26)"
+    held = [node for node, rule in member.entry if rule == "Queue" and any(is_within(run, other, node) for other in run.end.outstanding)]
+    return f"{name} isn't done" + (": it waits for an earlier command (Queue)" if held else "")
+
+
+def is_within(run, key, node):
+    """Whether a command is one of a set of commands."""
+    sets, wanted = run.order.sets, run.order.commands[key].steps
+    while node != wanted and len(sets[-node - 1]) > 1 and sets[-node - 1][-1] != wanted:
+        node = sets[-node - 1][0]
+        if node >= 0:
+            return False
+    return node == wanted or sets[-node - 1][-1:] == [wanted]

@@ -1,0 +1,107 @@
+"""A run to be drawn: its machine file and record, what `check` says, its steps, their order, and how it ended."""
+import dataclasses
+import functools
+import re
+
+from celltools.order.graph import Order
+from celltools.order.reasons import Race
+from celltools.picture.ending import ending_of
+from celltools.picture.rows import own_rows
+from celltools.run.effects import Trace, shared_bytes
+from celltools.run.runs import Refused, ask_tracer, verdict
+from celltools.source.sites import Sites
+from celltools.telling.words import Teller
+
+RACE = re.compile(r"race (\d+) (\d+)$")
+FAULTS = ("dmafault", "badword", "badchannel")  # how the statuses of faults begin
+
+
+class Status:
+    """How a processor stood at the end."""
+
+    def __init__(self, words):
+        at = words.index("pc")
+        self.text, self.pc = " ".join(words[2:at]), int(words[at + 1], 16)
+        self.is_running = self.text == "running"
+        self.is_halted = self.text == "halted"
+        self.is_fault = self.text.startswith(FAULTS)
+
+
+class End:
+    """How a run stood at its end: its end word, the processors, how far the host came, and the commands that aren't done with what is told of them."""
+
+    def __init__(self, lines):
+        self.word, self.spes, self.host, self.outstanding, self.stalled = None, [], (0, 0), set(), set()
+        for line in lines:
+            words = line.split()
+            if words[0] == "end":
+                self.word = words[1]
+            elif words[0] == "spe":
+                self.spes.append(Status(words))
+            elif words[0] == "host":
+                self.host = int(words[1]), int(words[3])
+            elif words[0] == "command":
+                self.add(tuple(map(int, words[1:3])), line)
+
+    def add(self, key, line):
+        self.outstanding.add(key)
+        if " | stalled" in line:
+            self.stalled.add(key)
+
+
+class Run:
+    """A run, and what is asked of it more than once; of a short record also the whole one that it is made of."""
+
+    def __init__(self, machine, record, pair=None, whole=None):
+        self.machine, self.record, self.whole = machine, record, whole
+        self.verdict = verdict(machine, record)[0]
+        found = RACE.match(self.verdict)
+        self.pair = pair or (tuple(map(int, found.groups())) if found else None)
+        self.trace = Trace(ask_tracer("effects", machine, record))
+        self.count = len(self.trace.lines)
+        self.end = End(ask_tracer("states", machine, record, str(self.count)))
+        self.sites = Sites(machine, str(machine))
+        self.order = Order(self.trace)
+        self.spes = len(self.sites.of_processor)
+
+    @functools.cached_property
+    def text(self):
+        """The lines of all steps."""
+        return "\n".join(self.trace.lines)
+
+    @functools.cached_property
+    def teller(self):
+        return Teller(self.trace, self.sites)
+
+    @functools.cached_property
+    def race(self):
+        """The race that is drawn; None where there is none. Refused where the two steps that were asked for are none."""
+        if self.pair is None:
+            return None
+        first, second = self.pair
+        if not first < second < self.count:
+            raise Refused(f"there are no steps {first} and {second}, one behind the other: the record has {self.count} steps, from 0")
+        race = Race(self.teller, first, second, self.order.before(second), self.order)
+        if first in race.before:
+            raise Refused(f"steps {first} and {second} don't race: they are ordered")
+        if not shared_bytes(race.one, race.two):
+            raise Refused(f"steps {first} and {second} don't race: they share no byte that one of them writes")
+        return race
+
+    @functools.cached_property
+    def ending(self):
+        """How the run ended; of a short record, how the whole run did."""
+        return dataclasses.replace(self.whole.run.ending, said=[]) if self.whole else ending_of(self)
+
+    @functools.cached_property
+    def rows(self):
+        """The places of the steps that have a row."""
+        return own_rows(self)
+
+    def shared(self):
+        """The bytes that the two steps of the race share, with what each does to them."""
+        return shared_bytes(self.race.one, self.race.two)
+
+    def steps_of(self, key):
+        """The places of the steps of a command."""
+        return self.order.sets[-self.order.commands[key].steps - 1]

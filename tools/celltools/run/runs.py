@@ -1,0 +1,112 @@
+"""Asks the programs of this repository about the run of a record: `cell check`, and run_trace. tools/launch builds them first where they aren't built."""
+import bisect
+import functools
+import os
+import re
+import subprocess
+import sys
+
+from celltools.common.repository import LAUNCH, built
+
+UNPROVED = 3  # what it answers where the programs are to be run unproved
+
+# What to do next, by what `cell` says of a run.
+ADVICE = [
+    (r"its name is not UTF-8", "give it another name, or a link: ln -s FILE NAME"),
+    (r"cannot read machine file", "names are taken from the folder in which the tool is called"),
+    (r"machine file|source|is not in the table", "tools/explain {machine} says it in words"),
+    (r"cannot read record file", "keep what a run prints in a file: ./cell run {machine} > FILE"),
+    (r"record file", "tools/explain {record} says it in words"),
+    (r"step (\d+) is not allowed", "the record isn't one of this machine file as it is now: run it again, or look at the states before that step: "
+                                   "tools/states {machine} {record} {number}"),
+    (r"states differ", "the record was made with another machine file, or was changed: run it again: ./cell run {machine} > FILE"),
+]
+NO_RUN = re.compile(r"step (\d+) is not allowed|states differ")
+
+
+class Refused(Exception):
+    """What a tool tells where it can't answer."""
+
+
+def ended(command):
+    """A command that has ended, with what it wrote."""
+    try:
+        return subprocess.run(command, capture_output=True, encoding="utf-8", errors="backslashreplace")
+    except OSError as why:
+        raise Refused(f"{command[0]}: {why.strerror}") from None
+
+
+def said_of(done):
+    """What a program says of a fault, in one line."""
+    lines = [line for line in done.stderr.splitlines() if line.strip() and not line.startswith("cell: running UNPROVED")]
+    return lines[0].strip() if lines else f"it ended with status {done.returncode}, and said nothing"
+
+
+def next_step(said, machine, record):
+    """What to do where `cell` says that, as an ending of the sentence."""
+    for pattern, advice in ADVICE:
+        found = re.search(pattern, said)
+        if found:
+            return "\n    " + advice.format(machine=machine, record=record, number=found[1] if found.groups() else "")
+    return ""
+
+
+def verdict(machine, record):
+    """What `check` says of a record, line by line. Refused where it finds that the record is no run of the machine file."""
+    done = asked("cell_cli", "check", machine, record)
+    if done.returncode not in (0, 1) or not done.stdout:
+        said = said_of(done)
+        raise Refused(said + why_no_run(said, machine, record) + next_step(said, machine, record))
+    return done.stdout.splitlines()
+
+
+def why_no_run(said, machine, record):
+    """What is known of a record that `cell` says to be no run of a machine file, as an ending of the sentence."""
+    found = NO_RUN.search(said)
+    if not found:
+        return ""
+    from celltools.telling import stale  # asks about the record's first steps, by this module
+    return "".join(f"\n    {line}" for line in stale.told(machine, record, found[1] and int(found[1])))
+
+
+@functools.cache  # the sources are looked at once, however often a program is asked
+def prepare():
+    """Sees that the programs are built, which tells how far it is where they aren't. Whether they are proved: False where they are to be run unproved."""
+    status = subprocess.run([LAUNCH, "--build"], stdin=subprocess.DEVNULL).returncode
+    if status not in (0, UNPROVED):
+        raise Refused("the programs that it asks aren't built")
+    if status == UNPROVED:
+        print("running UNPROVED code, since CELL_TRY is set", file=sys.stderr)
+    return status == 0
+
+
+def asked(program, *words):
+    """What a program answers."""
+    launcher = [built(program)] if prepare() else [LAUNCH, program]
+    return ended([*launcher, *words])
+
+
+def ask_tracer(form, machine, record, *more):
+    """The lines that a form of run_trace prints of a record."""
+    done = asked("run_trace", form, os.fspath(machine), os.fspath(record), *more)
+    if done.returncode:
+        verdict(machine, record)  # says it in the words of `cell`, where the fault is in the files
+        raise Refused(f"run_trace: {said_of(done)}")
+    return done.stdout.splitlines()
+
+
+class Places:
+    """A set of places in a record, from ranges: lines of the first and the last."""
+
+    def __init__(self, lines):
+        self.ranges = [tuple(map(int, line.split())) for line in lines]
+        self.firsts = [first for first, _ in self.ranges]
+
+    def __contains__(self, place):
+        at = bisect.bisect_right(self.firsts, place) - 1
+        return at >= 0 and place <= self.ranges[at][1]
+
+
+def places_before(machine, record, place):
+    """The places that are ordered before a place."""
+    return Places(ask_tracer("before", machine, record, str(place)))

@@ -1,0 +1,1 @@
+"""The language of sources: its names and mnemonics, where its lines are placed, and sources of GNU as."""

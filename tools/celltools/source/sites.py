@@ -1,0 +1,215 @@
+"""Where the instructions of a machine come from: of each processor's addresses the file, the line and the text that was placed there."""
+import functools
+import re
+
+from celltools.common.texts import lines_of
+from celltools.run.runs import Refused
+from celltools.source.language import without_comments
+from celltools.source.names import Names, named_by_labels, named_range
+from celltools.source.placed import LABELS, placed_lines
+
+ORIGIN = re.compile(r"\s*(\S+:\d+)(?:\s|$)")  # what from_gas puts at the front of a line's comment
+LINE_OF = re.compile(r"(\S+?:\d+)(?::\d+)?")  # of an origin, which may have a column behind it
+# The opcodes of branches that set a link, and of the bits of a word that they are.
+CALLS = {(23, 0x66), (23, 0x62), (21, 0x1A9)}
+WORD = re.compile(r"[^ \t]+")  # of a machine file
+MOST_CALLS = 64  # nested calls that are kept in mind
+
+
+def sets_link(word):
+    """Whether an instruction is a branch that sets a link."""
+    return any(word >> shift == opcode for shift, opcode in CALLS)
+
+
+class Site:
+    """A line that placed an instruction."""
+
+    def __init__(self, file, number, text, word, origin=None, is_source=True):
+        self.file, self.number, self.text, self.word, self.origin, self.is_source = file, number, text, word, origin, is_source
+
+    @property
+    def place(self):
+        return f"{self.origin} ({self.file}:{self.number})" if self.origin else f"{self.file}:{self.number}"
+
+    @property
+    def origin_line(self):
+        """The origin without its column."""
+        return self.origin and LINE_OF.fullmatch(self.origin)[1]
+
+    def __str__(self):
+        return f"{self.place}: {self.text}"
+
+    def is_call(self):
+        return sets_link(self.word)
+
+
+def statement_of(text):
+    """A line's statement without its labels, and where it came from by its comment."""
+    bare = without_comments(text)
+    _, word, rest = LABELS.fullmatch(bare).groups()
+    found = ORIGIN.match(text.partition("#")[2])
+    return " ".join((word + rest).split()), found[1] if found else None
+
+
+def source_lines(name):
+    """The lines of a source, as they are placed."""
+    try:
+        return placed_lines(name)
+    except OSError as why:
+        raise Refused(f"{name}: {why.strerror}") from None
+    except ValueError as why:
+        raise Refused(f"{name}: {why}") from None
+
+
+def groups_of(lines):
+    """The lines behind each line that has labels or an `.org`, with it, up to the next such line."""
+    group = []
+    for line in lines:
+        if line.labels or line.word == ".org":
+            yield group
+            group = []
+        group.append(line)
+    yield group
+
+
+def source_labels(lines):
+    """The labels of a source: of each its address, and how many bytes stand behind it up to the next label or the next `.org`."""
+    sizes = ((group[0], sum(len(line.data) for line in group)) for group in groups_of(lines) if group)
+    return {label: (line.address, size) for line, size in sizes for label in line.labels}
+
+
+def source_sites(name, lines):
+    """The sites of a source's text and data, by their addresses."""
+    sites = {}
+    for line in lines:
+        statement, origin = statement_of(line.text)
+        for at in range(0, len(line.data), 4):
+            word = int.from_bytes(line.data[at : at + 4].ljust(4, b"\0"), "big")
+            sites[line.address + at] = Site(name, line.number, statement, word, origin)
+    return sites
+
+
+def code_sites(name, number, address, digits):
+    """The sites of a `code` or `bytes` line of a machine file."""
+    words = {at: digits[2 * at : 2 * at + 8].ljust(8, "0") for at in range(0, len(digits) // 2, 4)}
+    return {address + at: Site(name, number, f"the word 0x{word}", int(word, 16), is_source=False) for at, word in words.items()}
+
+
+def machine_lines(machine, name):
+    """The lines of a machine file, which has a name."""
+    try:
+        return lines_of(machine)
+    except OSError as why:
+        raise Refused(f"{name}: {why.strerror}") from None
+
+
+class Sites:
+    """The sites and the labels of each processor of a machine file, the modes of its signal registers, the names of ranges of main memory, and the lines of the
+    host's script.
+
+    `name` is what the user calls the machine file, where another one is read in its place.
+    """
+
+    def __init__(self, machine, name=None):
+        self.machine, self.of_processor, self.labels, self.script = name or machine, [], [], []
+        self.or_modes = set()  # the processors and numbers of the signal registers in OR mode
+        self.stores, self.memory = [], []  # the ranges that have names, of each processor's store and of main memory
+        self.sources = {}  # by their names the sites and the labels of each
+        for number, line in enumerate(machine_lines(machine, self.machine), 1):
+            self.memory += filter(None, [named_range(line)])
+            try:
+                self.read(number, WORD.findall(line.partition("#")[0]))
+            except (IndexError, ValueError):
+                raise Refused(f"{self.machine}:{number}: no line of a machine file\n    tools/explain {self.machine} says it in words") from None
+
+    def read(self, number, words):
+        """Takes in a line of the machine file."""
+        if words[:1] == ["spe"]:
+            self.of_processor.append({})
+            self.labels.append({})
+            self.stores.append([])
+        elif words[:1] == ["source"]:
+            sites, labels = self.of_source(words[1])
+            self.of_processor[-1].update(sites)
+            self.labels[-1].update(labels)
+            self.stores[-1] += named_by_labels(labels)
+        elif words[:1] in (["code"], ["bytes"]):
+            self.of_processor[-1].update(code_sites(self.machine, number, int(words[1], 0), words[2]))
+        elif words[:1] == ["host"]:
+            self.script.append((number, " ".join(words)))
+        elif words[:1] == ["ormode"]:
+            self.or_modes.add((int(words[1], 0), int(words[2], 0)))
+
+    def of_source(self, name):
+        """The sites and the labels of a source, which is read once."""
+        if name not in self.sources:
+            lines = source_lines(name)
+            self.sources[name] = source_sites(name, lines), source_labels(lines)
+        return self.sources[name]
+
+    @functools.cached_property
+    def names(self):
+        """The names of the places of the machine."""
+        return Names(self.stores, self.memory)
+
+    def at(self, spe, address):
+        """The site of an instruction."""
+        found = self.of_processor[spe].get(address)
+        return found or Site(self.machine, 0, f"nothing was placed at 0x{address:05x} of the store", 0)
+
+    def action(self, number):
+        """The host's action of a number."""
+        line, text = self.script[number]
+        return f"{self.machine}:{line}: {text}"
+
+
+class Calls:
+    """The calls that are open, as instructions come one after the other: of branches that set a link, until what stands behind one is executed."""
+
+    def __init__(self, sites):
+        self.calls = [{at for at, site in found.items() if site.is_call()} for found in sites.of_processor]
+        self.open, self.led = [[] for _ in self.calls], {}  # of each processor the (place, address behind) of its calls, and of the branch that it made last
+
+    def take(self, place, line):
+        """Takes in an instruction, and answers the place of the branch that called its routine; None where none did."""
+        words = line.split(" ", 6)
+        spe, at = int(words[1]), int(words[5])
+        self.come(spe, at)
+        if at in self.calls[spe]:
+            self.led[spe] = place, at + 4
+        return self.open[spe][-1][0] if self.open[spe] else None
+
+    def come(self, spe, at):
+        """A processor comes to an address."""
+        stack = self.open[spe]
+        if spe in self.led:
+            branch, behind = self.led.pop(spe)
+            if at != behind:
+                stack.append((branch, behind))
+                del stack[:-MOST_CALLS]
+        if stack:
+            leave(stack, at)
+
+    def innermost(self, spe, at):
+        """The address of the branch that called the routine in which a processor is that stands at an address; None where none did."""
+        self.come(spe, at)
+        return self.open[spe][-1][1] - 4 if self.open[spe] else None
+
+
+def callers(trace, sites):
+    """Of each instruction of a routine, the place of the branch that called it."""
+    calls, called = Calls(sites), {}
+    for place, line in enumerate(trace.lines):
+        if line[0] == "x":
+            caller = calls.take(place, line)
+            if caller is not None:
+                called[place] = caller
+    return called
+
+
+def leave(stack, at):
+    """Takes off the calls behind which an address stands, with those that were made within."""
+    for depth in range(len(stack) - 1, -1, -1):
+        if stack[depth][1] == at:
+            del stack[depth:]
+            return

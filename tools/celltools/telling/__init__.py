@@ -1,0 +1,1 @@
+"""Says in words what steps, states, waits and faults are."""

@@ -1,0 +1,122 @@
+"""Says in words what the flow controllers, mailboxes and signal registers of a run hold, from the lines that run_trace prints of them."""
+from celltools.run.effects import Command
+from celltools.source.channels import SIGNAL_REGISTERS, events_in
+from celltools.source.names import NONE
+from celltools.telling.words import ATOMIC, BOXES, name_of, signal_register, tags
+
+HOW = {"0": "at once", "1": "any"}
+STATUSES = {"0": "PUTLLC stored", "1": "PUTLLC lost its line", "2": "PUTLLUC", "4": "GETLLAR"}
+
+
+def fields_of(line):
+    """The first field of a line of run_trace, and the others by their names."""
+    first, *fields = (field.split() for field in line.split(" | "))
+    return first, {name: words for name, *words in fields}
+
+
+def flow_lines(told, spe, names):
+    """A processor's flow controller beside its outstanding commands, in words."""
+    lsa, high, low, size, tag = map(int, told["params"])
+    yield f"next command: LSA {names.address(spe, lsa)}, EAH 0x{high:x}, EAL 0x{low:x}, size {size}, tag {tag}"
+    yield f"tag mask: {groups_of(told['mask'][0])}"
+    if "request" in told:
+        how, groups = told["request"]
+        yield f"pending tag request: {HOW.get(how, 'all')} {tags(int(groups))}"
+    if "fixed" in told:
+        groups, issued = told["fixed"]
+        yield f"unread tag status: {groups_of(groups)}, fixed when {issued} commands had been issued"
+    if "stalls" in told:
+        yield f"unread stall status: {groups_of(told['stalls'][0])}"
+    if "atomic" in told:
+        kind, lsa, line = told["atomic"]
+        yield f"atomic command in its slot: {ATOMIC[kind]} of {names.line(int(line))}, {names.address(spe, int(lsa))} of the store"
+    if "status" in told:
+        status = told["status"][0]
+        yield f"unread atomic status: {status}, {STATUSES.get(status, 'unknown')}"
+    if "reserved" in told:
+        line, state = told["reserved"]
+        yield f"reservation: of {names.line(int(line))}, {'held' if state == 'held' else 'lost: a store has touched it since'}"
+    for box in (box for box in BOXES if box in told):
+        yield f"{BOXES[box].removeprefix('the ')}: {', '.join(f'0x{int(value):x}' for value in told[box])}"
+
+
+def events_of(told):
+    """The event mask and the pending events of a processor."""
+    return tuple(map(int, told.get("events", (0, 0))))
+
+
+def event_lines(told):
+    """The same in words."""
+    mask, pending = events_of(told)
+    return [f"event mask: {events_in(mask)}", f"pending events: {events_in(pending)}"]
+
+
+def signal_of(told, register):
+    """What a signal register holds; None where it isn't ready."""
+    value = told.get(f"sig{register}")
+    return value and int(value[0])
+
+
+def signal_line(told, register, is_or):
+    """The same in words."""
+    value = signal_of(told, register)
+    return f"signal register {register}: {'nothing' if value is None else f'0x{value:x}'}{', in OR mode' if is_or else ''}"
+
+
+def used_lines(told, in_or_mode):
+    """The signal registers that are ready, of which those are in OR mode, and the events, where a mask has some: of all others a program sees nothing."""
+    yield from (signal_line(told, register, register in in_or_mode) for register in SIGNAL_REGISTERS.values() if f"sig{register}" in told)
+    yield from event_lines(told) if events_of(told)[0] else []
+
+
+def groups_of(groups):
+    return f"0x{int(groups):08x}, {tags(int(groups))}"
+
+
+def command_line(words, told, names):
+    """An outstanding command in words."""
+    spe, number, kind, mark, *rest = words
+    command = Command(int(spe), int(number), kind, mark, *map(int, rest))
+    return f"command {number}: {name_of(command)} of tag {command.tag}{moved(command, names)}{', '.join(['', *left_of(told, names)])}"
+
+
+def moved(command, names):
+    """From where to where a command moves bytes."""
+    if command.kind == "barrier":
+        return ""
+    local = names.address(command.spe, command.ls)
+    if command.kind in ("putl", "getl"):
+        return f", a list of {command.size} bytes at {names.address(command.spe, command.ea)} of the store, elements from {local} on"
+    if command.kind == "sndsig":
+        return f", {command.size} bytes from {local} of the store to {signal_register(command.ea)}"
+    store, memory = f"{local} of the store", f"{names.address(None, command.ea)} of main memory"
+    source, target = (memory, store) if command.kind == "get" else (store, memory)
+    return f", {command.size} bytes from {source} to {target}"
+
+
+def left_of(told, names):
+    """What is left of an outstanding command."""
+    if "read" in told:
+        yield "{} of {} elements read".format(*told["read"])
+    left, parts = told.get("left", ("0", "0"))
+    if "element" in told:
+        number, _, flagged, memory, size = told["element"]
+        stalls = ", behind which it stalls" if flagged == "1" else ""
+        yield f"{left} of {parts} pieces left of element {number} ({size} bytes at {names.address(None, int(memory))} of main memory{stalls})"
+    elif parts != "0":
+        yield f"{left} of {parts} pieces left"
+    if "stalled" in told:
+        yield "stalled: it waits for an acknowledgement of its tag (`wrch` of channel 26)"
+
+
+def in_words(line, or_modes, names=NONE):
+    """A line of run_trace about a flow controller, a command or the host's script, in words; every other as it is. The registers of processors that are in
+    OR mode are pairs of their numbers."""
+    if not line.startswith(("flow ", "command ", "script ")):
+        return [line]
+    (name, *words), told = fields_of(line)
+    if name == "flow":
+        spe = int(words[0])
+        in_or_mode = [register for other, register in or_modes if other == spe]
+        return [f"flow controller {spe}", *(f"    {said}" for said in [*flow_lines(told, spe, names), *used_lines(told, in_or_mode)])]
+    return [f"    {command_line(words, told, names)}"] if name == "command" else []

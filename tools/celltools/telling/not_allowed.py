@@ -1,0 +1,52 @@
+"""Says in words why a step isn't allowed where a record has it."""
+import os
+import pathlib
+from typing import List, Sequence
+
+from celltools.run.machine_state import Spe, State, actor_of
+from celltools.run.records import record_text
+from celltools.run.stepping import Run
+from celltools.source.sites import Sites
+from celltools.telling.states import ENDS, Words
+
+
+def reason(machine: os.PathLike, folder: str, heads: Sequence[str], place: int) -> List[str]:
+    """Why the step at a place of a record isn't allowed, the first that isn't."""
+    room = os.path.join(folder, "before")
+    os.makedirs(room, exist_ok=True)
+    record = os.path.join(room, "witness")
+    pathlib.Path(record).write_text(record_text(heads[:place]))
+    run = Run(machine, room)
+    run.follow(record)
+    run.place = place
+    return of_step(Words(run, Sites(machine)), run.state(), heads[place])
+
+
+def of_step(words: Words, state: State, head: str) -> List[str]:
+    kind, number = actor_of(head)
+    if state.end == "Budget":
+        return [ENDS["Budget"]]
+    if kind == "h":
+        return [line.strip() for line in words.host(state)] or ["the machine file has no action of the host"]
+    if number >= len(state.spes):
+        return [f"the machine file has no processor {number}"]
+    spe = state.spes[number]
+    return of_processor(words, state, spe) if kind == "x" else of_controller(words, state, spe, head)
+
+
+def of_processor(words: Words, state: State, spe: Spe) -> List[str]:
+    """Where a processor stands, and what it waits for, or what its fault was."""
+    remark = words.remark(spe, state)
+    return [words.stands(spe), *([remark] if remark else [])]
+
+
+def of_controller(words: Words, state: State, spe: Spe, head: str) -> List[str]:
+    """What a flow controller has to do."""
+    if spe.status.startswith("dmafault"):
+        return [f"processor {spe.number} has a fault, {spe.status}: its flow controller makes no step any more"]
+    if head.startswith("a "):
+        return [f"no atomic command of processor {spe.number} is in its slot"]
+    key = tuple(map(int, head.split()[1:3]))
+    if key not in words.run.trace.commands:
+        return [f"command {key[1]} of processor {spe.number} isn't issued before"]
+    return [f"of processor {spe.number} these commands are outstanding:", *words.queue(spe.number, state)]

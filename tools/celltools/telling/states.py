@@ -1,0 +1,139 @@
+"""Says in words how a run stands: its processors, flow controllers and host, and what its steps did."""
+from celltools.run.machine_state import actor_of
+from celltools.source.channels import SIGNAL_REGISTERS
+from celltools.telling.faults import Faults
+from celltools.telling.flows import command_line, event_lines, fields_of, flow_lines, signal_line
+from celltools.telling.waiting import Standing
+from celltools.telling.words import ATOMIC, Teller, with_article
+
+ENDS = {
+    "AllStopped": "the run has ended: no processor runs, and no command is outstanding",
+    "Stuck": "the run is stuck: no step is allowed any more",
+    "Budget": "the budget is spent: the machine file allows no further step",
+}
+ROW = 16  # bytes of a line
+LAST_PRINTABLE = 0x7E
+
+
+def quad(digits):
+    """A register's digits, word by word."""
+    return " ".join(digits[k:k + 8] for k in range(0, 32, 8))
+
+
+def grouped(data, width):
+    """Bytes in hexadecimal, so many together."""
+    return " ".join(data[k:k + width].hex() for k in range(0, len(data), width))
+
+
+def dump(span, data, names, width=None):
+    """The bytes of a span in rows, so many together, or four, each with its address, and where that has a name, with it."""
+    for start in range(0, len(data), ROW):
+        row = data[start:start + ROW]
+        words = grouped(row, width or 4)
+        text = "".join(chr(byte) if ord(" ") <= byte <= LAST_PRINTABLE else "." for byte in row)
+        name = names.of(span.spe, span.at + start)
+        yield f"0x{span.at + start:05x} {words:35} " + (f"{text:{ROW}} {name}" if name else text)
+
+
+class Words(Standing):
+    """Says how one run stands."""
+
+    def __init__(self, run, sites):
+        super().__init__(sites)
+        self.run, self.faults = run, Faults(run, self)
+
+    def remark(self, spe, state):
+        """What a processor waits for, if it does, or of one that has a fault what it was."""
+        return self.faults.of_processor(spe, state) or self.waits(spe, state)
+
+    # ---- who may step
+
+    def actors(self, state):
+        """Who may step now, and how."""
+        if not state.may:
+            yield ENDS[state.end]
+        self.learn(state)
+        for step in state.may:
+            yield f"{self.actor_name(step):4} {self.possible(step, state)}"
+
+    def actor_name(self, step):
+        kind, number = actor_of(step)
+        return kind if number is None else f"{kind}{number}"
+
+    def possible(self, step, state):
+        """A step that may be made."""
+        letter, *numbers = step.split()
+        if letter == "x":
+            return self.stands(state.spes[int(numbers[0])])
+        if letter == "h":
+            return f"the host: {self.sites.action(state.host[0])}"
+        return f"{step}: {self.of_controller(letter, list(map(int, numbers)), state)}"
+
+    def of_controller(self, letter, numbers, state):
+        """A step of a flow controller."""
+        spe = numbers[0]
+        if letter == "a":
+            kind, _, line = self.flow(spe, state)["atomic"]
+            return f"{with_article(ATOMIC[kind])} of {self.sites.names.line(int(line))}, of processor {spe}"
+        command = self.teller().command_of(self.run.trace.commands[spe, numbers[1]])
+        if letter == "p":
+            element = f" of element {numbers[2]}" if (spe, numbers[1]) in self.run.trace.elements else ""
+            return f"piece {numbers[3]}{element} of {command}"
+        return f"{'the next element' if letter == 'e' else 'the end'} of {command}"
+
+    # ---- steps that were made
+
+    def teller(self):
+        return Teller(self.run.trace, self.sites)
+
+    def step(self, place):
+        """What a step did."""
+        teller = self.teller()
+        step = self.run.trace.steps[place]
+        site = f", at {self.site(teller, place, step)}" if step.kind in ("instruction", "host") else ""
+        yield f"step {place}, {step.line}: {teller.what(place)}{site}"
+        issue = teller.issue(place)
+        if issue is not None:
+            yield f"    issued in step {issue}, at {teller.site(issue)}"
+
+    def calls(self, place):
+        """From where the routine of a step was called, or that of its command's issue."""
+        return [f"    {line}" for line in self.teller().origin(place)[1:]]
+
+    def site(self, teller, place, step):
+        """Where an instruction or an action of the host stands; the instruction as it was then, where that is known."""
+        if step.kind == "instruction" and place in self.run.states:
+            return self.instruction(self.run.state(place).spes[step.spe])
+        return teller.site(place)
+
+    def changed(self, before, after):
+        """The registers that differ between two states."""
+        for old, new in zip(before.spes, after.spes):
+            for number in sorted(old.registers.keys() | new.registers.keys()):
+                if old.register(number) != new.register(number):
+                    whose = f" of processor {old.number}" if len(before.spes) > 1 else ""
+                    yield f"    ${number}{whose} = {quad(new.register(number))}"
+        for took in after.took[len(before.took):]:
+            yield f"    the host {took}"
+
+    # ---- flow controllers
+
+    def queue(self, spe, state):
+        """The outstanding commands of a processor."""
+        lines = [command_line(*self.command_fields(line), self.sites.names) for number, line in state.flows if number == spe and line.startswith("command ")]
+        return lines or [f"no command of processor {spe} is in the queue"]
+
+    def command_fields(self, line):
+        (_, *words), told = fields_of(line)
+        return words, told
+
+    def tags(self, spe, state):
+        """A processor's flow controller beside its queue."""
+        return flow_lines(self.flow(spe, state), spe, self.sites.names)
+
+    # ---- signals and events
+
+    def signals(self, spe, state):
+        """The signal registers and the events of a processor."""
+        told = self.flow(spe, state)
+        return [*(signal_line(told, register, (spe, register) in self.sites.or_modes) for register in SIGNAL_REGISTERS.values()), *event_lines(told)]
