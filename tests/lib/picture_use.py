@@ -6,7 +6,7 @@ import re
 import time
 from typing import Callable, Dict, Iterator, List
 
-from browser import NAMED_KEYS, SHIFT, Browser, Silent
+from lib.browser import NAMED_KEYS, SHIFT, Browser, Silent
 
 WIDTHS = (1400, 900)
 SECONDS = 60   # that a page may take for what it was asked

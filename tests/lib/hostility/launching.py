@@ -9,7 +9,7 @@ import tempfile
 import time
 from typing import Iterator
 
-from hostility.rows import ROOT, Ended, Row, ended, shown
+from lib.hostility.rows import ROOT, Ended, Row, ended, shown
 
 SECONDS = 20
 MEGABYTES = 2048

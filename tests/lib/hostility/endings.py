@@ -10,7 +10,7 @@ import tempfile
 import time
 from typing import Iterator, List, NamedTuple, Sequence
 
-from hostility.rows import ROOT, TRACEBACK, Row
+from lib.hostility.rows import ROOT, TRACEBACK, Row
 
 RACY, RACY_RECORD = "examples/races/reuse_race.cell", "examples/races/reuse_race.out"
 CALM, CALM_RECORD = "examples/first.cell", "examples/first.out"  # which has no sources: these would be named from a folder that isn't there
@@ -46,7 +46,7 @@ SECONDS = 20
 
 def redirected(name, how, words, status, said="", printed=None):
     """A row of a call with its standard files as a shell has them."""
-    return Row(f"{words[0]} {name}", ["tests/hostility/redirect", how, *words], status, said, printed, files=FILES, standard_input=TYPED,
+    return Row(f"{words[0]} {name}", ["tests/lib/hostility/redirect", how, *words], status, said, printed, files=FILES, standard_input=TYPED,
                before=lambda folder: (folder / "examples").symlink_to(ROOT / "examples"))
 
 

@@ -6,7 +6,7 @@ import re
 import subprocess
 from typing import Dict, Iterator, List, Optional, Set, Tuple
 
-from hostility.rows import ROOT, TRACEBACK, Row, ended, shown
+from lib.hostility.rows import ROOT, TRACEBACK, Row, ended, shown
 
 TOOLS = ("debug", "explain", "from_gas", "hunts", "listing", "picture", "race", "site_lines", "states", "witness")
 OLDEST = (3, 9)

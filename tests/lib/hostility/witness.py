@@ -2,7 +2,7 @@
 import pathlib
 from typing import Optional
 
-from hostility.rows import ROOT, Row
+from lib.hostility.rows import ROOT, Row
 
 RACES = ROOT / "examples" / "races"
 SOURCE, RECORD = ((RACES / name).read_bytes() for name in ("reuse_race.s", "reuse_race.out"))

@@ -5,7 +5,7 @@ import stat
 import tempfile
 from typing import Iterator, Optional, Sequence
 
-from hostility.rows import ROOT, Row, ended
+from lib.hostility.rows import ROOT, Row, ended
 
 UNREADABLE = "/proc/self/mem"  # opens, and has no byte at its beginning that may be read
 DIGITS = "9" * 5000

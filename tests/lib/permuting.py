@@ -2,9 +2,9 @@
 
 The run is of a machine file in a folder, which also has its record as the file `record` and takes what is written.
 """
-from asking import output, said_of, trace_of
-from order_rules import steps_in
-from settled_rules import broken, reordering
+from lib.asking import output, said_of, trace_of
+from lib.order_rules import steps_in
+from lib.settled_rules import broken, reordering
 
 from celltools.run.records import record_text
 

@@ -7,7 +7,7 @@ import tempfile
 import threading
 from typing import Iterator, List, Mapping, Optional, Sequence
 
-from hostility.rows import ROOT, Row, ended
+from lib.hostility.rows import ROOT, Row, ended
 
 sys.path.insert(0, str(ROOT / "tools"))
 from celltools.common.texts import lines_in, number_of, shown  # noqa: E402  (the path comes first)

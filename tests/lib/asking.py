@@ -1,14 +1,13 @@
 """Asks the proved programs about runs, in a folder that has the machine file and the record."""
-import pathlib
 import subprocess
 import sys
 
+from celltools.common.repository import built
 from celltools.common.texts import number_of
-from order_rules import trace_of_lines
+from lib.order_rules import trace_of_lines
 
-ROOT = pathlib.Path(__file__).resolve().parent.parent
-TRACER = ROOT / "crates" / "run_trace" / "out" / "run_trace"
-CELL = ROOT / "crates" / "cell_cli" / "out" / "cell_cli"
+TRACER = built("run_trace")
+CELL = built("cell_cli")
 SECONDS = 60
 MISUSED = 2
 

@@ -3,7 +3,7 @@ import pathlib
 import subprocess
 from typing import Dict, Iterator, Sequence, Tuple, Union
 
-from hostility.rows import ROOT, Row
+from lib.hostility.rows import ROOT, Row
 
 CELL, TRACER, HUNT = "crates/cell_cli/out/cell_cli", "crates/run_trace/out/run_trace", "crates/hunt/out/hunt"
 ODD = "\udcff"  # stands for the byte FF, which is nowhere in UTF-8

@@ -4,7 +4,7 @@ A run is settled where no processor sees how far its flow controller has come, e
 they have in run_permute's `Settled`, each of them here as a look at the places of a trace. `before` has of each place the places that are ordered before it, as
 the bits of a number. Nothing here is fast: every clause looks at every place.
 """
-from order_rules import is_stalled
+from lib.order_rules import is_stalled
 
 from celltools.run.effects import MEMORY_LINE
 

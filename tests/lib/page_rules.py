@@ -3,7 +3,7 @@ import pathlib
 import re
 from typing import Iterator, List, Set
 
-from page_reading import INDENT, parts_of
+from lib.page_reading import INDENT, parts_of
 
 PARAGRAPH, CELL = 120, 60  # words at most
 CELLS = re.compile(r"(?<!\\)\|")

@@ -6,7 +6,7 @@ import sys
 import tempfile
 from typing import Iterator, List, Tuple
 
-ROOT = pathlib.Path(__file__).resolve().parent.parent.parent
+ROOT = pathlib.Path(__file__).resolve().parents[3]
 CELL = ROOT / "crates" / "cell_cli" / "out" / "cell_cli"
 TRACER = ROOT / "crates" / "run_trace" / "out" / "run_trace"
 # the sources of a machine's processors, each with the address at which it begins
