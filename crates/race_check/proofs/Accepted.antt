@@ -1,5 +1,5 @@
 -- The verdict on a run, and a run without a race in each of its reorderings.
-use Rattle.std.proofs.Common.{◌≡◌, ℕ, zero, suc, ◌+◌, ◌<◌, ◌≤◌, ◌^◌, List, [], ◌∷◌, ◌++◌, true, false, arith, length, take, Some, refl, sym, ap, ◌∙◌, subst}
+use Rattle.std.proofs.Common.{◌≡◌, ℕ, zero, suc, ◌+◌, ◌<◌, ◌≤◌, ◌^◌, List, [], ◌∷◌, ◌++◌, arith, length, take, Option, Some, None, refl, sym, ap, ◌∙◌, subst}
 use Rattle.std.specs.Prelude.{slice_get}
 use Rattle.std.proofs.lemmas.List.{length-map, length_push, take-append-le, take_all}
 use Rattle.std.proofs.lemmas.Option.{slice_get_within}
@@ -17,7 +17,7 @@ use Rattle.race_order.specs.Rules.{Rule, Ordered}
 use Rattle.race_order.specs.Told.{trace_in}
 use Rattle.race_order.proofs.OrderedRuns.{follows, run-told as told-by}
 use Rattle.race_check.specs.declared.check.Verdict.TheVariants.{Accepted, Race as Racing}
-use Rattle.race_check.specs.Races.{access_of, IsLeast, IsVerdict, Race, RaceBy}
+use Rattle.race_check.specs.Races.{access_of, IsFirst, IsLeast, IsVerdict, Race, RaceBy, TellsLatest}
 use Rattle.race_check.specs.Walks.{IsAt, IsOrdered, accesses_in, RaceIn, Stands}
 use Rattle.race_check.specs.Reorderings.{EveryReorderingAgrees, KeepsOrder}
 use Rattle.race_check.proofs.Agree.{agrees}
@@ -26,8 +26,12 @@ use Rattle.race_check.proofs.Checks.{least_next, least_whole, none_next, shows_n
 use Rattle.race_check.specs.declared.access.Access.{Access}
 use Rattle.race_check.specs.declared.search.Search.{Search}
 use Rattle.race_check.specs.declared.walk.Walk.{Walk}
-use Rattle.race_check.specs.Shows.{HasRace, Shows, StepTells}
-use Rattle.race_check.specs.Searches.{IsClear, Keeps, run_of}
+use Rattle.race_check.specs.Shows.{Shows, TakesStep}
+use Rattle.race_check.specs.Searches.{IsClear, Keeps, run_of, with_step}
+
+-- the run has the trace that is told
+abbrev pub IsTold : Ran → Type 0
+IsTold m = trace_of m ≡ Some (trace_in m)
 
 module _ (m : Ran) (is : trace_of m ≡ Some (trace_in m)) where
   -- the races of the run are those of its trace
@@ -67,6 +71,10 @@ module _ (m : Ran) (is : trace_of m ≡ Some (trace_in m)) where
             (subst (λ n. KeepsOrder (Ordered Rule (trace_in m)) n order) (sym many) keeps);
       }
 
+-- the steps of a race are steps of the run
+pub race-inside : (m : Ran) → IsTold m → (i j : ℕ) → RaceIn m i j → j < length m.steps
+race-inside m is i j race = access-within m (trace_in m) is j race.conflict.second race.conflict.second_at
+
 -- ---- the verdict on the first steps of a run
 
 length-take-most : {X : Type 0} (n : ℕ) (xs : List X) → length (take n xs) ≤ n
@@ -95,12 +103,16 @@ raced-whole m w n i j run made v =
 
 -- ---- a search
 
--- what it keeps says that its run has no race
-pub clear : (s : Search) → Keeps s → IsClear s
+-- its run has a trace
+pub search-told : (s : Search) → Keeps s → IsTold (run_of s)
 unfolding Stands
-clear s keeps =
-    let is = told-by s.walk.orderer (run_of s) keeps.stands in
-    record { accepted = accepted (run_of s) is keeps.none; agree = every-reordering-agrees (run_of s) is keeps.none; keeps = keeps }
+search-told s keeps = told-by s.walk.orderer (run_of s) keeps.stands
+
+-- its run has no race
+pub clear : (s : Search) → Keeps s → ((i j : ℕ) → RaceIn (run_of s) i j → ⊥) → IsClear s
+clear s keeps none =
+    let is = search-told s keeps in
+    record { accepted = accepted (run_of s) is none; agree = every-reordering-agrees (run_of s) is none; none = none; keeps = keeps }
 
 -- before the first step
 pub clear-none : (s : Search) (setup : Opening) → run_of s ≡ record { setup = setup; steps = [] } → Stands s.walk → s.shadow.lists.items ≡ [] → s.accesses.items ≡ [] → IsClear s
@@ -115,8 +127,7 @@ clear-none s setup start stands empty none =
       stands = stands;
       accesses = none ∙ sym (nothing (accesses_in m) long);
       shows = subst (Shows (IsOrdered m) (accesses_in m) s.shadow) zero (shows_none (IsOrdered m) (accesses_in m) s.shadow empty);
-      none = λ i j race. absurd (let low = slice_get_within (accesses_in m) j race.conflict.second race.conflict.second_at in omega (arith, low, long));
-    }
+    } (λ i j race. absurd (let low = slice_get_within (accesses_in m) j race.conflict.second race.conflict.second_at in omega (arith, low, long)))
   where
     nothing : (xs : List Access) → length xs ≡ 0 → xs ≡ []
     nothing [] e = refl
@@ -142,6 +153,12 @@ step-at s walk step last is made stands =
     let long : length walk.machine.steps ≡ length (run_of s).steps + 1 = ap (λ (r : Ran). length r.steps) made ∙ length_push (run_of s).steps step in
     record { stands = stands; last = omega (arith, is, long) }
 
+-- without the last step a run is the one before it
+pub first_steps : (old new : Ran) (step : Step) → new ≡ with_step old step → old ≡ first_of new (length old.steps)
+first_steps old new step made =
+    let steps = take-append-le (length old.steps) old.steps (step ∷ []) (omega arith) ∙ take_all (length old.steps) old.steps (omega arith) in
+    sym (ap (λ (r : Ran). first_of r (length old.steps)) made ∙ ap (λ (xs : List Step). let r : Ran = record old { steps = xs } in r) steps)
+
 -- the search has made one step more, with this access
 pub record Advanced (old new : Search) (step : Step) (access : Access) : Type 0 where
   pub keeps : Keeps old
@@ -156,9 +173,7 @@ module _ (old new : Search) (step : Step) (access : Access) (a : Advanced old ne
   is = told-by new.walk.orderer (run_of new) a.stands
 
   first : run_of old ≡ first_of (run_of new) (length (run_of old).steps)
-  first =
-      let steps = take-append-le (length (run_of old).steps) (run_of old).steps (step ∷ []) (omega arith) ∙ take_all (length (run_of old).steps) (run_of old).steps (omega arith) in
-      sym (ap (λ (r : Ran). first_of r (length (run_of old).steps)) a.made ∙ ap (λ (xs : List Step). let r : Ran = record (run_of old) { steps = xs } in r) steps)
+  first = first_steps (run_of old) (run_of new) step a.made
 
   long : length (run_of new).steps ≡ length (run_of old).steps + 1
   long = ap (λ (r : Ran). length r.steps) a.made ∙ length_push (run_of old).steps step
@@ -176,19 +191,37 @@ module _ (old new : Search) (step : Step) (access : Access) (a : Advanced old ne
   pub kept : new.accesses.items ≡ accesses_in (run_of new)
   kept = a.put ∙ ap (λ xs. xs ++ access ∷ []) a.keeps.accesses ∙ sym a.more
 
-  -- the step races with none
-  pub clear-more : StepTells (IsOrdered (run_of new)) old.shadow new.shadow access (length (run_of old).steps) false → IsClear new
-  clear-more tells =
-      clear new record {
-        stands = a.stands;
-        accesses = kept;
-        shows = subst (Shows (IsOrdered (run_of new)) (accesses_in (run_of new)) new.shadow) (sym long) (tells.shows (accesses_in (run_of new)) at shown);
-        none = none_next (run_of new) (run_of old) is (length (run_of old).steps) first a.keeps.none (omega (arith, long)) (tells.none (accesses_in (run_of new)) at shown);
-      }
+  module _ (latest : Option ℕ) (takes : TakesStep (IsOrdered (run_of new)) old.shadow new.shadow access (length (run_of old).steps) latest) where
+    pub keeps-more : Keeps new
+    keeps-more = record {
+      stands = a.stands;
+      accesses = kept;
+      shows = subst (Shows (IsOrdered (run_of new)) (accesses_in (run_of new)) new.shadow) (sym long) (takes.shows (accesses_in (run_of new)) at shown);
+    }
 
-  -- it races with one
-  pub has-race : StepTells (IsOrdered (run_of new)) old.shadow new.shadow access (length (run_of old).steps) true → HasRace (IsOrdered (run_of new)) (accesses_in (run_of new)) (length (run_of old).steps)
-  has-race tells = tells (accesses_in (run_of new)) at shown
+    pub latest-more : TellsLatest (RaceIn (run_of new)) (length (run_of old).steps) latest
+    latest-more = takes.told (accesses_in (run_of new)) at shown
 
-  pub raced-more : (i : ℕ) → RaceIn (run_of new) i (length (run_of old).steps) → ((k : ℕ) → k < i → RaceIn (run_of new) k (length (run_of old).steps) → ⊥) → IsVerdict (run_of new) (Racing i (length (run_of old).steps))
-  raced-more i race none = raced (run_of new) is i (length (run_of old).steps) (least_next (run_of new) (run_of old) is (length (run_of old).steps) first a.keeps.none i race none)
+-- ---- one step more
+
+module _ (old new : Search) (step : Step) (clear-old : IsClear old) (keeps : Keeps new) (made : run_of new ≡ with_step (run_of old) step) where
+  told : trace_of (run_of new) ≡ Some (trace_in (run_of new))
+  told = search-told new keeps
+
+  front : run_of old ≡ first_of (run_of new) (length (run_of old).steps)
+  front = first_steps (run_of old) (run_of new) step made
+
+  -- it races with none
+  pub clear-more : TellsLatest (RaceIn (run_of new)) (length (run_of old).steps) None → IsClear new
+  clear-more none =
+      let long : length (run_of new).steps ≡ length (run_of old).steps + 1 = ap (λ (r : Ran). length r.steps) made ∙ length_push (run_of old).steps step in
+      clear new keeps (none_next (run_of new) (run_of old) told (length (run_of old).steps) front clear-old.none (omega (arith, long)) none)
+
+  -- this is the first one that it races with
+  pub raced-more : (i : ℕ) → IsFirst (RaceIn (run_of new)) i (length (run_of old).steps) → IsVerdict (run_of new) (Racing i (length (run_of old).steps))
+  raced-more i of = raced (run_of new) told i (length (run_of old).steps) (least_next (run_of new) (run_of old) told (length (run_of old).steps) front clear-old.none i of)
+
+-- there is a race where the latest is told
+pub has-race : (R : ℕ → ℕ → Type 0) (j : ℕ) (latest : Option ℕ) → (latest ≡ None → ⊥) → TellsLatest R j latest → (i : ℕ) × R i j
+has-race R j None some tells = absurd (some refl)
+has-race R j (Some i) some tells = (i, tells.holds)

@@ -8,7 +8,7 @@ use Rattle.cell_machine.specs.Traces.{trace_of}
 use Rattle.race_order.specs.Told.{trace_in}
 use Rattle.race_order.proofs.Places.{get_take}
 use Rattle.race_check.specs.declared.access.Access.{Access}
-use Rattle.race_check.specs.Races.{Conflict, IsLeast, RaceBy}
+use Rattle.race_check.specs.Races.{Conflict, IsFirst, IsLeast, RaceBy}
 use Rattle.race_check.specs.Walks.{IsOrdered, accesses_in, RaceIn}
 use Rattle.race_check.specs.declared.line.Line.{Line}
 use Rattle.race_check.specs.declared.shadow.Shadow.{Shadow}
@@ -41,16 +41,20 @@ module _ (Before : ℕ → ℕ → Type 0) (accesses : List Access) where
     pub no_conflict : (Conflict (get_or accesses i first) (get_or accesses last second) → ⊥) → RaceBy Before accesses i last → ⊥
     no_conflict none race = none (conflict_from accesses i last first second race.conflict)
 
-  pub least : (i j : ℕ) → ((k m : ℕ) → m < j → RaceBy Before accesses k m → ⊥) → RaceBy Before accesses i j → ((k : ℕ) → k < i → RaceBy Before accesses k j → ⊥) → IsLeast (RaceBy Before accesses) i j
-  least i j none race first = record { holds = race; least_second = λ k m r. second k m r (cases_lt m j); least_first = λ k r. at k r (cases_lt k i) }
+  -- none is in front of the one that was found
+  pub first_found : (i j : ℕ) → RaceBy Before accesses i j → ((k : ℕ) → k < i → RaceBy Before accesses k j → ⊥) → IsFirst (RaceBy Before accesses) i j
+  first_found i j race none = record { holds = race; first = λ k r. at k r (cases_lt k i) }
+    where
+      at : (k : ℕ) → RaceBy Before accesses k j → (k < i) ⊎ (i ≤ k) → i ≤ k
+      at k r (inl low) = absurd (none k low r)
+      at k r (inr high) = high
+
+  pub least : (i j : ℕ) → ((k m : ℕ) → m < j → RaceBy Before accesses k m → ⊥) → IsFirst (RaceBy Before accesses) i j → IsLeast (RaceBy Before accesses) i j
+  least i j none of = record { holds = of.holds; least_second = λ k m r. second k m r (cases_lt m j); least_first = of.first }
     where
       second : (k m : ℕ) → RaceBy Before accesses k m → (m < j) ⊎ (j ≤ m) → j ≤ m
       second k m r (inl low) = absurd (none k m low r)
       second k m r (inr high) = high
-
-      at : (k : ℕ) → RaceBy Before accesses k j → (k < i) ⊎ (i ≤ k) → i ≤ k
-      at k r (inl low) = absurd (first k low r)
-      at k r (inr high) = high
 
   pub shows_none : (shadow : Shadow) → shadow.lists.items ≡ [] → Shows Before accesses shadow 0
   shows_none shadow empty =
@@ -112,7 +116,7 @@ module _ (m : Ran) (is : trace_of m ≡ Some (trace_in m)) (n : ℕ) (w : Ran) (
   pub race_first : (i j : ℕ) → j < n → RaceIn m i j → RaceIn w i j
   race_first i j low race = race_below (IsOrdered w) (IsOrdered m) (accesses_in w) (accesses_in m) n to_whole same i j low race
 
-  race_whole : (i j : ℕ) → j < n → RaceIn w i j → RaceIn m i j
+  pub race_whole : (i j : ℕ) → j < n → RaceIn w i j → RaceIn m i j
   race_whole i j low race = race_below (IsOrdered m) (IsOrdered w) (accesses_in m) (accesses_in w) n to_first (λ k less. sym (same k less)) i j low race
 
   -- the least race of the first steps is that of all
@@ -141,5 +145,5 @@ module _ (m w : Ran) (is : trace_of m ≡ Some (trace_in m)) (n : ℕ) (made : w
         | inr more ↦ (let e : j ≡ n = omega (arith, all, low, long, more) in here i (subst (RaceIn m i) e race))
       ]
 
-  pub least_next : (i : ℕ) → RaceIn m i n → ((k : ℕ) → k < i → RaceIn m k n → ⊥) → IsLeast (RaceIn m) i n
-  least_next i race first = least (IsOrdered m) (accesses_in m) i n (λ k l low. none_below k l low) race first
+  pub least_next : (i : ℕ) → IsFirst (RaceIn m) i n → IsLeast (RaceIn m) i n
+  least_next i of = least (IsOrdered m) (accesses_in m) i n (λ k l low. none_below k l low) of

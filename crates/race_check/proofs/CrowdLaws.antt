@@ -1,18 +1,19 @@
 -- Lists of crowds of which one changes, comes or goes.
-use Rattle.std.proofs.Common.{◌≡◌, ℕ, zero, suc, ◌+◌, ◌≤◌, ◌<◌, true, false, List, [], ◌∷◌, ◌++◌, length, get_or, set, take, drop, ◌⊎◌, inl, inr, refl, sym, ap, ◌∙◌, subst, arith, length-set, get_or-set_other}
-use Rattle.std.specs.Prelude.{◌↔◌, All, Contains, Option, Some, None}
+use Rattle.std.proofs.Common.{◌≡◌, ℕ, zero, suc, ◌+◌, ◌≤◌, ◌<◌, List, [], ◌∷◌, ◌++◌, length, get_or, set, take, drop, ◌⊎◌, inl, inr, refl, sym, ap, ◌∙◌, subst, arith, length-set, get_or-set_other}
+use Rattle.std.specs.Prelude.{◌↔◌, Contains, Option, Some, None}
 use Rattle.std.specs.List.{swap_remove}
 use Rattle.std.proofs.lemmas.Bool.{cases_eq, cases_lt}
 use Rattle.std.proofs.lemmas.Grind.{get_or-set_at}
 use Rattle.std.proofs.lemmas.List.{get_or_default, take_all, take_more}
-use Rattle.std.proofs.lemmas.List.Elements.{All-contains, Contains-append_cases, Contains-append_left, Contains-append_right, Contains-get_or, Contains-push, Contains-push_cases}
+use Rattle.std.proofs.lemmas.List.Elements.{Contains-append_cases, Contains-append_left, Contains-append_right, Contains-get_or, Contains-push, Contains-push_cases}
 use Rattle.std.proofs.lemmas.List.Sorted.{Contains-permutation, IsPermutation-swap_remove, IsPermutation-sym}
 use Rattle.cell_machine.specs.declared.effect.Place.{Place}
 use Rattle.cell_machine.proofs.AllTwo.{whole}
 use Rattle.race_check.specs.declared.entry.Entry.{Entry}
 use Rattle.race_check.specs.declared.crowd.Crowd.{Crowd}
 use Rattle.race_check.specs.Entries.{HasSameBytes, Holds, IsCut}
-use Rattle.race_check.specs.Crowds.{CrowdTells, Has, HasClash, HasStep, IsCutPut, IsJoined, IsPut, IsReplaced, IsSafe, IsTaken, IsTrimmed, Tells}
+use Rattle.race_check.specs.Crowds.{Clashes, CrowdClashes, CrowdTells, Has, HasStep, IsCutPut, IsJoined, IsLater, IsPut, IsReplaced, IsSafe, IsTaken, IsTrimmed, IsUnsafeOne, StepsTell, Tells, UpTo}
+use Rattle.race_check.proofs.Latest.{if_then, of_both, still}
 
 -- ---- a list with another element at i
 
@@ -45,11 +46,6 @@ replaced Before last steps k old low at safe = record { left = λ s has. left s 
     rest : (s : ℕ) → (s ≡ last) ⊎ Contains steps s → Contains steps s ⊎ (s ≡ last)
     rest s (inl e) = inr e
     rest s (inr has) = inl has
-
--- of the first i steps each is safe, and so is the next
-pub safe_all : (Before : ℕ → ℕ → Type 0) (last : ℕ) (steps : List ℕ) (i : ℕ) → length steps ≤ i → All (λ s. IsSafe Before s last) (take i steps) → (s : ℕ) → Contains steps s → IsSafe Before s last
-safe_all Before last steps i far all s has =
-    All-contains (λ s. IsSafe Before s last) steps s (subst (All (λ s. IsSafe Before s last)) (take_all i steps far) all) has
 
 -- more steps were added to a crowd
 pub added_steps : (old new : Crowd) (step : ℕ) (others : List ℕ) → new.entry ≡ old.entry → new.others.items ≡ old.others.items ++ step ∷ [] ++ others → (s : ℕ) → HasStep new s ↔ (HasStep old s ⊎ ((s ≡ step) ⊎ Contains others s))
@@ -331,20 +327,43 @@ module _ (new : Entry) (crowds : List Crowd) (i : ℕ) (crowd : Crowd) (low : i 
 
 -- ---- clashes
 
+-- what the steps of a crowd tell, where it has a byte of the new entry
+pub crowd_clash : (Before : ℕ → ℕ → Type 0) (new : Entry) (c : Crowd) (latest : Option ℕ) (p : Place) (x : ℕ) → Holds c.entry p x → Holds new p x → StepsTell Before new.step (HasStep c) latest → CrowdTells Before new c latest
+crowd_clash Before new c latest p x there in_new steps = record {
+  clash = if_then latest (IsUnsafeOne Before new.step (HasStep c)) (CrowdClashes Before new c) steps.clash (λ s u. record { place = p; at = x; has = u.is; there = there; in_new = in_new; unsafe = u.unsafe });
+  rest = λ s q y has h n. steps.rest s has;
+}
+
+pub crowd_clear : (Before : ℕ → ℕ → Type 0) (new : Entry) (c : Crowd) → ((p : Place) (x : ℕ) → Holds c.entry p x → Holds new p x → ⊥) → CrowdTells Before new c None
+crowd_clear Before new c none = record { clash = tt; rest = λ s p x has h n. absurd (none p x h n) }
+
+pub tells_none : (Before : ℕ → ℕ → Type 0) (new : Entry) → Tells Before new [] None
+tells_none Before new = record { clash = tt; rest = λ s p x has h. absurd (let low : has.inside.0 < 0 = has.inside.1 in omega arith) }
+
+-- one more crowd of a list
 module _ (Before : ℕ → ℕ → Type 0) (new : Entry) (crowds : List Crowd) (i : ℕ) (d : Crowd) (low : i < length crowds) (at : d ≡ get_or crowds i d) where
-  -- no clash among the first i, nor at the next
-  pub clear_more : Tells Before new (take i crowds) false → CrowdTells Before new d false → Tells Before new (take (i + 1) crowds) false
-  clear_more before here s p x has h = by (Contains-push_cases (take i crowds) d has.crowd (subst (λ cs. Contains cs has.crowd) (take_more crowds i d low ∙ ap (λ c. take i crowds ++ c ∷ []) (sym at)) has.inside))
+  all : take (i + 1) crowds ≡ take i crowds ++ d ∷ []
+  all = take_more crowds i d low ∙ ap (λ c. take i crowds ++ c ∷ []) (sym at)
+
+  has_before : (s : ℕ) (p : Place) (x : ℕ) → Has (take i crowds) s p x → Has (take (i + 1) crowds) s p x
+  has_before s p x has =
+      record { crowd = has.crowd; inside = subst (λ cs. Contains cs has.crowd) (sym all) (Contains-append_left (take i crowds) (d ∷ []) has.crowd has.inside); step = has.step; there = has.there }
+
+  has_here : (s : ℕ) (p : Place) (x : ℕ) → HasStep d s → Holds d.entry p x → Has (take (i + 1) crowds) s p x
+  has_here s p x step there = record { crowd = d; inside = subst (λ cs. Contains cs d) (sym all) (Contains-push (take i crowds) d); step = step; there = there }
+
+  pub tells_more : (a b latest : Option ℕ) → IsLater a b latest → Tells Before new (take i crowds) a → CrowdTells Before new d b → Tells Before new (take (i + 1) crowds) latest
+  tells_more a b latest is before here = record {
+    clash = of_both a b latest (Clashes Before new (take (i + 1) crowds)) is
+        (if_then a (Clashes Before new (take i crowds)) (Clashes Before new (take (i + 1) crowds)) before.clash (λ s c. record { place = c.place; at = c.at; has = has_before s c.place c.at c.has; in_new = c.in_new; unsafe = c.unsafe }))
+        (if_then b (CrowdClashes Before new d) (Clashes Before new (take (i + 1) crowds)) here.clash (λ s c. record { place = c.place; at = c.at; has = has_here s c.place c.at c.has c.there; in_new = c.in_new; unsafe = c.unsafe }));
+    rest = λ s p x has h. rest s p x has h (Contains-push_cases (take i crowds) d has.crowd (subst (λ cs. Contains cs has.crowd) all has.inside));
+  }
     where
-      by : Contains (take i crowds) has.crowd ⊎ (d ≡ has.crowd) → IsSafe Before s new.step
-      by (inl inside) = before s p x record { crowd = has.crowd; inside = inside; step = has.step; there = has.there } h
-      by (inr e) = here s p x (subst (λ c. HasStep c s) (sym e) has.step) (subst (λ (c : Crowd). Holds c.entry p x) (sym e) has.there) h
+      rest : (s : ℕ) (p : Place) (x : ℕ) (has : Has (take (i + 1) crowds) s p x) → Holds new p x → Contains (take i crowds) has.crowd ⊎ (d ≡ has.crowd) → IsSafe Before s new.step ⊎ UpTo latest s
+      rest s p x has h (inl inside) = still (IsSafe Before s new.step) a latest s is.first (before.rest s p x record { crowd = has.crowd; inside = inside; step = has.step; there = has.there } h)
+      rest s p x has h (inr e) =
+          still (IsSafe Before s new.step) b latest s is.second (here.rest s p x (subst (λ c. HasStep c s) (sym e) has.step) (subst (λ (c : Crowd). Holds c.entry p x) (sym e) has.there) h)
 
-  pub clash_here : CrowdTells Before new d true → HasClash Before new crowds
-  clash_here c = record { step = c.step; place = c.place; at = c.at; has = record { crowd = d; inside = subst (Contains crowds) (sym at) (Contains-get_or crowds i d low); step = c.has; there = c.there }; in_new = c.in_new; unsafe = c.unsafe }
-
-pub clear_all : (Before : ℕ → ℕ → Type 0) (new : Entry) (crowds : List Crowd) (i : ℕ) → length crowds ≤ i → Tells Before new (take i crowds) false → Tells Before new crowds false
-clear_all Before new crowds i far clear = subst (λ cs. Tells Before new cs false) (take_all i crowds far) clear
-
-pub clear_none : (Before : ℕ → ℕ → Type 0) (new : Entry) → Tells Before new [] false
-clear_none Before new s p x has h = let low : has.inside.0 < 0 = has.inside.1 in absurd (omega arith)
+pub tells_all : (Before : ℕ → ℕ → Type 0) (new : Entry) (crowds : List Crowd) (i : ℕ) (latest : Option ℕ) → length crowds ≤ i → Tells Before new (take i crowds) latest → Tells Before new crowds latest
+tells_all Before new crowds i latest far tells = subst (λ cs. Tells Before new cs latest) (take_all i crowds far) tells

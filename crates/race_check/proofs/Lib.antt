@@ -5,6 +5,7 @@ pub mod Agree
 pub mod Prefixes
 pub mod Meets
 pub mod Places
+pub mod Latest
 pub mod CrowdLaws
 pub mod LineVisits
 pub mod Lists

@@ -1,5 +1,5 @@
 -- Lists that are made when a step first touches a line of theirs.
-use Rattle.std.proofs.Common.{◌≡◌, ℕ, zero, suc, ◌+◌, ◌/◌, ◌<◌, ◌≤◌, Bool, true, false, List, [], ◌∷◌, ◌++◌, length, set, ◌⊎◌, inl, inr, Some, refl, sym, ap, ◌∙◌, subst, arith, length-set}
+use Rattle.std.proofs.Common.{◌≡◌, ℕ, zero, suc, ◌+◌, ◌/◌, ◌<◌, ◌≤◌, Bool, List, [], ◌∷◌, ◌++◌, length, set, ◌⊎◌, inl, inr, Option, Some, refl, sym, ap, ◌∙◌, subst, arith, length-set}
 use Rattle.std.specs.Prelude.{slice_get, slice_index}
 use Rattle.std.proofs.lemmas.Bool.{cases_eq}
 use Rattle.std.proofs.lemmas.List.{get_or-set_other, get_or-set_same}
@@ -10,9 +10,11 @@ use Rattle.race_check.specs.declared.crowd.Crowd.{Crowd}
 use Rattle.race_check.specs.declared.entry.Entry.{Entry}
 use Rattle.race_check.specs.declared.line.Line.{Line}
 use Rattle.race_check.specs.declared.shadow.Shadow.{Shadow}
+use Rattle.race_check.specs.Races.{RaceBy}
 use Rattle.race_check.specs.Crowds.{Has}
 use Rattle.race_check.specs.Lines.{InLine}
-use Rattle.race_check.specs.Shows.{AreReal, EntryTells, IsLengthened, Kept, list_of}
+use Rattle.race_check.proofs.Latest.{if_then}
+use Rattle.race_check.specs.Shows.{AreReal, IsAccess, IsLengthened, Kept, TakesEntry, list_of}
 use Rattle.race_check.specs.Slots.{slot_of}
 
 pub get_set_same : {X : Type 0} (xs : List X) (i : ℕ) (x : X) → i < length xs → slice_get (set xs i x) i ≡ Some x
@@ -104,12 +106,13 @@ module _ (Before : ℕ → ℕ → Type 0) (before mid after : Shadow) (e : Entr
         ];
       }
 
-  pub tells_longer : (races : Bool) → EntryTells Before mid after e writes line races → EntryTells Before before after e writes line races
-  tells_longer true found = λ steps access was. found steps access (real_longer steps (e.step + 1) was)
-  tells_longer false taken =
+  pub takes_longer : (latest : Option ℕ) → TakesEntry Before mid after e writes line latest → TakesEntry Before before after e writes line latest
+  takes_longer latest taken =
       record {
         keeps = record { keeps = λ i p x w k. taken.keeps.keeps i p x w (kept_longer i p x w k) };
         own = taken.own;
         real = λ steps access was. taken.real steps access (real_longer steps (e.step + 1) was);
         clear = λ i p x w k. taken.clear i p x w (kept_longer i p x w k);
+        race = if_then latest (λ i. (steps : List Access) → IsAccess steps e writes → AreReal steps mid (e.step + 1) → RaceBy Before steps i e.step) (λ i. (steps : List Access) → IsAccess steps e writes → AreReal steps before (e.step + 1) → RaceBy Before steps i e.step)
+            taken.race (λ i race steps access was. race steps access (real_longer steps (e.step + 1) was));
       }

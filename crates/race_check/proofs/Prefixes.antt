@@ -20,6 +20,7 @@ use Rattle.race_order.specs.Trace.{Trace}
 use Rattle.race_order.specs.Rules.{Rule, Edge, Ordered, One, Then}
 use Rattle.race_order.specs.OrderedRuns.{OnTrace}
 use Rattle.race_order.specs.Told.{trace_in}
+use Rattle.race_order.proofs.Holding.{ordered_up}
 use Rattle.race_order.proofs.OrderedRuns.{follows, trace-is, trace-long, trace-snoc}
 use Rattle.race_check.specs.declared.access.Access.{Access}
 use Rattle.race_check.specs.Races.{access_of, accesses_on}
@@ -121,6 +122,10 @@ on_trace m i j trace is o = subst (λ t. Ordered Rule t i j) (some_same o.trace 
 pub is_ordered-trans : (m : Ran) (i k j : ℕ) → IsOrdered m i k → IsOrdered m k j → IsOrdered m i j
 unfolding IsOrdered
 is_ordered-trans m i k j a b = record { trace = b.trace; is = b.is; so = ordered_trans b.trace i k j (on_trace m i k b.trace b.is a) b.so }
+
+pub is_ordered-up : (m : Ran) (i j : ℕ) → IsOrdered m i j → i < j
+unfolding IsOrdered
+is_ordered-up m i j a = ordered_up Rule a.trace i j a.so
 
 -- what a test says of the trace it says of the run
 pub says-ordered : (m : Ran) (i j : ℕ) (b : Bool) → OnTrace m (λ trace. IsTrue b ↔ Ordered Rule trace i j) → IsTrue b ↔ IsOrdered m i j

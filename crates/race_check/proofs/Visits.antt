@@ -1,20 +1,21 @@
 -- What one visit of a line keeps, adds and tells.
-use Rattle.std.proofs.Common.{◌≡◌, ℕ, ◌+◌, ◌/◌, ◌<◌, Bool, true, false, List, length, set, ◌⊎◌, inl, inr, Some, refl, sym, ap, ◌∙◌, subst, arith}
+use Rattle.std.proofs.Common.{◌≡◌, ℕ, ◌+◌, ◌/◌, ◌<◌, ◌≤◌, Bool, true, List, length, set, ◌⊎◌, inl, inr, Option, Some, refl, sym, ap, ◌∙◌, subst, arith}
 use Rattle.std.specs.Prelude.{slice_get, slice_index}
 use Rattle.std.proofs.lemmas.Bool.{cases_eq}
 use Rattle.std.proofs.lemmas.Option.{same_Some}
 use Rattle.cell_machine.specs.declared.effect.Place.{Place}
 use Rattle.race_check.specs.declared.access.Access.{Access}
 use Rattle.cell_machine.specs.Sound.{covers}
-use Rattle.race_check.specs.Races.{Conflict, WritesInto}
+use Rattle.race_check.specs.Races.{Conflict, RaceBy, WritesInto}
 use Rattle.race_check.specs.declared.entry.Entry.{Entry}
 use Rattle.race_check.specs.declared.line.Line.{Line}
 use Rattle.race_check.specs.declared.shadow.Shadow.{Shadow}
 use Rattle.race_check.specs.Entries.{Holds}
-use Rattle.race_check.specs.Crowds.{IsSafe}
-use Rattle.race_check.specs.Lines.{HasLineClash, InLine, IsVisited, VisitTells}
+use Rattle.race_check.specs.Crowds.{IsSafe, UpTo}
+use Rattle.race_check.specs.Lines.{InLine, IsVisited, LineClashes}
+use Rattle.race_check.proofs.Latest.{if_then, up_from}
 use Rattle.race_check.proofs.Lists.{get_set_same, get_set_other}
-use Rattle.race_check.specs.Shows.{AreReal, EntryTells, HasRace, IsAccess, IsReal, Kept, TakesEntry, Touch, Fetched, Reads, Writes, list_of}
+use Rattle.race_check.specs.Shows.{AreReal, IsAccess, IsReal, Kept, TakesEntry, Touch, Fetched, Reads, Writes, list_of}
 use Rattle.race_check.specs.Slots.{slot_of}
 
 -- what is before a step that is before another is before that one
@@ -25,6 +26,10 @@ safe_trans : (Before : ℕ → ℕ → Type 0) → IsTransitive Before → (i m 
 safe_trans Before trans i m j (inl e) s = subst (λ k. IsSafe Before k j) (sym e) s
 safe_trans Before trans i m j (inr o) (inl e) = inr (subst (Before i) e o)
 safe_trans Before trans i m j (inr o) (inr q) = inr (trans i m j o q)
+
+safe_low : (Before : ℕ → ℕ → Type 0) → ((i j : ℕ) → Before i j → i < j) → (i m : ℕ) → IsSafe Before i m → i ≤ m
+safe_low Before up i m (inl e) = omega (arith, e)
+safe_low Before up i m (inr o) = let low = up i m o in omega (arith, low)
 
 -- two touches of one byte, of which one writes
 touch_writes : (a : Access) (p : Place) (x : ℕ) (w : Bool) → Touch a p x w → w ≡ true → covers a.writes p x ≡ true
@@ -42,7 +47,7 @@ conflict_of a b p x v w t u (inl e) = inl (writes_into a b p x w (touch_writes a
 conflict_of a b p x v w t u (inr e) = inr (writes_into b a p x v (touch_writes b p x w u e) t)
 
 -- the list s has become `new`
-module _ (Before : ℕ → ℕ → Type 0) (trans : IsTransitive Before) (before after : Shadow) (s : ℕ) (old new : Line) (e : Entry) (writes : Bool) (line : ℕ) (inside : s < length before.lists.items) (numbers : after.numbers.items ≡ before.numbers.items)
+module _ (Before : ℕ → ℕ → Type 0) (trans : IsTransitive Before) (up : (i j : ℕ) → Before i j → i < j) (before after : Shadow) (s : ℕ) (old new : Line) (e : Entry) (writes : Bool) (line : ℕ) (inside : s < length before.lists.items) (numbers : after.numbers.items ≡ before.numbers.items)
     (lists : after.lists.items ≡ set before.lists.items s new) (at : slice_get before.lists.items s ≡ Some old) (is : s ≡ list_of before e.place line) where
   same_list : (p : Place) (l : ℕ) → list_of after p l ≡ list_of before p l
   same_list p l = ap (λ (ns : List ℕ). slice_index ns (slot_of (length ns) p l)) numbers
@@ -66,7 +71,7 @@ module _ (Before : ℕ → ℕ → Type 0) (trans : IsTransitive Before) (before
   in_list : (p : Place) (x : ℕ) → Holds e p x → x / 128 ≡ line → list_of before p (x / 128) ≡ s
   in_list p x h l = ap (list_of before p) l ∙ (ap (λ q. list_of before q line) (sym h.place) ∙ sym is)
 
-  module _ (visited : IsVisited Before e writes old new) where
+  module _ (latest : Option ℕ) (visited : IsVisited Before e writes old new latest) where
     own : (p : Place) (x : ℕ) → Holds e p x → x / 128 ≡ line → Kept Before after e.step p x writes
     own p x h l = record { line = new; at = here p x (in_list p x h l); step = e.step; inside = visited.own p x h; safe = inl refl }
 
@@ -107,49 +112,51 @@ module _ (Before : ℕ → ℕ → Type 0) (trans : IsTransitive Before) (before
             at_new (inl had) = was.real s old w t p x at had
             at_new (inr (flags, h, same)) = subst (λ t. IsReal steps t p x w) (sym same) (access p x w h flags)
 
-    clear : (i : ℕ) (p : Place) (x : ℕ) (w : Bool) → Kept Before before i p x w → Holds e p x → x / 128 ≡ line → (w ≡ true) ⊎ (writes ≡ true) → IsSafe Before i e.step
-    clear i p x w k h l one =
-        safe_trans Before trans i k.step e.step k.safe (visited.clear w k.step p x (subst (λ l. InLine l w k.step p x) (is_old _ k.line (in_list p x h l) k.at) k.inside) h one)
+    clear : (i : ℕ) (p : Place) (x : ℕ) (w : Bool) → Kept Before before i p x w → Holds e p x → x / 128 ≡ line → (w ≡ true) ⊎ (writes ≡ true) → IsSafe Before i e.step ⊎ UpTo latest i
+    clear i p x w k h l one = by (visited.clear w k.step p x (subst (λ l. InLine l w k.step p x) (is_old _ k.line (in_list p x h l) k.at) k.inside) h one)
+      where
+        by : IsSafe Before k.step e.step ⊎ UpTo latest k.step → IsSafe Before i e.step ⊎ UpTo latest i
+        by (inl safe) = inl (safe_trans Before trans i k.step e.step k.safe safe)
+        by (inr far) = inr (up_from latest i k.step (safe_low Before up i k.step k.safe) far)
 
-    taken : TakesEntry Before before after e writes line
-    taken = record { keeps = record { keeps = keeps }; own = own; real = real; clear = clear }
-
-  found : HasLineClash Before e writes old → (steps : List Access) → IsAccess steps e writes → AreReal steps before (e.step + 1) → HasRace Before steps e.step
-  found c steps access was =
+  found : (n : ℕ) → LineClashes Before e writes old n → (steps : List Access) → IsAccess steps e writes → AreReal steps before (e.step + 1) → RaceBy Before steps n e.step
+  found n c steps access was =
       record {
-        first = c.step;
-        race = record {
-          below = below;
-          unordered = λ o. unsafe (inr o);
-          conflict = record {
-            first = mine.access;
-            second = its.access;
-            first_at = mine.at;
-            second_at = its.at;
-            conflict = conflict_of mine.access its.access c.place c.at c.kind writes mine.touch its.touch c.one_writes;
-          };
+        below = below;
+        unordered = λ o. unsafe (inr o);
+        conflict = record {
+          first = mine.access;
+          second = its.access;
+          first_at = mine.at;
+          second_at = its.at;
+          conflict = conflict_of mine.access its.access c.place c.at c.kind writes mine.touch its.touch c.one_writes;
         };
       }
     where
-      mine : IsReal steps c.step c.place c.at c.kind
-      mine = was.real s old c.kind c.step c.place c.at at c.has
+      mine : IsReal steps n c.place c.at c.kind
+      mine = was.real s old c.kind n c.place c.at at c.has
 
       its : IsReal steps e.step c.place c.at writes
       its = access c.place c.at writes c.in_new (λ t. t)
 
-      low : c.step < e.step + 1
-      low = was.below s old c.kind c.step c.place c.at at c.has
+      low : n < e.step + 1
+      low = was.below s old c.kind n c.place c.at at c.has
 
-      unsafe : IsSafe Before c.step e.step → ⊥
+      unsafe : IsSafe Before n e.step → ⊥
       unsafe = c.unsafe (omega (arith, low))
 
-      below : c.step < e.step
-      below = at_step (cases_eq c.step e.step)
+      below : n < e.step
+      below = at_step (cases_eq n e.step)
         where
-          at_step : (c.step ≡ e.step) ⊎ (c.step ≡ e.step → ⊥) → c.step < e.step
+          at_step : (n ≡ e.step) ⊎ (n ≡ e.step → ⊥) → n < e.step
           at_step (inl q) = absurd (unsafe (inl q))
           at_step (inr ne) = omega (arith, low)
 
-  pub entry_tells : (races : Bool) → VisitTells Before e writes old new races → EntryTells Before before after e writes line races
-  entry_tells true clash = found clash
-  entry_tells false visited = taken visited
+  pub takes_entry : (latest : Option ℕ) → IsVisited Before e writes old new latest → TakesEntry Before before after e writes line latest
+  takes_entry latest visited = record {
+    keeps = record { keeps = keeps latest visited };
+    own = own latest visited;
+    real = real latest visited;
+    clear = clear latest visited;
+    race = if_then latest (LineClashes Before e writes old) (λ i. (steps : List Access) → IsAccess steps e writes → AreReal steps before (e.step + 1) → RaceBy Before steps i e.step) visited.clash found;
+  }

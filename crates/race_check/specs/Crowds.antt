@@ -1,5 +1,5 @@
 -- What lists of crowds have, and what becomes of it when a new entry comes.
-use Rattle.std.specs.Prelude.{◌≡◌, ℕ, ◌≤◌, Bool, true, false, ◌⊎◌, List, Option, Some, None, Contains}
+use Rattle.std.specs.Prelude.{◌≡◌, ℕ, ◌≤◌, Bool, true, false, ◌⊎◌, List, Option, Some, None, IfSome, Contains}
 use Rattle.cell_machine.specs.declared.effect.Place.{Place}
 use Rattle.race_check.specs.declared.entry.Entry.{Entry}
 use Rattle.race_check.specs.declared.crowd.Crowd.{Crowd}
@@ -8,6 +8,21 @@ use Rattle.race_check.specs.Entries.{Holds}
 -- the two are one step, or the first is before the second
 abbrev pub IsSafe : (ℕ → ℕ → Type 0) → ℕ → ℕ → Type 0
 IsSafe Before i j = (i ≡ j) ⊎ Before i j
+
+-- it is neither
+abbrev pub IsUnsafe : (ℕ → ℕ → Type 0) → ℕ → ℕ → Type 0
+IsUnsafe Before i j = i ≤ j → IsSafe Before i j → ⊥
+
+-- the step is at most this one, if there is one
+abbrev pub UpTo : Option ℕ → ℕ → Type 0
+UpTo None s = ⊥
+UpTo (Some i) s = s ≤ i
+
+-- of two steps that there may be the later one
+pub record IsLater (a b later : Option ℕ) : Type 0 where
+  pub one : (later ≡ a) ⊎ (later ≡ b)
+  pub first : (s : ℕ) → UpTo a s → UpTo later s
+  pub second : (s : ℕ) → UpTo b s → UpTo later s
 
 -- it is the step of the crowd's entry, or one of the others
 abbrev pub HasStep : Crowd → ℕ → Type 0
@@ -22,16 +37,15 @@ pub record Has (crowds : List Crowd) (s : ℕ) (p : Place) (x : ℕ) : Type 0 wh
 
 -- ---- steps, and the last step that was made
 
--- one of the steps is neither the last one nor before it
-pub record HasUnsafe (Before : ℕ → ℕ → Type 0) (last : ℕ) (IsOne : ℕ → Type 0) : Type 0 where
-  pub step : ℕ
+-- it is one of the steps, and neither the last one nor before it
+pub record IsUnsafeOne (Before : ℕ → ℕ → Type 0) (last : ℕ) (IsOne : ℕ → Type 0) (step : ℕ) : Type 0 where
   pub is : IsOne step
-  pub unsafe : step ≤ last → IsSafe Before step last → ⊥
+  pub unsafe : IsUnsafe Before step last
 
--- whether there is such a step
-abbrev pub StepsTell : (ℕ → ℕ → Type 0) → ℕ → (ℕ → Type 0) → Bool → Type 0
-StepsTell Before last IsOne true = HasUnsafe Before last IsOne
-StepsTell Before last IsOne false = (s : ℕ) → IsOne s → IsSafe Before s last
+-- this is the latest such step, None where there is none
+pub record StepsTell (Before : ℕ → ℕ → Type 0) (last : ℕ) (IsOne : ℕ → Type 0) (latest : Option ℕ) : Type 0 where
+  pub clash : IfSome latest (IsUnsafeOne Before last IsOne)
+  pub rest : (s : ℕ) → IsOne s → IsSafe Before s last ⊎ UpTo latest s
 
 -- the last step is among the second ones, of the first only those are lost that are safe, and nothing else is added
 pub record IsReplaced (Before : ℕ → ℕ → Type 0) (last : ℕ) (old new : List ℕ) : Type 0 where
@@ -51,34 +65,32 @@ pub record IsTaken (Before : ℕ → ℕ → Type 0) (last : ℕ) (old new : Cro
 
 -- ---- a list of crowds, and a new entry of the last step
 
--- a step of the crowd has a byte of the new entry, and is neither its step nor before it
-pub record HasCrowdClash (Before : ℕ → ℕ → Type 0) (new : Entry) (c : Crowd) : Type 0 where
-  pub step : ℕ
+-- the step is one of the crowd, has a byte of the new entry, and is neither its step nor before it
+pub record CrowdClashes (Before : ℕ → ℕ → Type 0) (new : Entry) (c : Crowd) (step : ℕ) : Type 0 where
   pub place : Place
   pub at : ℕ
   pub has : HasStep c step
   pub there : Holds c.entry place at
   pub in_new : Holds new place at
-  pub unsafe : step ≤ new.step → IsSafe Before step new.step → ⊥
+  pub unsafe : IsUnsafe Before step new.step
 
--- whether there is one
-abbrev pub CrowdTells : (ℕ → ℕ → Type 0) → Entry → Crowd → Bool → Type 0
-CrowdTells Before new c true = HasCrowdClash Before new c
-CrowdTells Before new c false = (s : ℕ) (p : Place) (x : ℕ) → HasStep c s → Holds c.entry p x → Holds new p x → IsSafe Before s new.step
+-- this is the latest such step, None where there is none
+pub record CrowdTells (Before : ℕ → ℕ → Type 0) (new : Entry) (c : Crowd) (latest : Option ℕ) : Type 0 where
+  pub clash : IfSome latest (CrowdClashes Before new c)
+  pub rest : (s : ℕ) (p : Place) (x : ℕ) → HasStep c s → Holds c.entry p x → Holds new p x → IsSafe Before s new.step ⊎ UpTo latest s
 
--- a step of the list has a byte of the new entry, and is neither its step nor before it
-pub record HasClash (Before : ℕ → ℕ → Type 0) (new : Entry) (crowds : List Crowd) : Type 0 where
-  pub step : ℕ
+-- the step is one of the list, has a byte of the new entry, and is neither its step nor before it
+pub record Clashes (Before : ℕ → ℕ → Type 0) (new : Entry) (crowds : List Crowd) (step : ℕ) : Type 0 where
   pub place : Place
   pub at : ℕ
   pub has : Has crowds step place at
   pub in_new : Holds new place at
-  pub unsafe : step ≤ new.step → IsSafe Before step new.step → ⊥
+  pub unsafe : IsUnsafe Before step new.step
 
--- whether there is one
-abbrev pub Tells : (ℕ → ℕ → Type 0) → Entry → List Crowd → Bool → Type 0
-Tells Before new crowds true = HasClash Before new crowds
-Tells Before new crowds false = (s : ℕ) (p : Place) (x : ℕ) → Has crowds s p x → Holds new p x → IsSafe Before s new.step
+-- this is the latest such step, None where there is none
+pub record Tells (Before : ℕ → ℕ → Type 0) (new : Entry) (crowds : List Crowd) (latest : Option ℕ) : Type 0 where
+  pub clash : IfSome latest (Clashes Before new crowds)
+  pub rest : (s : ℕ) (p : Place) (x : ℕ) → Has crowds s p x → Holds new p x → IsSafe Before s new.step ⊎ UpTo latest s
 
 -- only bytes of the new entry are lost, and nothing is added
 pub record IsTrimmed (new : Entry) (before after : List Crowd) : Type 0 where

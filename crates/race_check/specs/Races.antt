@@ -1,5 +1,5 @@
 -- Which steps of a run race: two accesses of a byte of which one writes it, and that nothing orders.
-use Rattle.std.specs.Prelude.{◌≡◌, ℕ, ◌<◌, ◌≤◌, ◌⊎◌, List, map, IsTrue, Some, slice_get}
+use Rattle.std.specs.Prelude.{◌≡◌, ℕ, ◌<◌, ◌≤◌, ◌⊎◌, List, map, IsTrue, Option, Some, None, slice_get}
 use Rattle.cell_machine.specs.declared.effect.Place.{Place}
 use Rattle.cell_machine.specs.declared.effect.Span.{Span}
 use Rattle.cell_machine.specs.declared.effect.Effect.{Effect}
@@ -58,6 +58,21 @@ pub record IsLeast (R : ℕ → ℕ → Type 0) (i j : ℕ) : Type 0 where
   pub holds : R i j
   pub least_second : (k n : ℕ) → R k n → j ≤ n
   pub least_first : (k : ℕ) → R k j → i ≤ k
+
+-- of the places that R has in front of j the first
+pub record IsFirst (R : ℕ → ℕ → Type 0) (i j : ℕ) : Type 0 where
+  pub holds : R i j
+  pub first : (k : ℕ) → R k j → i ≤ k
+
+-- and the latest
+pub record IsLatest (R : ℕ → ℕ → Type 0) (i j : ℕ) : Type 0 where
+  pub holds : R i j
+  pub latest : (k : ℕ) → R k j → k ≤ i
+
+-- this is the latest, None where there is none
+abbrev pub TellsLatest : (ℕ → ℕ → Type 0) → ℕ → Option ℕ → Type 0
+TellsLatest R j None = (i : ℕ) → R i j → ⊥
+TellsLatest R j (Some i) = IsLatest R i j
 
 -- accepted where no two steps race, else the least race
 abbrev pub IsVerdictOn : Verdict → Trace → Type 0

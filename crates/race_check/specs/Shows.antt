@@ -1,5 +1,5 @@
 -- What a shadow shows of the steps so far.
-use Rattle.std.specs.Prelude.{◌≡◌, ℕ, ◌+◌, ◌/◌, ◌<◌, ◌⊎◌, Bool, true, false, List, length, Some, slice_get, slice_index, []}
+use Rattle.std.specs.Prelude.{◌≡◌, ℕ, ◌+◌, ◌/◌, ◌<◌, ◌⊎◌, Bool, true, false, List, length, Option, Some, IfSome, slice_get, slice_index, []}
 use Rattle.cell_machine.specs.declared.effect.Place.{Place}
 use Rattle.cell_machine.specs.declared.effect.Span.{Span}
 use Rattle.cell_machine.specs.Sound.{covers}
@@ -7,10 +7,10 @@ use Rattle.race_check.specs.declared.access.Access.{Access}
 use Rattle.race_check.specs.declared.entry.Entry.{Entry}
 use Rattle.race_check.specs.declared.line.Line.{Line}
 use Rattle.race_check.specs.declared.shadow.Shadow.{Shadow}
-use Rattle.race_check.specs.Races.{RaceBy}
+use Rattle.race_check.specs.Races.{RaceBy, TellsLatest}
 use Rattle.race_check.specs.Slots.{slot_of}
 use Rattle.race_check.specs.Entries.{Holds}
-use Rattle.race_check.specs.Crowds.{IsSafe}
+use Rattle.race_check.specs.Crowds.{IsSafe, UpTo}
 use Rattle.race_check.specs.Lines.{InLine}
 
 -- the number of the list that has what is kept of a line of a place
@@ -56,48 +56,32 @@ pub record Shows (Before : ℕ → ℕ → Type 0) (steps : List Access) (shadow
   pub kept : (i : ℕ) (a : Access) (p : Place) (x : ℕ) (w : Bool) → i < j → slice_get steps i ≡ Some a → Touch a p x w → Kept Before shadow i p x w
   pub real : AreReal steps shadow j
 
--- some earlier step races with the step at j
-pub record HasRace (Before : ℕ → ℕ → Type 0) (steps : List Access) (j : ℕ) : Type 0 where
-  pub first : ℕ
-  pub race : RaceBy Before steps first j
-
 -- ---- visits
 
 -- an entry that writes, or only reads, is an access of its step
 abbrev pub IsAccess : List Access → Entry → Bool → Type 0
 IsAccess steps e writes = (p : Place) (x : ℕ) (w : Bool) → Holds e p x → (w ≡ true → writes ≡ true) → IsReal steps e.step p x w
 
--- the entry, whose bytes are in the line, was taken in, and nothing raced with it
-pub record TakesEntry (Before : ℕ → ℕ → Type 0) (before after : Shadow) (entry : Entry) (writes : Bool) (line : ℕ) : Type 0 where
+-- the entry, whose bytes are in the line, was taken in, and this is the latest step that raced with it, None where none did
+pub record TakesEntry (Before : ℕ → ℕ → Type 0) (before after : Shadow) (entry : Entry) (writes : Bool) (line : ℕ) (latest : Option ℕ) : Type 0 where
   pub keeps : KeepsAll Before before after
   pub own : (p : Place) (x : ℕ) → Holds entry p x → x / 128 ≡ line → Kept Before after entry.step p x writes
   pub real : (steps : List Access) → IsAccess steps entry writes → AreReal steps before (entry.step + 1) → AreReal steps after (entry.step + 1)
-  pub clear : (i : ℕ) (p : Place) (x : ℕ) (w : Bool) → Kept Before before i p x w → Holds entry p x → x / 128 ≡ line → (w ≡ true) ⊎ (writes ≡ true) → IsSafe Before i entry.step
-
--- whether something raced with it, of which the shadow may be left in any state
-abbrev pub EntryTells : (ℕ → ℕ → Type 0) → Shadow → Shadow → Entry → Bool → ℕ → Bool → Type 0
-EntryTells Before before after entry writes line true = (steps : List Access) → IsAccess steps entry writes → AreReal steps before (entry.step + 1) → HasRace Before steps entry.step
-EntryTells Before before after entry writes line false = TakesEntry Before before after entry writes line
+  pub clear : (i : ℕ) (p : Place) (x : ℕ) (w : Bool) → Kept Before before i p x w → Holds entry p x → x / 128 ≡ line → (w ≡ true) ⊎ (writes ≡ true) → IsSafe Before i entry.step ⊎ UpTo latest i
+  pub race : IfSome latest (λ i. (steps : List Access) → IsAccess steps entry writes → AreReal steps before (entry.step + 1) → RaceBy Before steps i entry.step)
 
 -- the same of a span
 abbrev pub IsSpanOf : List Access → ℕ → Span → Bool → Type 0
 IsSpanOf steps step span writes = (p : Place) (x : ℕ) (w : Bool) → covers span p x ≡ true → (w ≡ true → writes ≡ true) → IsReal steps step p x w
 
-pub record TakesSpan (Before : ℕ → ℕ → Type 0) (before after : Shadow) (span : Span) (step : ℕ) (writes : Bool) : Type 0 where
+pub record TakesSpan (Before : ℕ → ℕ → Type 0) (before after : Shadow) (span : Span) (step : ℕ) (writes : Bool) (latest : Option ℕ) : Type 0 where
   pub keeps : KeepsAll Before before after
   pub own : (p : Place) (x : ℕ) → covers span p x ≡ true → Kept Before after step p x writes
   pub real : (steps : List Access) → IsSpanOf steps step span writes → AreReal steps before (step + 1) → AreReal steps after (step + 1)
-  pub clear : (i : ℕ) (p : Place) (x : ℕ) (w : Bool) → Kept Before before i p x w → covers span p x ≡ true → (w ≡ true) ⊎ (writes ≡ true) → IsSafe Before i step
-
-abbrev pub SpanTells : (ℕ → ℕ → Type 0) → Shadow → Shadow → Span → ℕ → Bool → Bool → Type 0
-SpanTells Before before after span step writes true = (steps : List Access) → IsSpanOf steps step span writes → AreReal steps before (step + 1) → HasRace Before steps step
-SpanTells Before before after span step writes false = TakesSpan Before before after span step writes
+  pub clear : (i : ℕ) (p : Place) (x : ℕ) (w : Bool) → Kept Before before i p x w → covers span p x ≡ true → (w ≡ true) ⊎ (writes ≡ true) → IsSafe Before i step ⊎ UpTo latest i
+  pub race : IfSome latest (λ i. (steps : List Access) → IsSpanOf steps step span writes → AreReal steps before (step + 1) → RaceBy Before steps i step)
 
 -- and of a whole step of a run, which has this access
-pub record TakesStep (Before : ℕ → ℕ → Type 0) (before after : Shadow) (access : Access) (step : ℕ) : Type 0 where
+pub record TakesStep (Before : ℕ → ℕ → Type 0) (before after : Shadow) (access : Access) (step : ℕ) (latest : Option ℕ) : Type 0 where
   pub shows : (steps : List Access) → slice_get steps step ≡ Some access → Shows Before steps before step → Shows Before steps after (step + 1)
-  pub none : (steps : List Access) → slice_get steps step ≡ Some access → Shows Before steps before step → (i : ℕ) → RaceBy Before steps i step → ⊥
-
-abbrev pub StepTells : (ℕ → ℕ → Type 0) → Shadow → Shadow → Access → ℕ → Bool → Type 0
-StepTells Before before after access step true = (steps : List Access) → slice_get steps step ≡ Some access → Shows Before steps before step → HasRace Before steps step
-StepTells Before before after access step false = TakesStep Before before after access step
+  pub told : (steps : List Access) → slice_get steps step ≡ Some access → Shows Before steps before step → TellsLatest (RaceBy Before steps) step latest

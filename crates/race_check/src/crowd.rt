@@ -7,6 +7,7 @@ ghost use Rattle.race_check.specs.Crowds.{HasStep, IsSafe, IsTaken, Replaces, St
 
 use crate::entry::Entry;
 use crate::error::RaceError;
+use crate::later::later;
 use crate::walk::Walk;
 use std::alloc::Global;
 
@@ -29,17 +30,28 @@ fn is_safe(step: u32, last: u32, walk: &Walk) -> bool
     step == last || step < last && walk.before(step)
 }
 
-/// Whether one of the steps is neither the last one that was made nor ordered before it.
-fn any_unsafe(steps: &[u32], last: u32, walk: &Walk) -> bool
+/// The step, where it is neither the last one that was made nor ordered before it.
+fn if_unsafe(step: u32, last: u32, walk: &Walk) -> Option<u32>
+    requires { IsAt walk.now last }
+    ensures { StepsTell (IsOrdered walk.now.machine) last (λ s. s ≡ step) result }
+{
+    if is_safe(step, last, walk) {
+        None
+    } else {
+        Some(step)
+    }
+}
+
+/// The latest of the steps that is neither the last one that was made nor ordered before it.
+fn latest_unsafe(steps: &[u32], last: u32, walk: &Walk) -> Option<u32>
     requires { IsAt walk.now last }
     ensures { StepsTell (IsOrdered walk.now.machine) last (Contains steps.now) result }
 {
+    let mut latest = None;
     for step in steps {
-        if !is_safe(*step, last, walk) {
-            return true;
-        }
+        latest = later(latest, if_unsafe(*step, last, walk));
     }
-    false
+    latest
 }
 
 /// Puts the last step that was made in the place of one that is ordered before it, and says whether there is one.
@@ -68,15 +80,13 @@ impl Crowd {
         }
     }
 
-    /// Whether one of the steps is neither the last one that was made nor ordered before it.
-    pub fn clashes(&self, last: u32, walk: &Walk) -> bool
+    /// The latest of its steps that is neither the last one that was made nor ordered before it.
+    pub fn latest_unsafe(&self, last: u32, walk: &Walk) -> Option<u32>
         requires { IsAt walk.now last }
         ensures { StepsTell (IsOrdered walk.now.machine) last (HasStep self.now) result }
     {
-        if !is_safe(self.entry.step, last, walk) {
-            return true;
-        }
-        any_unsafe(self.others.as_slice(), last, walk)
+        let own = if_unsafe(self.entry.step, last, walk);
+        later(own, latest_unsafe(self.others.as_slice(), last, walk))
     }
 
     /// Takes the last step that was made into the crowd, in the place of one that is ordered before it where one is found.

@@ -9,28 +9,32 @@ ghost use Rattle.race_check.specs.Crowds.{CrowdTells, IsCutPut, IsJoined, IsPut,
 use crate::crowd::Crowd;
 use crate::entry::{Entry, back, front, has_same_bytes, meet};
 use crate::error::RaceError;
+use crate::later::later;
 use crate::walk::Walk;
 use std::alloc::Global;
 
-/// Whether a step of the crowd has a byte of the new entry, and is neither of its step nor ordered before it.
-fn clashes(crowd: &Crowd, new: &Entry, walk: &Walk) -> bool
+/// The latest step of the crowd that has a byte of the new entry, and is neither its step nor ordered before it.
+fn clash(crowd: &Crowd, new: &Entry, walk: &Walk) -> Option<u32>
     requires { IsAt walk.now new.now.step }
     ensures { CrowdTells (IsOrdered walk.now.machine) new.now crowd.now result }
 {
-    meet(&crowd.entry, new) && crowd.clashes(new.step, walk)
+    if meet(&crowd.entry, new) {
+        crowd.latest_unsafe(new.step, walk)
+    } else {
+        None
+    }
 }
 
-/// Whether the new entry clashes with a crowd of the list.
-pub fn any_clashes(crowds: &[Crowd], new: &Entry, walk: &Walk) -> bool
+/// The latest step of the list with which the new entry clashes.
+pub fn latest_clash(crowds: &[Crowd], new: &Entry, walk: &Walk) -> Option<u32>
     requires { IsAt walk.now new.now.step }
     ensures { Tells (IsOrdered walk.now.machine) new.now crowds.now result }
 {
+    let mut latest = None;
     for crowd in crowds {
-        if clashes(crowd, new, walk) {
-            return true;
-        }
+        latest = later(latest, clash(crowd, new, walk));
     }
-    false
+    latest
 }
 
 /// The place of a crowd that has the entry's bytes.

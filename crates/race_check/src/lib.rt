@@ -10,6 +10,7 @@ mod crowd;
 mod crowds;
 mod entry;
 mod error;
+mod later;
 mod line;
 mod search;
 mod shadow;

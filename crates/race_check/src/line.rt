@@ -2,12 +2,13 @@
 
 ghost use Rattle.std.specs.Prelude.{◌≡◌, [], true, false, IfOk};
 ghost use Rattle.race_check.specs.Walks.{IsOrdered, IsAt};
-ghost use Rattle.race_check.specs.Lines.{VisitTells};
+ghost use Rattle.race_check.specs.Lines.{IsVisited};
 
 use crate::crowd::Crowd;
-use crate::crowds::{any_clashes, join, trim};
+use crate::crowds::{join, latest_clash, trim};
 use crate::entry::Entry;
 use crate::error::RaceError;
+use crate::later::later;
 use crate::walk::Walk;
 use std::alloc::Global;
 
@@ -33,16 +34,16 @@ impl Line {
         }
     }
 
-    /// Takes an entry of the last step into the line, or says that it clashes with an earlier one.
+    /// Takes an entry of the last step into the line, and answers the latest step that it clashes with.
     pub fn visit(
         &mut self,
         alloc: Global,
         new: &Entry,
         writes: bool,
         walk: &Walk,
-    ) -> Result<bool, RaceError>
+    ) -> Result<Option<u32>, RaceError>
         requires { IsAt walk.now new.now.step }
-        ensures { IfOk result (VisitTells (IsOrdered walk.now.machine) new.now writes self.old self.new) }
+        ensures { IfOk result (IsVisited (IsOrdered walk.now.machine) new.now writes self.old self.new) }
     {
         if writes {
             self.write(alloc, new, walk)
@@ -51,32 +52,30 @@ impl Line {
         }
     }
 
-    /// Takes a writing entry into the line, in the place of all that had its bytes.
-    fn write(&mut self, alloc: Global, new: &Entry, walk: &Walk) -> Result<bool, RaceError>
+    /// Takes a writing entry into the line, in the place of all that had its bytes, or beside them where it clashes with one.
+    fn write(&mut self, alloc: Global, new: &Entry, walk: &Walk) -> Result<Option<u32>, RaceError>
         requires { IsAt walk.now new.now.step }
-        ensures { IfOk result (VisitTells (IsOrdered walk.now.machine) new.now true self.old self.new) }
+        ensures { IfOk result (IsVisited (IsOrdered walk.now.machine) new.now true self.old self.new) }
     {
-        if any_clashes(self.writes.as_slice(), new, walk) {
-            return Ok(true);
-        }
-        if any_clashes(self.reads.as_slice(), new, walk) {
-            return Ok(true);
+        let written = latest_clash(self.writes.as_slice(), new, walk);
+        let clash = later(written, latest_clash(self.reads.as_slice(), new, walk));
+        if clash.is_some() {
+            join(alloc, &mut self.writes, new, 0, walk)?;
+            return Ok(clash);
         }
         trim(alloc, &mut self.reads, new)?;
         trim(alloc, &mut self.writes, new)?;
         self.writes.push(Crowd::of(alloc, *new))?;
-        Ok(false)
+        Ok(None)
     }
 
     /// Takes a reading entry into the line.
-    fn read(&mut self, alloc: Global, new: &Entry, walk: &Walk) -> Result<bool, RaceError>
+    fn read(&mut self, alloc: Global, new: &Entry, walk: &Walk) -> Result<Option<u32>, RaceError>
         requires { IsAt walk.now new.now.step }
-        ensures { IfOk result (VisitTells (IsOrdered walk.now.machine) new.now false self.old self.new) }
+        ensures { IfOk result (IsVisited (IsOrdered walk.now.machine) new.now false self.old self.new) }
     {
-        if any_clashes(self.writes.as_slice(), new, walk) {
-            return Ok(true);
-        }
+        let clash = latest_clash(self.writes.as_slice(), new, walk);
         self.near = join(alloc, &mut self.reads, new, self.near, walk)?;
-        Ok(false)
+        Ok(clash)
     }
 }

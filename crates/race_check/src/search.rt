@@ -1,11 +1,10 @@
 //! A run that is searched for races as it is made.
 
-ghost use Rattle.std.specs.Prelude.{◌≡◌, ℕ, ◌<◌, ◌↔◌, [], ◌∷◌, ◌++◌, IsTrue, IfOk, Some, length};
+ghost use Rattle.std.specs.Prelude.{◌≡◌, ℕ, ◌+◌, ◌<◌, ◌↔◌, [], ◌∷◌, ◌++◌, IsTrue, IfOk, OnErr, Some, None, length};
 ghost use Rattle.cell_machine.specs.Effects.{effect_in};
-ghost use Rattle.race_check.specs.Races.{IsVerdict, RaceBy};
-ghost use Rattle.race_check.specs.Shows.{HasRace};
-ghost use Rattle.race_check.specs.Walks.{IsOrdered, IsAt};
-ghost use Rattle.race_check.specs.Searches.{IsClear, run_of};
+ghost use Rattle.race_check.specs.Races.{IsFirst, IsVerdict, RaceBy, TellsLatest};
+ghost use Rattle.race_check.specs.Walks.{IsOrdered, IsAt, RaceIn};
+ghost use Rattle.race_check.specs.Searches.{HasMadeAtMost, IsClear, Keeps, run_of};
 
 use crate::access::{Access, conflicts};
 use crate::check::Verdict;
@@ -30,9 +29,8 @@ fn is_race(accesses: &[Access], i: u32, last: u32, walk: &Walk) -> bool
 fn first_race(accesses: &[Access], last: u32, walk: &Walk) -> u32
     requires inside { last < length accesses.now }
     requires last { IsAt walk.now last }
-    requires some { HasRace (IsOrdered walk.now.machine) accesses.now last }
-    ensures race { RaceBy (IsOrdered walk.now.machine) accesses.now result last }
-    ensures first { (k : ℕ) → k < result → RaceBy (IsOrdered walk.now.machine) accesses.now k last → ⊥ }
+    requires some { (i : ℕ) × RaceBy (IsOrdered walk.now.machine) accesses.now i last }
+    ensures { IsFirst (RaceBy (IsOrdered walk.now.machine) accesses.now) result last }
 {
     for i in 0..last {
         if is_race(accesses, i, last, walk) {
@@ -42,7 +40,7 @@ fn first_race(accesses: &[Access], last: u32, walk: &Walk) -> u32
     unreachable!()
 }
 
-/// A machine whose steps are searched for races as they are made, up to the first that races with an earlier one.
+/// A machine whose steps are searched for races as they are made.
 #[derive(Drop)]
 pub struct Search {
     walk: Walk,
@@ -75,23 +73,52 @@ impl Search {
         &self.walk.machine
     }
 
+    /// Makes the next step, of which the machine tells this effect, and answers the latest step that races with it, None exactly where
+    /// none does. Want of memory is the only refusal: then the run is the old one, or already that with the step.
+    pub fn go_on(&mut self, step: Step, effect: Effect) -> Result<Option<u32>, RaceError>
+        requires keeps { Keeps self.old }
+        requires effect { effect_in (run_of self.old) step ≡ Some effect }
+        ensures run { IfOk result (λ _. run_of self.new ≡ record (run_of self.old) { steps = (run_of self.old).steps ++ step ∷ [] }) }
+        ensures latest { IfOk result (TellsLatest (RaceIn (run_of self.new)) (length (run_of self.old).steps)) }
+        ensures keeps { IfOk result (λ _. Keeps self.new) }
+        ensures clear { IfOk result (λ latest. IsClear self.old → latest ≡ None → IsClear self.new) }
+        ensures failed { OnErr result (HasMadeAtMost (run_of self.old) step (run_of self.new)) }
+    {
+        let last = self.accesses.len() as u32;
+        let access = self.walk.advance(step, effect)?;
+        self.accesses.push(access)?;
+        let latest = self.shadow.visit(&access, last, &self.walk)?;
+        Ok(latest)
+    }
+
+    /// The first step that races with the last one that was made, which is this one, where one does.
+    pub fn first_race(&self, last: u32) -> u32
+        requires keeps { Keeps self.now }
+        requires last { last + 1 ≡ length (run_of self.now).steps }
+        requires some { (i : ℕ) × RaceIn (run_of self.now) i last }
+        ensures { IsFirst (RaceIn (run_of self.now)) result last }
+    {
+        first_race(self.accesses.as_slice(), last, &self.walk)
+    }
+
     /// Makes the next step of a run without a race, of which the machine tells this effect, and answers the verdict on the run with it.
-    /// Only after `Accepted` can the search go on. Want of memory is the only refusal.
+    /// Only after `Accepted` can it be called again, `go_on` always. Want of memory is the only refusal: then the run is the old one, or
+    /// already that with the step.
     pub fn advance(&mut self, step: Step, effect: Effect) -> Result<Verdict, RaceError>
         requires clear { IsClear self.old }
         requires effect { effect_in (run_of self.old) step ≡ Some effect }
         ensures run { IfOk result (λ _. run_of self.new ≡ record (run_of self.old) { steps = (run_of self.old).steps ++ step ∷ [] }) }
         ensures verdict { IfOk result (IsVerdict (run_of self.new)) }
         ensures clear { IfOk result (λ v. v ≡ Verdict.Accepted → IsClear self.new) }
+        ensures keeps { IfOk result (λ _. Keeps self.new) }
+        ensures failed { OnErr result (HasMadeAtMost (run_of self.old) step (run_of self.new)) }
     {
         let last = self.accesses.len() as u32;
-        let access = self.walk.advance(step, effect)?;
-        self.accesses.push(access)?;
-        if !self.shadow.visit(&access, last, &self.walk)? {
+        if self.go_on(step, effect)?.is_none() {
             return Ok(Verdict::Accepted);
         }
         Ok(Verdict::Race {
-            first: first_race(self.accesses.as_slice(), last, &self.walk),
+            first: self.first_race(last),
             second: last,
         })
     }

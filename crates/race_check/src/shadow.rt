@@ -9,6 +9,7 @@ ghost use Rattle.race_check.specs.Slots.{slot_of};
 use crate::access::Access;
 use crate::entry::Entry;
 use crate::error::RaceError;
+use crate::later::later;
 use crate::line::Line;
 use crate::walk::Walk;
 use cell_machine::{Place, Span};
@@ -62,7 +63,7 @@ pub struct Shadow {
 
 impl Shadow {
     ghost use Rattle.race_check.specs.Walks.{IsOrdered, IsAt};
-    ghost use Rattle.race_check.specs.Shows.{EntryTells, IsLengthened, SpanTells, StepTells, list_of};
+    ghost use Rattle.race_check.specs.Shows.{IsLengthened, TakesEntry, TakesSpan, TakesStep, list_of};
 
     /// The shadow of no step, of so many processors, with main memory of `memory` lines: a slot for each line, and one more.
     pub fn new(alloc: Global, spes: u8, memory: u32) -> Result<Shadow, RaceError>
@@ -95,60 +96,60 @@ impl Shadow {
         Ok(number)
     }
 
-    /// Takes the entry, whose bytes are in the line, into its list, or says that something races with it.
+    /// Takes the entry, whose bytes are in the line, into its list, and answers the latest step that races with it.
     fn visit_line(
         &mut self,
         entry: &Entry,
         writes: bool,
         line: u64,
         walk: &Walk,
-    ) -> Result<bool, RaceError>
+    ) -> Result<Option<u32>, RaceError>
         requires line { line < 2 ^ 40 }
         requires last { IsAt walk.now entry.now.step }
-        ensures { IfOk result (EntryTells (IsOrdered walk.now.machine) self.old self.new entry.now writes line) }
+        ensures { IfOk result (TakesEntry (IsOrdered walk.now.machine) self.old self.new entry.now writes line) }
     {
         let number = self.list(entry.place, line)?;
         let alloc = self.alloc;
-        let races = self.lists[number].visit(alloc, entry, writes, walk)?;
-        Ok(races)
+        let latest = self.lists[number].visit(alloc, entry, writes, walk)?;
+        Ok(latest)
     }
 
-    /// Takes the bytes of the span, which the step at `step` reads or writes, into the lists, or says that something races with them.
+    /// Takes the bytes of the span, which the step at `step` reads or writes, into the lists, and answers
+    /// the latest step that races with them.
     fn visit_span(
         &mut self,
         span: &Span,
         writes: bool,
         step: u32,
         walk: &Walk,
-    ) -> Result<bool, RaceError>
+    ) -> Result<Option<u32>, RaceError>
         requires { IsAt walk.now step }
-        ensures { IfOk result (SpanTells (IsOrdered walk.now.machine) self.old self.new span.now step writes) }
+        ensures { IfOk result (TakesSpan (IsOrdered walk.now.machine) self.old self.new span.now step writes) }
     {
         // a span of no byte is at 0, and so in no line
         let first = u64::from(span.at) / 128;
         let end = (u64::from(span.at) + u64::from(span.len) + 127) / 128;
+        let mut latest = None;
         for line in first..end {
             let entry = clip(span, line, step);
-            if self.visit_line(&entry, writes, line, walk)? {
-                return Ok(true);
-            }
+            latest = later(latest, self.visit_line(&entry, writes, line, walk)?);
         }
-        Ok(false)
+        Ok(latest)
     }
 
-    /// Takes what the step at `step` fetches, reads and writes into the shadow, or says that an earlier step races with it.
-    /// Then it is only dropped.
-    pub fn visit(&mut self, access: &Access, step: u32, walk: &Walk) -> Result<bool, RaceError>
+    /// Takes what the step at `step` fetches, reads and writes into the shadow, and answers the latest step that races with it.
+    pub fn visit(
+        &mut self,
+        access: &Access,
+        step: u32,
+        walk: &Walk,
+    ) -> Result<Option<u32>, RaceError>
         requires { IsAt walk.now step }
-        ensures { IfOk result (StepTells (IsOrdered walk.now.machine) self.old self.new access.now step) }
+        ensures { IfOk result (TakesStep (IsOrdered walk.now.machine) self.old self.new access.now step) }
     {
-        if self.visit_span(&access.fetch, false, step, walk)? {
-            return Ok(true);
-        }
-        if self.visit_span(&access.reads, false, step, walk)? {
-            return Ok(true);
-        }
-        let races = self.visit_span(&access.writes, true, step, walk)?;
-        Ok(races)
+        let fetched = self.visit_span(&access.fetch, false, step, walk)?;
+        let read = self.visit_span(&access.reads, false, step, walk)?;
+        let written = self.visit_span(&access.writes, true, step, walk)?;
+        Ok(later(later(fetched, read), written))
     }
 }

@@ -1,6 +1,6 @@
 //! A run as it is made, with the order of its steps.
 
-ghost use Rattle.std.specs.Prelude.{◌≡◌, ◌+◌, ◌-◌, ◌<◌, ◌↔◌, [], ◌∷◌, ◌++◌, length, IfOk, IsTrue, Some};
+ghost use Rattle.std.specs.Prelude.{◌≡◌, ◌+◌, ◌-◌, ◌<◌, ◌↔◌, [], ◌∷◌, ◌++◌, length, IfOk, OnErr, IsTrue, Some};
 ghost use Rattle.cell_machine.specs.Effects.{effect_in};
 ghost use Rattle.cell_machine.specs.Run.{Ran};
 ghost use Rattle.race_check.specs.Walks.{IsOrdered, Stands, accesses_in};
@@ -40,6 +40,7 @@ impl Walk {
         requires effect { effect_in m step ≡ Some effect }
         ensures stands { IfOk result (λ _. Stands self.new) }
         ensures made { IfOk result (λ _. self.new.machine ≡ record m { steps = m.steps ++ step ∷ [] }) }
+        ensures failed { OnErr result (self.new.machine ≡ m) }
         ensures access { IfOk result (λ access. accesses_in self.new.machine ≡ accesses_in m ++ access ∷ []) }
     {
         self.orderer.advance(step, effect)?;
