@@ -6,7 +6,8 @@ mod Making
 mod Places
 mod Counted
 mod Taking
-mod Inside
 mod Same
-mod Tellings
-mod Origins
+mod Grown
+mod Kept
+mod Knowing
+mod AllRaces

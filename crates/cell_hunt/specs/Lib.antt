@@ -11,5 +11,6 @@ pub mod Outcomes
 pub mod Hunts
 pub mod Takes
 pub mod Sites
-pub mod Sought
-pub mod Tellings
+pub mod Origins
+pub mod Racings
+pub mod SoFar

@@ -1,15 +1,19 @@
-use Rattle.std.proofs.Common.{rules, subst}
-use Rattle.race_check.specs.Searches.{run_of}
-use Rattle.cell_hunt.specs.Goings.{Goes}
+use Rattle.std.proofs.Common.{rules, sym, subst}
+use Rattle.cell_hunt.specs.Racings.{IsSearched}
+use Rattle.cell_hunt.specs.SoFar.{made_by}
+use Rattle.race_check.proofs.Accepted.{search-told}
+use Rattle.cell_hunt.proofs.AllRaces.{all-races, least-race}
 use Rattle.cell_hunt.proofs.Determined.{run-one}
-use Rattle.cell_hunt.proofs.Tellings.{searched}
 use Rattle.cell_hunt.proofs.running.run_of_seed.Goals as goal
 
 pub invariant_of-result : goal.invariant_of-result
 invariant_of-result c =
-    let searched_to = c.in_ok-verdict.ensures in
-    searched (run_of c.search_on.new.search) c.go_on.new.machine c.search_on.new.chooser c.in_ok-verdict.verdict c.search_on.new.tellings.items
-    (subst (λ m. Goes c.search_on.new.chooser m c.go_on.new.machine) c.into_machine-machine.ensures c.go_on.ensures.goes) c.go_on.ensures.over searched_to.long searched_to.tellings searched_to.verdict searched_to.over
+    let so_far = c.make_all.new.so_far in
+    let m = made_by so_far in
+    let searched = c.in_ok-make_all.ensures.searched in
+    let is = search-told so_far.search searched.keeps in
+    subst (λ r. IsSearched r so_far.least so_far.races.items) (sym c.into_machine.ensures)
+    record { over = c.in_ok-make_all.ensures.over; is_least = least-race m is so_far.least searched.least; are_all = all-races m is so_far.races.items searched.all }
 
 pub returns-clause-only : goal.returns-clause-only
 returns-clause-only c = λ n is. run-one _ _ _ n _ is (search rules)

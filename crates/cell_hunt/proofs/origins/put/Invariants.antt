@@ -1,0 +1,9 @@
+use Rattle.std.proofs.Common.{◌≡◌, ℕ, ◌+◌, ◌-◌, length}
+use Rattle.std.specs.Prelude.{slice_index}
+use Rattle.cell_hunt.proofs.origins.put.Given as goal
+
+abbrev pub invariant-loop-numbers : goal.invariant-loop-numbers
+invariant-loop-numbers l = (k : ℕ) → slice_index l.numbers.items k ≡ slice_index l.initial.numbers.items k
+
+abbrev pub decreases-loop-numbers : goal.decreases-loop-numbers
+decreases-loop-numbers l = l.place + 1 - length l.numbers.items

@@ -1,0 +1,48 @@
+use Rattle.std.proofs.Common.{◌≡◌, length, None, sym, ap, ◌∙◌, subst}
+use Rattle.cell_machine.specs.Run.{Ran}
+use Rattle.race_check.specs.Races.{TellsLatest}
+use Rattle.race_check.specs.Searches.{run_of}
+use Rattle.race_check.specs.Walks.{RaceIn}
+use Rattle.race_check.proofs.Accepted.{search-told}
+use Rattle.cell_hunt.specs.declared.so_far.SoFar.{SoFar}
+use Rattle.cell_hunt.specs.Origins.{Knows}
+use Rattle.cell_hunt.specs.Runs.{with_step}
+use Rattle.cell_hunt.specs.SoFar.{AreRacesTo, IsLeastTo, IsSearchedTo, made_by}
+use Rattle.cell_hunt.proofs.AllRaces.{least-none, least-on, races-none, races-on}
+use Rattle.cell_hunt.proofs.so_far.SoFar.advance.Goals as goal
+use Rattle.cell_hunt.proofs.so_far.SoFar.advance.Goals.{In_ok-latest}
+
+-- after the step, before its races are taken in
+abbrev after : In_ok-latest → SoFar
+after c = record c.args.self.now { search = c.go_on.new.self; origins = c.add.new.self }
+
+searched : (c : In_ok-latest) → IsSearchedTo c.args.place (after c)
+searched c =
+    let old = c.args.self.now in
+    let m = made_by old in
+    let n = run_of c.go_on.new.self in
+    let was = search-told old.search c.requires.searched.keeps in
+    let is = search-told c.go_on.new.self c.in_ok-latest.ensures.keeps in
+    let made : n ≡ with_step m c.args.step = c.in_ok-latest.ensures.run in
+    record {
+      keeps = c.in_ok-latest.ensures.keeps;
+      knows = subst (λ r. Knows r c.add.new.self) (ap (λ (r : Ran). with_step r c.args.step) c.machine.ensures ∙ sym made) c.in_ok-effect.ensures.knows;
+      least = subst (λ k. IsLeastTo k n old.least) c.requires.place (least-on m n c.args.step made was is old.least (subst (λ k. IsLeastTo k m old.least) (sym c.requires.place) c.requires.searched.least));
+      all = subst (λ k. AreRacesTo k n old.races.items) c.requires.place (races-on m n c.args.step made was is old.races.items (subst (λ k. AreRacesTo k m old.races.items) (sym c.requires.place) c.requires.searched.all));
+    }
+
+pub returns-in_default-clause-searched : goal.returns-in_default-clause-searched
+returns-in_default-clause-searched c =
+    let v = (goal.at.returns-in_default-clause-searched c).In_ok-latest in
+    let so_far = searched v in
+    let n = run_of c.go_on.new.self in
+    let none = subst (λ k. TellsLatest (RaceIn n) k None) c.requires.place (subst (TellsLatest (RaceIn n) (length (made_by c.args.self.now).steps)) c.in_default.is c.in_ok-latest.ensures.latest) in
+    record {
+      keeps = so_far.keeps;
+      knows = so_far.knows;
+      least = least-none n c.args.place none c.args.self.now.least so_far.least;
+      all = races-none n c.args.place none c.args.self.now.races.items so_far.all;
+    }
+
+pub add_race-requires-clause-searched : goal.add_race-requires-clause-searched
+add_race-requires-clause-searched c = searched (goal.at.add_race-requires-clause-searched c).In_ok-latest

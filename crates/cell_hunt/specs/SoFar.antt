@@ -1,0 +1,34 @@
+-- What is kept of a run as it is made.
+use Rattle.std.specs.Prelude.{ℕ, ◌<◌, List, Option, Some, None, All}
+use Rattle.std.specs.List.{AllPairs}
+use Rattle.cell_machine.specs.Run.{Ran}
+use Rattle.race_check.specs.Races.{IsLeast}
+use Rattle.race_check.specs.Searches.{Keeps, run_of}
+use Rattle.race_check.specs.Walks.{RaceIn}
+use Rattle.cell_hunt.specs.declared.so_far.SoFar.{SoFar}
+use Rattle.cell_hunt.specs.declared.racing.Racing.{Racing}
+use Rattle.cell_hunt.specs.Origins.{Knows}
+use Rattle.cell_hunt.specs.Racings.{HasSecond, IsRacing}
+use Rattle.cell_hunt.specs.Sites.{AreSites}
+
+abbrev pub made_by : SoFar → Ran
+made_by so_far = run_of so_far.search
+
+-- no step among the first n races with an earlier one, or this is the least race
+abbrev pub IsLeastTo : ℕ → Ran → Option Racing → Type 0
+IsLeastTo n m None = (i j : ℕ) → j < n → RaceIn m i j → ⊥
+IsLeastTo n m (Some r) = IsLeast (RaceIn m) r.first r.second × AreSites m r.first r.second r.sites
+
+-- an entry for each of the first n steps that races with an earlier one, in their order
+pub record AreRacesTo (n : ℕ) (m : Ran) (races : List Racing) : Type 0 where
+  pub each : All (IsRacing m) races
+  pub below : All (λ r. r.second < n) races
+  pub all : (i j : ℕ) → j < n → RaceIn m i j → HasSecond races j
+  pub ascend : AllPairs (λ a b. a.second < b.second) races
+
+-- the search can go on, and what is kept tells where the steps so far come from, and the races of the first n
+pub record IsSearchedTo (n : ℕ) (so_far : SoFar) : Type 0 where
+  pub keeps : Keeps so_far.search
+  pub knows : Knows (made_by so_far) so_far.origins
+  pub least : IsLeastTo n (made_by so_far) so_far.least
+  pub all : AreRacesTo n (made_by so_far) so_far.races.items

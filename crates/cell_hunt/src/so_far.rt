@@ -1,0 +1,98 @@
+//! A run of a seed as it is made.
+
+ghost use Rattle.std.specs.Prelude.{◌≡◌, ℕ, ◌+◌, ◌^◌, ◌<◌, [], length, IfOk, IsSome, OnOk};
+ghost use Rattle.cell_machine.specs.Run.{next_of};
+ghost use Rattle.race_check.specs.Races.{IsLatest};
+ghost use Rattle.race_check.specs.Walks.{RaceIn};
+ghost use Rattle.cell_hunt.specs.Runs.{with_step};
+
+use crate::error::HuntError;
+use crate::origins::Origins;
+use crate::racing::Racing;
+use cell_base::Step;
+use cell_machine::Setup;
+use race_check::Search;
+use std::alloc::Global;
+
+/// A run as it is made, and what is known of it so far.
+#[derive(Drop)]
+pub struct SoFar {
+    pub search: Search,
+    pub origins: Origins,
+    pub least: Option<Racing>,
+    pub races: Vec<Racing>,
+}
+
+impl SoFar {
+    ghost use Rattle.cell_hunt.specs.SoFar.{IsLeastTo, IsSearchedTo, made_by};
+
+    /// Before the first step of a run.
+    pub fn new(alloc: Global, setup: &Setup) -> Result<SoFar, HuntError>
+        requires { 0 < length setup.now.entries }
+        ensures run { IfOk result (λ so_far. made_by so_far ≡ record { setup = setup.now; steps = [] }) }
+        ensures searched { IfOk result (IsSearchedTo 0) }
+    {
+        let search = Search::new(alloc, setup, 0)?;
+        Ok(SoFar {
+            search,
+            origins: Origins::new(alloc),
+            least: None,
+            races: Vec::new(alloc),
+        })
+    }
+
+    /// Makes sure that the least race is known, where the last step, which is at `second`, races with an earlier one.
+    fn add_least(&mut self, second: u32)
+        requires searched { IsSearchedTo second self.old }
+        requires last { second + 1 ≡ length (made_by self.old).steps }
+        requires some { (i : ℕ) × RaceIn (made_by self.old) i second }
+        ensures rest { self.new ≡ record self.old { least = self.new.least } }
+        ensures least { IsLeastTo (second + 1) (made_by self.new) self.new.least }
+    {
+        if self.least.is_some() {
+            return;
+        }
+        let first = self.search.first_race(second);
+        let sites = self.origins.sites(self.search.machine(), first, second);
+        self.least = Some(Racing {
+            first,
+            second,
+            sites,
+        });
+    }
+
+    /// Takes in that the last step, which is at `second`, races with earlier ones, of which `latest` is the latest.
+    fn add_race(&mut self, latest: u32, second: u32) -> Result<(), HuntError>
+        requires searched { IsSearchedTo second self.old }
+        requires last { second + 1 ≡ length (made_by self.old).steps }
+        requires latest { IsLatest (RaceIn (made_by self.old)) latest second }
+        ensures run { OnOk result (made_by self.new ≡ made_by self.old) }
+        ensures searched { OnOk result (IsSearchedTo (second + 1) self.new) }
+    {
+        self.add_least(second);
+        let sites = self.origins.sites(self.search.machine(), latest, second);
+        self.races.push(Racing {
+            first: latest,
+            second,
+            sites,
+        })?;
+        Ok(())
+    }
+
+    /// Makes the next step of the run, which is the one at this place.
+    pub fn advance(&mut self, step: Step, place: u32) -> Result<(), HuntError>
+        requires allowed { IsSome (next_of (made_by self.old) step) }
+        requires searched { IsSearchedTo place self.old }
+        requires place { length (made_by self.old).steps ≡ place }
+        requires few { place + 1 < 2 ^ 32 }
+        ensures run { OnOk result (made_by self.new ≡ with_step (made_by self.old) step) }
+        ensures searched { OnOk result (IsSearchedTo (place + 1) self.new) }
+    {
+        let effect = self.origins.add(self.search.machine(), step, place)?;
+        let Some(latest) = self.search.go_on(step, effect)? else {
+            return Ok(());
+        };
+        self.add_race(latest, place)?;
+        Ok(())
+    }
+}
