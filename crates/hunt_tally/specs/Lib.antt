@@ -1,0 +1,4 @@
+pub mod Tallies
+pub mod Takes
+pub mod Views
+pub mod Lines
