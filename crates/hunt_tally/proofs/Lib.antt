@@ -1,3 +1,4 @@
 pub mod Entries
 pub mod Taking
 pub mod Told
+pub mod Hunting

@@ -125,16 +125,16 @@ all_push : (runs : List (List Tells)) (run : List Tells) → all_of (runs ++ run
 all_push [] run = append-nil run
 all_push (r ∷ rs) run = ap (λ xs. r ++ xs) (all_push rs run) ∙ sym (append_assoc r (all_of rs) run)
 
-none_counted : (test : List Tells → Bool) (runs : List (List Tells)) → list_any test runs ≡ false → (count_by test runs ≡ 0) × (position_or_len test runs ≡ length runs)
-none_counted test [] none = (refl, refl)
-none_counted test (r ∷ rs) none = by (test r) refl (none_counted test rs)
+pub none_counted : {X : Type 0} (test : X → Bool) (runs : List X) → list_any test runs ≡ false → (count_by test runs ≡ 0) × (position_or_len test runs ≡ length runs)
+none_counted {X} test [] none = (refl, refl)
+none_counted {X} test (r ∷ rs) none = by (test r) refl (none_counted test rs)
   where
     by : (b : Bool) → test r ≡ b → (list_any test rs ≡ false → (count_by test rs ≡ 0) × (position_or_len test rs ≡ length rs)) → (count_by test (r ∷ rs) ≡ 0) × (position_or_len test (r ∷ rs) ≡ length (r ∷ rs))
     by true e rest = absurd (true≢false (sym (ap (λ s. s || list_any test rs) e) ∙ none))
     by false e rest = let left = rest (sym (ap (λ s. s || list_any test rs) e) ∙ none) in
-        (sum_by-cons (λ (x : List Tells). cond (test x) 1 0) r rs ∙ ap (λ b. cond b 1 0 + count_by test rs) e ∙ omega (arith, left.0), rw e (let more : 1 + position_or_len test rs ≡ suc (length rs) = omega (arith, left.1) in more))
+        (sum_by-cons (λ (x : X). cond (test x) 1 0) r rs ∙ ap (λ b. cond b 1 0 + count_by test rs) e ∙ omega (arith, left.0), rw e (let more : 1 + position_or_len test rs ≡ suc (length rs) = omega (arith, left.1) in more))
 
-first_within : (test : List Tells → Bool) (runs : List (List Tells)) → list_any test runs ≡ true → position_or_len test runs < length runs
+pub first_within : {X : Type 0} (test : X → Bool) (runs : List X) → list_any test runs ≡ true → position_or_len test runs < length runs
 first_within test [] some = absurd (true≢false (sym some))
 first_within test (r ∷ rs) some = by (test r) refl (first_within test rs)
   where

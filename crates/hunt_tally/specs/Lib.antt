@@ -2,3 +2,6 @@ pub mod Tallies
 pub mod Takes
 pub mod Views
 pub mod Lines
+pub mod Counting
+pub mod Reports
+pub mod Bounds

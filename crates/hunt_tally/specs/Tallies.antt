@@ -1,5 +1,5 @@
 -- The different texts that runs tell, each with how many runs tell it and the first of these.
-use Rattle.std.specs.Prelude.{ℕ, suc, Bool, List, [], ◌∷◌, map, length, if◌then◌else◌}
+use Rattle.std.specs.Prelude.{◌≡◌, ℕ, suc, Bool, List, [], ◌∷◌, ◌++◌, map, length, if◌then◌else◌}
 use Rattle.std.specs.List.{list_any, count_by, position_or_len, flat_map}
 use Rattle.std.specs.Str.{bytes_eq}
 
@@ -68,3 +68,7 @@ tallied runs = record { runs = length runs; entries = entries_of runs }
 -- what it tells
 abbrev pub told_in : Tallied → List Told
 told_in tally = map (λ e. e.told) tally.entries
+
+-- one run more is taken in, which tells this
+abbrev pub Took : List Tells → Tallied → Tallied → Type 0
+Took tellings old new = (runs : List (List Tells)) → old ≡ tallied runs → new ≡ tallied (runs ++ tellings ∷ [])

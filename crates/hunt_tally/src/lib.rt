@@ -1,9 +1,19 @@
-//! The different texts that runs tell: each with how many runs tell it, and the first of these.
+//! What many runs tell together: the different texts that they tell, each with how many runs tell it and the first of these, and what went
+//! wrong in how many of them.
 #![tactic(auto)]
 
+mod count;
 mod counted;
+mod flaws;
+mod hunted;
+mod report;
 mod tally;
 mod telling;
+mod tellings;
 
+pub use count::Count;
+pub use flaws::{FlawCounts, Flaws};
+pub use hunted::Hunted;
+pub use report::Report;
 pub use tally::{Line, Tally};
 pub use telling::Telling;

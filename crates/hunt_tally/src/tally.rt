@@ -3,7 +3,7 @@
 ghost use Rattle.std.specs.Prelude.{◌≡◌, ℕ, ◌+◌, ◌^◌, ◌<◌, ◌≤◌, List, [], ◌∷◌, ◌++◌, take, length, OnOk, OnErr, Some, slice_get};
 ghost use Rattle.std.specs.List.{position};
 ghost use Rattle.std.specs.Str.{bytes_eq};
-ghost use Rattle.hunt_tally.specs.Tallies.{Tells, Told, Entry, entries_of, tallied, told_in};
+ghost use Rattle.hunt_tally.specs.Tallies.{Tells, Told, Entry, Took, entries_of, tallied, told_in};
 ghost use Rattle.hunt_tally.specs.Takes.{took};
 ghost use Rattle.hunt_tally.specs.Views.{entries_in};
 ghost use Rattle.hunt_tally.specs.Lines.{told_by};
@@ -95,7 +95,8 @@ impl Tally {
     /// Takes in what the next run tells. Where there is no memory for all, the first tellings of the run are taken in.
     pub fn take(&mut self, tellings: Vec<Telling>) -> Result<(), AllocError>
         requires { self.old.runs + 2 < 2 ^ 32 }
-        ensures taken { OnOk result ((runs : List (List Tells)) → self.old ≡ tallied runs → self.new ≡ tallied (runs ++ tellings.items ∷ [])) }
+        ensures runs { self.new.runs ≡ self.old.runs + 1 }
+        ensures taken { OnOk result (Took tellings.items self.old self.new) }
         ensures part { OnErr result ((n : ℕ) × ((runs : List (List Tells)) → self.old ≡ tallied runs → self.new ≡ tallied (runs ++ take n tellings.items ∷ []))) }
     {
         let run = self.runs;

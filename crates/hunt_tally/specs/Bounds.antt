@@ -1,0 +1,21 @@
+-- The counts are those of runs that were taken in.
+use Rattle.std.specs.Prelude.{ℕ, ◌≤◌}
+use Rattle.hunt_tally.specs.declared.flaws.FlawCounts.{FlawCounts}
+use Rattle.hunt_tally.specs.Reports.{Sums}
+
+pub record AreWithin (runs : ℕ) (c : FlawCounts) : Type 0 where
+  pub race : c.race.runs ≤ runs
+  pub stuck : c.stuck.runs ≤ runs
+  pub budget : c.budget.runs ≤ runs
+  pub fault : c.fault.runs ≤ runs
+  pub halt : c.halt.runs ≤ runs
+  pub missed : c.missed.runs ≤ runs
+
+pub record IsWithin (s : Sums) : Type 0 where
+  pub all_stopped : s.all_stopped ≤ s.runs
+  pub left_out : s.left_out ≤ s.runs
+  pub flaws : AreWithin s.runs s.flaws
+  pub endings : s.endings.runs ≤ s.runs
+  pub results : s.results.runs ≤ s.runs
+  pub races : s.races.runs ≤ s.runs
+  pub missed : s.missed.runs ≤ s.runs

@@ -1,0 +1,85 @@
+-- What one run tells, and what runs tell together.
+use Rattle.std.specs.Prelude.{ℕ, ◌+◌, Bool, not, ◌||◌, nat_lt, List, [], ◌∷◌, ◌++◌, map, length, drop}
+use Rattle.std.specs.List.{count_by}
+use Rattle.cell_base.specs.Records.{line_feed}
+use Rattle.hunt_tally.specs.declared.flaws.Flaws.{Flaws}
+use Rattle.hunt_tally.specs.declared.flaws.FlawCounts.{FlawCounts}
+use Rattle.hunt_tally.specs.Tallies.{Tells, Told, Tallied, tallied}
+use Rattle.hunt_tally.specs.Counting.{count_of}
+
+-- what one run tells
+pub record Reported : Type 0 where
+  pub flaws : Flaws
+  pub ending : List ℕ
+  pub result : List ℕ
+  pub races : List Tells
+  pub missed : List (List ℕ)
+  pub leaves_out : Bool
+
+-- whether something went wrong in it
+abbrev pub is_flawed : Reported → Bool
+is_flawed r = r.flaws.race || r.flaws.stuck || r.flaws.budget || r.flaws.fault || r.flaws.halt || r.flaws.missed
+
+-- whether all its processors stopped
+abbrev pub all_stopped : Reported → Bool
+all_stopped r = not (r.flaws.stuck || r.flaws.budget)
+
+-- ---- its tellings
+
+abbrev pub ending_told : Reported → List Tells
+ending_told r = record { key = r.ending; shown = [] } ∷ []
+
+-- a result is one within its ending, and shown by it
+abbrev pub result_told : Reported → List Tells
+result_told r = record { key = r.ending ++ line_feed ++ r.result; shown = r.ending } ∷ []
+
+-- the result of such a telling
+abbrev pub result_in : Told → List ℕ
+result_in t = drop (length t.shown + 1) t.key
+
+abbrev pub line_told : List ℕ → Tells
+line_told line = record { key = line; shown = [] }
+
+abbrev pub missed_told : Reported → List Tells
+missed_told r = map line_told r.missed
+
+-- ---- of all runs
+
+-- how many runs have each flaw, and the first of them
+unfoldable pub flaws_of : List Reported → FlawCounts
+flaws_of reports = record {
+  race = count_of (λ (r : Reported). r.flaws.race) reports;
+  stuck = count_of (λ (r : Reported). r.flaws.stuck) reports;
+  budget = count_of (λ (r : Reported). r.flaws.budget) reports;
+  fault = count_of (λ (r : Reported). r.flaws.fault) reports;
+  halt = count_of (λ (r : Reported). r.flaws.halt) reports;
+  missed = count_of (λ (r : Reported). r.flaws.missed) reports;
+}
+
+-- what runs tell together
+pub record Sums : Type 0 where
+  pub runs : ℕ
+  pub all_stopped : ℕ
+  pub left_out : ℕ
+  pub flaws : FlawCounts
+  pub endings : Tallied
+  pub results : Tallied
+  pub races : Tallied
+  pub missed : Tallied
+
+-- what the runs of these reports tell together
+unfoldable pub hunted : List Reported → Sums
+hunted reports = record {
+  runs = length reports;
+  all_stopped = count_by all_stopped reports;
+  left_out = count_by (λ (r : Reported). r.leaves_out) reports;
+  flaws = flaws_of reports;
+  endings = tallied (map ending_told reports);
+  results = tallied (map result_told reports);
+  races = tallied (map (λ (r : Reported). r.races) reports);
+  missed = tallied (map missed_told reports);
+}
+
+-- whether a flaw was counted
+abbrev pub has_flaw : FlawCounts → Bool
+has_flaw c = nat_lt 0 c.race.runs || nat_lt 0 c.stuck.runs || nat_lt 0 c.budget.runs || nat_lt 0 c.fault.runs || nat_lt 0 c.halt.runs || nat_lt 0 c.missed.runs

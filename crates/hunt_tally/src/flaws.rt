@@ -1,0 +1,94 @@
+//! What goes wrong in runs.
+
+ghost use Rattle.std.specs.Prelude.{◌≡◌, ◌+◌, ◌^◌, ◌<◌, not, ◌||◌, []};
+ghost use Rattle.hunt_tally.specs.Counting.{noted};
+ghost use Rattle.hunt_tally.specs.Bounds.{AreWithin};
+ghost use Rattle.hunt_tally.specs.Reports.{has_flaw, flaws_of};
+
+use crate::count::Count;
+
+/// What went wrong in a run.
+#[derive(Clone, Copy)]
+pub struct Flaws {
+    /// It has a race that wasn't passed.
+    pub race: bool,
+    /// It is stuck.
+    pub stuck: bool,
+    /// It spent its budget.
+    pub budget: bool,
+    /// A processor has a fault.
+    pub fault: bool,
+    /// A processor halted.
+    pub halt: bool,
+    /// An expected line isn't there.
+    pub missed: bool,
+}
+
+impl Flaws {
+    /// Whether all processors stopped.
+    pub fn all_stopped(&self) -> bool
+        ensures { result ≡ not (self.now.stuck || self.now.budget) }
+    {
+        !self.stuck && !self.budget
+    }
+}
+
+/// How many runs have each flaw, and the first of them.
+#[derive(Clone, Copy)]
+pub struct FlawCounts {
+    pub race: Count,
+    pub stuck: Count,
+    pub budget: Count,
+    pub fault: Count,
+    pub halt: Count,
+    pub missed: Count,
+}
+
+impl FlawCounts {
+    /// Before the first run.
+    pub fn new() -> FlawCounts
+        ensures counts { result ≡ flaws_of [] }
+        ensures within { AreWithin 0 result }
+    {
+        FlawCounts {
+            race: Count::new(),
+            stuck: Count::new(),
+            budget: Count::new(),
+            fault: Count::new(),
+            halt: Count::new(),
+            missed: Count::new(),
+        }
+    }
+
+    /// Takes in what went wrong in the next run.
+    pub fn note(&mut self, run: u32, flaws: Flaws)
+        requires room { run + 1 < 2 ^ 32 }
+        requires within { AreWithin run self.old }
+        ensures race { self.new.race ≡ noted run flaws.race self.old.race }
+        ensures stuck { self.new.stuck ≡ noted run flaws.stuck self.old.stuck }
+        ensures budget { self.new.budget ≡ noted run flaws.budget self.old.budget }
+        ensures fault { self.new.fault ≡ noted run flaws.fault self.old.fault }
+        ensures halt { self.new.halt ≡ noted run flaws.halt self.old.halt }
+        ensures missed { self.new.missed ≡ noted run flaws.missed self.old.missed }
+        ensures within { AreWithin (run + 1) self.new }
+    {
+        self.race.note(run, flaws.race);
+        self.stuck.note(run, flaws.stuck);
+        self.budget.note(run, flaws.budget);
+        self.fault.note(run, flaws.fault);
+        self.halt.note(run, flaws.halt);
+        self.missed.note(run, flaws.missed);
+    }
+
+    /// Whether a run has one.
+    pub fn is_some(&self) -> bool
+        ensures { result ≡ has_flaw self.now }
+    {
+        self.race.runs > 0
+            || self.stuck.runs > 0
+            || self.budget.runs > 0
+            || self.fault.runs > 0
+            || self.halt.runs > 0
+            || self.missed.runs > 0
+    }
+}

@@ -1,0 +1,180 @@
+//! What the runs of a hunt tell together.
+
+ghost use Rattle.std.specs.Prelude.{◌≡◌, ◌+◌, ◌^◌, ◌<◌, ◌≤◌, if◌then◌else◌, map, List, [], ◌∷◌, ◌++◌, OnOk};
+ghost use Rattle.std.specs.List.{list_any};
+ghost use Rattle.cell_base.specs.Records.{line_feed};
+ghost use Rattle.hunt_tally.specs.Tallies.{Took};
+ghost use Rattle.hunt_tally.specs.Reports.{Reported, is_flawed, line_told, hunted};
+
+use crate::flaws::FlawCounts;
+use crate::report::Report;
+use crate::tally::Tally;
+use crate::tellings::{ending_told, missed_told, result_told};
+use std::alloc::{AllocError, Global};
+use std::marker::Model;
+
+/// What runs tell together.
+#[derive(Drop)]
+pub struct Hunted {
+    /// How many were taken in, how many ended with all processors stopped, and of how many a race was left out.
+    runs: u32,
+    all_stopped: u32,
+    left_out: u32,
+    flaws: FlawCounts,
+    /// The different endings, results within an ending, races, and expected lines that aren't there.
+    endings: Tally,
+    results: Tally,
+    races: Tally,
+    missed: Tally,
+}
+
+impl Model for Hunted {
+    ghost use Rattle.hunt_tally.specs.Reports.{Sums};
+    ghost use Rattle.hunt_tally.specs.Bounds.{IsWithin};
+
+    ghost Value = { Sums };
+
+    ghost view = { λ h. record { runs = h.runs; all_stopped = h.all_stopped; left_out = h.left_out; flaws = h.flaws; endings = h.endings; results = h.results; races = h.races; missed = h.missed } };
+
+    ghost invariant = { λ h. IsWithin (record { runs = h.runs; all_stopped = h.all_stopped; left_out = h.left_out; flaws = h.flaws; endings = h.endings; results = h.results; races = h.races; missed = h.missed }) };
+}
+
+/// One more, where it is so.
+fn counted(runs: u32, is_so: bool) -> u32
+    requires { runs + 1 < 2 ^ 32 }
+    ensures { result ≡ runs + (if is_so then 1 else 0) }
+{
+    if is_so { runs + 1 } else { runs }
+}
+
+/// Takes in how a run ended, and what it left.
+fn take_ending(
+    endings: &mut Tally,
+    results: &mut Tally,
+    alloc: Global,
+    ending: Vec<u8>,
+    left: Vec<u8>,
+) -> Result<(), AllocError>
+    requires endings { endings.old.runs + 2 < 2 ^ 32 }
+    requires results { results.old.runs + 2 < 2 ^ 32 }
+    ensures endings { endings.new.runs ≤ endings.old.runs + 1 }
+    ensures results { results.new.runs ≤ results.old.runs + 1 }
+    ensures ending { OnOk result (Took (record { key = ending.items; shown = [] } ∷ []) endings.old endings.new) }
+    ensures left { OnOk result (Took (record { key = ending.items ++ line_feed ++ left.items; shown = ending.items } ∷ []) results.old results.new) }
+{
+    endings.take(ending_told(alloc, ending.as_slice())?)?;
+    results.take(result_told(alloc, ending, left.as_slice())?)
+}
+
+/// Takes in the lines that a run misses.
+fn take_missed(tally: &mut Tally, alloc: Global, missed: Vec<Vec<u8>>) -> Result<(), AllocError>
+    requires { tally.old.runs + 2 < 2 ^ 32 }
+    ensures runs { tally.new.runs ≤ tally.old.runs + 1 }
+    ensures missed { OnOk result (Took (map line_told (map (λ line. line.items) missed.items)) tally.old tally.new) }
+{
+    tally.take(missed_told(alloc, missed)?)
+}
+
+impl Hunted {
+    /// Before the first run.
+    pub fn new(alloc: Global) -> Hunted
+        ensures { result ≡ hunted [] }
+    {
+        Hunted {
+            runs: 0,
+            all_stopped: 0,
+            left_out: 0,
+            flaws: FlawCounts::new(),
+            endings: Tally::new(alloc),
+            results: Tally::new(alloc),
+            races: Tally::new(alloc),
+            missed: Tally::new(alloc),
+        }
+    }
+
+    /// Takes in the report of the next run. After want of memory nothing is known of what was taken in.
+    pub fn take(&mut self, alloc: Global, report: Report) -> Result<(), AllocError>
+        requires { self.old.runs + 2 < 2 ^ 32 }
+        ensures { OnOk result ((reports : List Reported) → self.old ≡ hunted reports → self.new ≡ hunted (reports ++ report ∷ [])) }
+    {
+        let Report {
+            flaws,
+            ending,
+            result,
+            races,
+            missed,
+            leaves_out,
+        } = report;
+        let run = self.runs;
+        self.runs = run + 1;
+        self.flaws.note(run, flaws);
+        self.all_stopped = counted(self.all_stopped, flaws.all_stopped());
+        self.left_out = counted(self.left_out, leaves_out);
+        take_ending(&mut self.endings, &mut self.results, alloc, ending, result)?;
+        self.races.take(races)?;
+        take_missed(&mut self.missed, alloc, missed)
+    }
+
+    /// How many were taken in.
+    pub fn runs(&self) -> u32
+        ensures { result ≡ self.now.runs }
+    {
+        self.runs
+    }
+
+    /// How many ended with all processors stopped.
+    pub fn all_stopped(&self) -> u32
+        ensures { result ≡ self.now.all_stopped }
+    {
+        self.all_stopped
+    }
+
+    /// Of how many a race was left out.
+    pub fn left_out(&self) -> u32
+        ensures { result ≡ self.now.left_out }
+    {
+        self.left_out
+    }
+
+    /// How many have each flaw.
+    pub fn flaws(&self) -> FlawCounts
+        ensures { result ≡ self.now.flaws }
+    {
+        self.flaws
+    }
+
+    /// Whether something went wrong in one.
+    pub fn has_flaw(&self) -> bool
+        ensures { (reports : List Reported) → self.now ≡ hunted reports → result ≡ list_any is_flawed reports }
+    {
+        self.flaws.is_some()
+    }
+
+    /// The different endings.
+    pub fn endings(&self) -> &Tally
+        ensures { result.now ≡ self.now.endings }
+    {
+        &self.endings
+    }
+
+    /// The different results within an ending.
+    pub fn results(&self) -> &Tally
+        ensures { result.now ≡ self.now.results }
+    {
+        &self.results
+    }
+
+    /// The different races.
+    pub fn races(&self) -> &Tally
+        ensures { result.now ≡ self.now.races }
+    {
+        &self.races
+    }
+
+    /// The expected lines that aren't there.
+    pub fn missed(&self) -> &Tally
+        ensures { result.now ≡ self.now.missed }
+    {
+        &self.missed
+    }
+}
