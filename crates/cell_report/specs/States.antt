@@ -53,3 +53,7 @@ host_text host = host_line host.done (length host.script) ++ took_lines host.too
 -- the states of M, whose end word this is, and the ranges that are shown
 abbrev pub states_of : State → List Show → Option End → List ℕ
 states_of M shows end = end_line end ++ spes_text 0 M.spes ++ host_text M.host ++ flat_map (show_line M) shows
+
+-- what is left in M: what the host took, and the ranges that are shown
+abbrev pub result_of : State → List Show → List ℕ
+result_of M shows = took_lines M.host.took ++ flat_map (show_line M) shows

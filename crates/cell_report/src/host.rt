@@ -38,7 +38,7 @@ fn put_took(out: &mut Vec<u8>, took: Took) -> Result<(), AllocError>
 }
 
 /// Writes the values that were taken, the earliest first.
-fn put_all_took(out: &mut Vec<u8>, took: &[Took]) -> Result<(), AllocError>
+pub(crate) fn put_all_took(out: &mut Vec<u8>, took: &[Took]) -> Result<(), AllocError>
     requires { ArePlaced 4096 took.now }
     ensures text { OnOk result (out.new.items ≡ out.old.items ++ took_lines took.now) }
     ensures short { OnOk result (length out.new.items ≤ length out.old.items + 21 * length took.now) }

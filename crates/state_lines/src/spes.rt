@@ -37,7 +37,8 @@ fn put_kind(out: &mut Vec<u8>, kind: DmaFault) -> Result<(), AllocError>
     }
 }
 
-fn put_status(out: &mut Vec<u8>, status: Status) -> Result<(), AllocError>
+/// Writes what a processor does, with its stop code or the kind of its fault.
+pub fn put_status(out: &mut Vec<u8>, status: Status) -> Result<(), AllocError>
     ensures { OnOk result (out.new.items ≡ out.old.items ++ status_text status) }
 {
     match status {
