@@ -1,0 +1,41 @@
+-- Tests over lists of texts, and the lines of no text.
+use Rattle.std.proofs.Common.{◌≡◌, ℕ, suc, ◌+◌, ◌<◌, Bool, true, false, not, ◌||◌, eqb, List, [], ◌∷◌, ◌++◌, length, map, filter, take, get_or, append-nil, Vec, if◌then◌else◌, refl, sym, ap, ◌∙◌, arith, true≢false}
+use Rattle.std.specs.declared.alloc.Global.{Global}
+use Rattle.std.specs.List.{list_any}
+use Rattle.std.proofs.lemmas.List.{map_push, take_more}
+use Rattle.hunt_reports.specs.Lists.{bytes_in}
+use Rattle.hunt_reports.specs.Missing.{has_line, missed_in, with_line}
+use Rattle.cell_base.specs.Words.{lines_of, whole_parts}
+
+pub any_map : {X Y : Type 0} (p : Y → Bool) (f : X → Y) (xs : List X) → list_any (λ x. p (f x)) xs ≡ list_any p (map f xs)
+any_map p f [] = refl
+any_map p f (x ∷ xs) = ap (λ b. p (f x) || b) (any_map p f xs)
+
+pub no_lines : lines_of [] ≡ []
+unfolding lines_of whole_parts
+no_lines = refl
+
+pub is_nil : {X : Type 0} (xs : List X) → eqb (length xs) 0 ≡ true → xs ≡ []
+is_nil [] e = refl
+is_nil (x ∷ xs) e = absurd (let none : eqb (suc (length xs)) 0 ≡ false = grind arith in true≢false (sym e ∙ none))
+
+filter_push : {X : Type 0} (p : X → Bool) (xs : List X) (x : X) → filter p (xs ++ x ∷ []) ≡ filter p xs ++ (if p x then x ∷ [] else [])
+filter_push p [] x = refl
+filter_push p (y ∷ ys) x = by (p y) (filter_push p ys x)
+  where
+    by : (b : Bool) → filter p (ys ++ x ∷ []) ≡ filter p ys ++ (if p x then x ∷ [] else [])
+        → (if b then y ∷ filter p (ys ++ x ∷ []) else filter p (ys ++ x ∷ [])) ≡ (if b then y ∷ filter p ys else filter p ys) ++ (if p x then x ∷ [] else [])
+    by true e = ap (λ zs. y ∷ zs) e
+    by false e = e
+
+-- one expected line more
+pub missed_more : (text : List ℕ) (es : List (Vec ℕ Global)) (i : ℕ) (v : Vec ℕ Global) → i < length es
+    → with_line text (get_or es i v).items (missed_in text (bytes_in (take i es))) ≡ missed_in text (bytes_in (take (i + 1) es))
+missed_more text es i v inside =
+    let line : List ℕ = (get_or es i v).items in
+    let more : bytes_in (take (i + 1) es) ≡ bytes_in (take i es) ++ line ∷ [] = ap bytes_in (take_more es i v inside) ∙ map_push (λ (w : Vec ℕ Global). w.items) (take i es) (get_or es i v) in
+    by (has_line text line) line ∙ sym (ap (missed_in text) more ∙ filter_push (λ l. not (has_line text l)) (bytes_in (take i es)) line)
+  where
+    by : (b : Bool) (line : List ℕ) → (if b then missed_in text (bytes_in (take i es)) else missed_in text (bytes_in (take i es)) ++ line ∷ []) ≡ missed_in text (bytes_in (take i es)) ++ (if not b then line ∷ [] else [])
+    by true line = sym (append-nil (missed_in text (bytes_in (take i es))))
+    by false line = refl

@@ -1,0 +1,13 @@
+//! What one run tells: how it ends, what it leaves, its races, and which expected lines it misses.
+#![tactic(auto)]
+
+mod asked;
+mod ended;
+mod missing;
+mod places;
+mod races;
+mod reporting;
+
+pub use asked::Asked;
+pub use places::{put_sites, race_key};
+pub use reporting::report_of;

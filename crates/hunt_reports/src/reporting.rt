@@ -1,0 +1,100 @@
+//! The report of a run.
+
+ghost use Rattle.std.specs.Prelude.{◌≡◌, ◌≤◌, length, Some, IfOk};
+ghost use Rattle.cell_machine.specs.declared.status.End.{End as AnEnd};
+ghost use Rattle.cell_machine.specs.State.{State};
+ghost use Rattle.cell_machine.specs.Run.{state_of, IsEnd};
+ghost use Rattle.cell_report.specs.States.{states_of, result_of};
+ghost use Rattle.hunt_reports.specs.Lists.{bytes_in};
+ghost use Rattle.hunt_reports.specs.Missing.{missed_in};
+ghost use Rattle.hunt_reports.specs.Endings.{ending_text};
+ghost use Rattle.hunt_reports.specs.Reports.{report_by, IsReport};
+
+use crate::asked::Asked;
+use crate::ended::{
+    Ended, end_of, ended_of, ending_text, has_fault, has_halt, is_budget, is_stuck,
+};
+use crate::missing::missed_in;
+use crate::races::{Races, races_of};
+use cell_hunt::SeedRun;
+use cell_machine::{End, Machine};
+use cell_report::{result_text, states_text};
+use hunt_tally::{Flaws, Report};
+use std::alloc::{AllocError, Global};
+
+/// What a run left.
+fn left_of(alloc: Global, machine: &Machine) -> Result<Vec<u8>, AllocError>
+    ensures { IfOk result (λ text. (M : State) → state_of machine.now ≡ Some M → text.items ≡ result_of M machine.now.setup.shows) }
+{
+    match result_text(alloc, machine) {
+        Ok(text) => Ok(text),
+        Err(_) => Err(AllocError),
+    }
+}
+
+/// The expected lines that the states of a run don't have.
+fn missed_of(
+    alloc: Global,
+    machine: &Machine,
+    expected: &[Vec<u8>],
+) -> Result<Vec<Vec<u8>>, AllocError>
+    ensures { IfOk result (λ v. (M : State) (end : AnEnd) → state_of machine.now ≡ Some M → IsEnd M machine.now.setup.budget (Some end) → bytes_in v.items ≡ missed_in (states_of M machine.now.setup.shows (Some end)) (bytes_in expected.now)) }
+{
+    if expected.is_empty() {
+        return Ok(Vec::new(alloc));
+    }
+    match states_text(alloc, machine) {
+        Ok(text) => missed_in(alloc, text.as_slice(), expected),
+        Err(_) => Err(AllocError),
+    }
+}
+
+/// The report by its parts.
+fn report_by(
+    spes: &[Ended],
+    end: End,
+    ending: Vec<u8>,
+    left: Vec<u8>,
+    races: Races,
+    missed: Vec<Vec<u8>>,
+) -> Report
+    requires { ending.items ≡ ending_text end spes.now }
+    ensures { result ≡ report_by spes.now end left.items races.told.items races.leaves_out (bytes_in missed.items) }
+{
+    let flaws = Flaws {
+        race: !races.told.is_empty(),
+        stuck: is_stuck(end),
+        budget: is_budget(end),
+        fault: has_fault(spes),
+        halt: has_halt(spes),
+        missed: !missed.is_empty(),
+    };
+    let Races { told, leaves_out } = races;
+    Report {
+        flaws,
+        ending,
+        result: left,
+        races: told,
+        missed,
+        leaves_out,
+    }
+}
+
+/// What a run tells.
+pub fn report_of(alloc: Global, run: &SeedRun, asked: &Asked) -> Result<Report, AllocError>
+    ensures { IfOk result (IsReport run.now asked.now) }
+{
+    let machine = run.machine();
+    let end = end_of(machine);
+    let spes = ended_of(alloc, machine)?;
+    let ending = ending_text(alloc, end, spes.as_slice())?;
+    let left = left_of(alloc, machine)?;
+    let missed = missed_of(alloc, machine, asked.expected.as_slice())?;
+    let races = races_of(
+        alloc,
+        run.races(),
+        asked.programs.as_slice(),
+        asked.passed.as_slice(),
+    )?;
+    Ok(report_by(spes.as_slice(), end, ending, left, races, missed))
+}
