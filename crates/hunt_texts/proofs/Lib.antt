@@ -1,0 +1,4 @@
+pub mod RowLemmas
+pub mod GroupLemmas
+pub mod LineLemmas
+pub mod EndingLemmas

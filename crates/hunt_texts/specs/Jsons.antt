@@ -1,0 +1,71 @@
+-- The same as JSON, one object a line.
+use Rattle.std.specs.Prelude.{ℕ, ◌+◌, ◌==◌, ◌||◌, nat_lt, Bool, List, ◌∷◌, [], ◌++◌, codes, if◌then◌else◌}
+use Rattle.std.specs.List.{flat_map}
+use Rattle.std.specs.Fmt.{decimal}
+use Rattle.cell_base.specs.Hex.{hex}
+use Rattle.cell_base.specs.Records.{line_feed}
+use Rattle.hunt_tally.specs.declared.count.Count.{Count}
+use Rattle.hunt_tally.specs.declared.flaws.FlawCounts.{FlawCounts}
+use Rattle.hunt_tally.specs.Tallies.{Told, told_in}
+use Rattle.hunt_tally.specs.Reports.{Sums, result_in}
+
+-- a byte of a string: as it is, or as a code point of two digits where it is a quotation mark, a backslash, or no printed ASCII
+unfoldable pub byte_json : ℕ → List ℕ
+byte_json b = if b == 34 || b == 92 || nat_lt b 32 || nat_lt 126 b then codes "\\u00" ++ hex 2 b else b ∷ []
+
+-- a string, one character for each byte
+unfoldable pub string_json : List ℕ → List ℕ
+string_json bytes = 34 ∷ (flat_map byte_json bytes ++ 34 ∷ [])
+
+abbrev pub bool_json : Bool → List ℕ
+bool_json b = if b then codes "true" else codes "false"
+
+-- no run is the first of none
+abbrev pub first_json : ℕ → Count → List ℕ
+first_json from c = if c.runs == 0 then codes "null" else decimal (from + c.first)
+
+-- a name and a number
+unfoldable pub field_json : List ℕ → ℕ → List ℕ
+field_json name n = name ++ decimal n
+
+unfoldable pub flaw_json : ℕ → List ℕ → Count → List ℕ
+flaw_json from name c = name ++ field_json (codes "{\"runs\":") c.runs ++ codes ",\"first\":" ++ first_json from c ++ codes "}"
+
+unfoldable pub ended_json : ℕ → FlawCounts → List ℕ
+ended_json from c = flaw_json from (codes ",\"race\":") c.race ++ flaw_json from (codes ",\"stuck\":") c.stuck ++ flaw_json from (codes ",\"budget\":") c.budget
+
+unfoldable pub faulted_json : ℕ → FlawCounts → List ℕ
+faulted_json from c = flaw_json from (codes ",\"fault\":") c.fault ++ flaw_json from (codes ",\"halt\":") c.halt ++ flaw_json from (codes ",\"missed\":") c.missed
+
+-- which runs, and whether lines were expected
+unfoldable pub runs_of_json : ℕ → ℕ → ℕ → Bool → List ℕ
+runs_of_json seed from runs expects =
+    field_json (codes "{\"hunt\":1,\"seed\":") seed ++ field_json (codes ",\"from\":") from ++ field_json (codes ",\"runs\":") runs ++ codes ",\"expects\":" ++ bool_json expects
+
+unfoldable pub sums_json : ℕ → ℕ → List ℕ
+sums_json stopped left = field_json (codes ",\"all_stopped\":") stopped ++ field_json (codes ",\"left_out\":") left
+
+unfoldable pub head_json : Sums → ℕ → ℕ → Bool → List ℕ
+head_json sums seed from expects =
+    runs_of_json seed from sums.runs expects ++ sums_json sums.all_stopped sums.left_out ++ ended_json from sums.flaws ++ faulted_json from sums.flaws ++ codes "}" ++ line_feed
+
+-- the end of a line
+unfoldable pub runs_json : ℕ → ℕ → ℕ → List ℕ
+runs_json from runs first = field_json (codes ",\"runs\":") runs ++ field_json (codes ",\"first\":") (from + first) ++ codes "}" ++ line_feed
+
+abbrev pub race_json : ℕ → Told → List ℕ
+race_json from t = codes "{\"race\":" ++ string_json t.shown ++ codes ",\"key\":" ++ string_json t.key ++ runs_json from t.runs t.first
+
+abbrev pub ending_json : ℕ → Told → List ℕ
+ending_json from t = codes "{\"end\":" ++ string_json t.key ++ runs_json from t.runs t.first
+
+abbrev pub result_json : ℕ → Told → List ℕ
+result_json from t = codes "{\"result\":" ++ string_json (result_in t) ++ codes ",\"end\":" ++ string_json t.shown ++ runs_json from t.runs t.first
+
+abbrev pub missed_json : ℕ → Told → List ℕ
+missed_json from t = codes "{\"missed\":" ++ string_json t.key ++ runs_json from t.runs t.first
+
+abbrev pub hunt_json : Sums → ℕ → ℕ → Bool → List ℕ
+hunt_json sums seed from expects =
+    head_json sums seed from expects ++ flat_map (race_json from) (told_in sums.races) ++ flat_map (ending_json from) (told_in sums.endings)
+    ++ flat_map (result_json from) (told_in sums.results) ++ flat_map (missed_json from) (told_in sums.missed)

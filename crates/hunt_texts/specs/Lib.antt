@@ -1,0 +1,5 @@
+pub mod Numbers
+pub mod Groups
+pub mod Texts
+pub mod Jsons
+pub mod Rows
