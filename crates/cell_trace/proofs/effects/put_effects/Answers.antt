@@ -1,0 +1,35 @@
+use Rattle.std.proofs.Common.{arith, refl, ◌++◌, get_or}
+use Rattle.cell_base.specs.declared.steps.Step.TheVariants.{Exec}
+use Rattle.cell_trace.specs.Effects.{line_in, lines_in, refused_in, grown}
+use Rattle.cell_trace.proofs.Lemmas.{one_line, refused_later, last_line, refused_here, all_lines, none_refused, line_of_told, none_of_told, text_of_some, text_of_none, grown_of}
+use Rattle.cell_trace.proofs.effects.put_effects.Goals as goal
+
+pub returns-then-not-branch-clause-lines : goal.returns-then-not-branch-clause-lines
+returns-then-not-branch-clause-lines c =
+    let s = get_or c.args.steps.now c.loop-step.step-index (Exec 0) in
+    let none = none_of_told (line_in c.loop-step.m s) c.in_ok-put_effect.field-0 c.in_ok-put_effect.ensures.told c.if-not-branch.true in
+    last_line c.loop-step.out.items c.put_effect.new.out.items _ c.loop-step.m s (Exec 0) c.loop-step.step-index c.args.steps.now (omega arith) refl none
+    (text_of_none c.loop-step.out.items c.put_effect.new.out.items _ none c.in_ok-put_effect.ensures.line) c.loop-step.invariant.lines
+
+pub returns-then-not-branch-clause-refused : goal.returns-then-not-branch-clause-refused
+returns-then-not-branch-clause-refused c =
+    let s = get_or c.args.steps.now c.loop-step.step-index (Exec 0) in
+    let none = none_of_told (line_in c.loop-step.m s) c.in_ok-put_effect.field-0 c.in_ok-put_effect.ensures.told c.if-not-branch.true in
+    refused_here _ c.loop-step.m s (Exec 0) c.loop-step.step-index c.args.steps.now (omega arith) refl none c.loop-step.invariant.refused
+
+pub loop-step-preserved : goal.loop-step-preserved
+loop-step-preserved c =
+    let s = get_or c.args.steps.now c.loop-step.step-index (Exec 0) in
+    let line = line_of_told (line_in c.loop-step.m s) c.in_ok-put_effect.field-0 c.in_ok-put_effect.ensures.told c.if-not-branch.false in
+    let made = grown_of c.put_effect.new.m (grown c.loop-step.m s) c.loop-step.m c.in_ok-put_effect.field-0 c.if-not-branch.false c.in_ok-put_effect.ensures.made in
+    record {
+      lines = one_line c.loop-step.out.items c.put_effect.new.out.items _ line.0 c.loop-step.m c.put_effect.new.m s (Exec 0) c.loop-step.step-index c.args.steps.now (omega arith) refl line.1
+          (text_of_some c.loop-step.out.items c.put_effect.new.out.items line.0 _ line.1 c.in_ok-put_effect.ensures.line) made c.loop-step.invariant.lines;
+      refused = refused_later _ line.0 c.loop-step.m c.put_effect.new.m s (Exec 0) c.loop-step.step-index c.args.steps.now (omega arith) refl line.1 made c.loop-step.invariant.refused;
+    }
+
+pub returns-clause-lines : goal.returns-clause-lines
+returns-clause-lines c = all_lines c.loop-step.out.items _ c.loop-step.m c.loop-step.step-index c.args.steps.now (omega arith) c.loop-step.invariant.lines
+
+pub returns-clause-refused : goal.returns-clause-refused
+returns-clause-refused c = none_refused _ c.loop-step.m c.loop-step.step-index c.args.steps.now (omega arith) c.loop-step.invariant.refused

@@ -1,0 +1,10 @@
+use Rattle.std.proofs.Common.{◌≡◌, ◌++◌, drop}
+use Rattle.cell_trace.specs.Effects.{lines_in, refused_in}
+use Rattle.cell_trace.proofs.effects.put_effects.Given as goal
+
+-- what was written, in front of the lines of the steps that are left, is the lines of all
+abbrev pub invariant-loop-step : goal.invariant-loop-step
+invariant-loop-step l = record {
+  lines : l.out.items ++ lines_in l.m (drop l.step-index l.steps) ≡ l.fn.out.items ++ lines_in l.fn.m l.steps;
+  refused : refused_in l.m (drop l.step-index l.steps) ≡ refused_in l.fn.m l.steps;
+}

@@ -1,0 +1,9 @@
+//! The lines that tools read of a run: what each step does, what the flow controllers hold, which steps are ordered before a step, and which may be made next.
+#![tactic(auto)]
+
+mod effects;
+mod fields;
+mod looking;
+mod record;
+
+pub use effects::{put_effect, put_effects};
