@@ -1,6 +1,6 @@
 -- Texts that grow, and lines one after the other.
-use Rattle.std.proofs.Common.{◌≡◌, ℕ, suc, ◌+◌, ◌-◌, ◌<◌, ◌≤◌, Bool, true, false, if◌then◌else◌, nat_lt, List, [], ◌∷◌, ◌++◌, take, drop, drop-cons, get_or, length, arith, refl, sym, ap, ap₂, ◌∙◌, append_assoc, length-append}
-use Rattle.std.specs.Prelude.{Option, Some, None, IsSome, Result, Ok, Err, is_err, is_some, IfOk}
+use Rattle.std.proofs.Common.{◌≡◌, ℕ, zero, suc, ◌+◌, ◌-◌, ◌<◌, ◌≤◌, Bool, true, false, if◌then◌else◌, nat_lt, List, [], ◌∷◌, ◌++◌, take, drop, drop-cons, get_or, length, arith, refl, sym, ap, ap₂, ◌∙◌, append_assoc, length-append}
+use Rattle.std.specs.Prelude.{Option, Some, None, IsSome, Result, Ok, Err, is_err, is_some, IfOk, OnOk, IsSomeAnd, slice_get, slice_index_or, replicate}
 use Rattle.std.specs.Option.{option_and_then, option_map, option_map_or}
 use Rattle.std.proofs.Math.Seq.{take-append-add}
 use Rattle.std.proofs.lemmas.List.{append-nil, nil_from_length, length-drop}
@@ -10,7 +10,14 @@ use Rattle.cell_base.specs.Records.{step_line}
 use Rattle.cell_machine.specs.declared.effect.Effect.{Effect}
 use Rattle.cell_machine.specs.State.{State}
 use Rattle.cell_machine.specs.Next.{next}
-use Rattle.cell_machine.specs.Opening.{opening}
+use Rattle.std.specs.List.{enumerate_from}
+use Rattle.cell_machine.specs.Memory.{MainMemory}
+use Rattle.cell_machine.specs.Spe.{Spe}
+use Rattle.cell_machine.specs.Shown.{line_held_by}
+use Rattle.cell_machine.specs.Opening.{Opening, opening, opening_spe}
+use Rattle.cell_machine.proofs.Bounds.{map-got}
+use Rattle.cell_trace.specs.Flows.{flow_front, flow_back, reserved_fields, flow_line, spe_flow, spe_flows}
+use Rattle.cell_trace.specs.Reserving.{Tracks, line_reserved}
 use Rattle.cell_machine.specs.Effects.{effect_in}
 use Rattle.cell_machine.specs.Run.{Ran, state_of, next_of}
 use Rattle.cell_machine.proofs.Replays.{replay-snoc}
@@ -158,3 +165,73 @@ text_of_none out new o is wrote = rw is at wrote
 
 pub grown_of : (n x y : Ran) (b : Bool) → b ≡ true → n ≡ (if b then x else y) → n ≡ x
 grown_of n x y b holds made = rw holds at made
+
+-- ---- processors
+
+pub on_ok : {A E : Type 0} (r : Result A E) (P Q : Type 0) → (P → Q) → OnOk r P → OnOk r Q
+on_ok (Ok x) P Q k h = k h
+on_ok (Err e) P Q k h = h
+
+-- what holds of the state holds of this one
+pub of_state : (o : Option State) (A : State → Type 0) (M : State) → o ≡ Some M → IsSomeAnd o A → A M
+of_state o A M is h = rw is at h
+
+-- what holds of the processor holds of this one
+pub of_spe : (o : Option State) (p : ℕ) (M : State) (P : Spe) (A : Spe → Type 0) → o ≡ Some M → slice_get M.spes p ≡ Some P → IsSomeAnd (option_and_then (λ N. slice_get N.spes p) o) A → A P
+of_spe o p M P A is there h = let k : IsSomeAnd (slice_get M.spes p) A = rw is at h in rw there at k
+
+pub got_within : {X : Type 0} (xs : List X) (c : ℕ) → c < length xs → (x : X) × (slice_get xs c ≡ Some x)
+got_within [] c lt = absurd (omega (arith, lt))
+got_within (x ∷ xs) zero lt = (x, refl)
+got_within (x ∷ xs) (suc c) lt = got_within xs c (omega (arith, lt))
+
+pub flow_written : (out first second new : List ℕ) (memory : MainMemory) (p : ℕ) (P : Spe) (line held : Option ℕ) → first ≡ out ++ flow_front p P → second ≡ first ++ reserved_fields line held → held ≡ line_held_by memory P
+    → new ≡ second ++ flow_back P → new ≡ out ++ flow_line memory p P line
+unfolding flow_line
+flow_written out first second new memory p P line held a b is d =
+    d ∙ ap (λ t. t ++ flow_back P) (b ∙ ap (λ t. t ++ reserved_fields line held) a ∙ append_assoc out (flow_front p P) (reserved_fields line held))
+    ∙ append_assoc out (flow_front p P ++ reserved_fields line held) (flow_back P) ∙ ap (λ h. out ++ ((flow_front p P ++ reserved_fields line h) ++ flow_back P)) is
+
+pub flows_one : (out whole : List ℕ) (lines : List (Option ℕ)) (memory : MainMemory) (p i : ℕ) (P : Spe) (spes : List Spe) → slice_get spes i ≡ Some P
+    → out ++ spe_flows lines memory p (drop i spes) ≡ whole → (out ++ spe_flow memory p P (slice_index_or lines p None)) ++ spe_flows lines memory (p + 1) (drop (i + 1) spes) ≡ whole
+unfolding spe_flows
+flows_one out whole lines memory p i P [] there so_far = absurd (cc)
+flows_one out whole lines memory p zero P (Q ∷ spes) there so_far =
+    let one : suc p ≡ p + 1 = omega arith in
+    let same : Q ≡ P = cc in
+    rw (← one, ← same) (append_assoc out (spe_flow memory p Q (slice_index_or lines p None)) (spe_flows lines memory (suc p) spes) ∙ so_far)
+flows_one out whole lines memory p (suc i) P (Q ∷ spes) there so_far =
+    let e : suc i + 1 ≡ suc (i + 1) = omega arith in
+    rw e (flows_one out whole lines memory p i P spes there so_far)
+
+pub flows_none : (out whole : List ℕ) (lines : List (Option ℕ)) (memory : MainMemory) (p i : ℕ) (spes : List Spe) → length spes ≤ i → out ++ spe_flows lines memory p (drop i spes) ≡ whole → out ≡ whole
+unfolding spe_flows
+flows_none out whole lines memory p i spes le so_far =
+    let none : drop i spes ≡ [] = nil_from_length (drop i spes) (omega (arith, length-drop i spes)) in
+    sym (append-nil out) ∙ (rw none at so_far)
+
+-- ---- the start
+
+abbrev no_line : Option ℕ
+no_line = None
+
+none_at : (n p : ℕ) → p < n → slice_get (replicate n no_line) p ≡ Some no_line
+none_at zero p lt = absurd (omega (arith, lt))
+none_at (suc n) zero lt = refl
+none_at (suc n) (suc p) lt = none_at n p (omega (arith, lt))
+
+got_low : {X : Type 0} (xs : List X) (a p : ℕ) (x : ℕ × X) → slice_get (enumerate_from a xs) p ≡ Some x → p < length xs
+got_low [] a p x h = absurd (cc)
+got_low (y ∷ xs) a zero x h = omega arith
+got_low (y ∷ xs) a (suc p) x h = let rest = got_low xs (a + 1) p x h in omega (arith, rest)
+
+pub new_tracks : (S : Opening) → length S.entries ≤ 16 → Tracks (replicate 16 None) (opening S)
+unfolding opening
+new_tracks S few p P there =
+    let g = map-got (opening_spe S) (enumerate_from 0 S.entries) p P there in
+    let low = got_low S.entries 0 p g.0 g.1 in
+    none_at 16 p (omega (arith, low, few)) ∙ ap Some (ap line_reserved g.2)
+
+pub held_of : (o : Option State) (p : ℕ) (M : State) (P : Spe) (held : Option ℕ) → o ≡ Some M → slice_get M.spes p ≡ Some P
+    → IsSomeAnd o (λ N. IsSomeAnd (slice_get N.spes p) (λ Q. held ≡ line_held_by N.memory Q)) → held ≡ line_held_by M.memory P
+held_of o p M P held is there h = let k : IsSomeAnd (slice_get M.spes p) (λ Q. held ≡ line_held_by M.memory Q) = rw is at h in rw there at k

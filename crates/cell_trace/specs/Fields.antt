@@ -1,5 +1,5 @@
 -- The fields of the lines that tools read. Each stands behind a bar, with its name and its words between blanks; numbers are decimal.
-use Rattle.std.specs.Prelude.{ℕ, ◌+◌, Bool, if◌then◌else◌, List, [], ◌∷◌, ◌++◌, codes}
+use Rattle.std.specs.Prelude.{ℕ, Bool, if◌then◌else◌, List, [], ◌∷◌, ◌++◌, codes}
 use Rattle.std.specs.List.{flat_map}
 use Rattle.cell_base.specs.Records.{field}
 use Rattle.mfc_command.specs.declared.command.Kind.{Kind}

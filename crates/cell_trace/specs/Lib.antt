@@ -1,4 +1,5 @@
 pub mod Fields
 pub mod Effects
+pub mod Reserving
 pub mod Flows
 pub mod Allowed

@@ -7,7 +7,9 @@ ghost use Rattle.cell_trace.specs.Fields.{named, bit, atomic_field};
 ghost use Rattle.cell_trace.specs.Effects.{place_word, span_field, spans, tags_field, channel_fields, done_fields, own_fields, value_of, mailbox_name, mail_field, deliver_field, signal_fields, note_fields, step_words, effect_line, line_in, lines_in, refused_in, grown};
 ghost use Rattle.cell_trace.specs.Fields.{word};
 
-use crate::fields::{put_atomic, put_command, put_named, put_number, put_slot, put_status, put_word};
+use crate::fields::{
+    put_atomic, put_command, put_named, put_number, put_slot, put_status, put_word,
+};
 use crate::looking::{After, Before, look_after, look_before};
 use crate::record::put_step;
 use cell_base::{ChannelOp, Step};
@@ -158,12 +160,7 @@ fn put_delivered(out: &mut Vec<u8>, before: &Before) -> Result<(), AllocError>
 }
 
 /// Writes a value of a signal register.
-fn put_signal(
-    out: &mut Vec<u8>,
-    spe: u8,
-    register: u8,
-    before: &Before,
-) -> Result<(), AllocError>
+fn put_signal(out: &mut Vec<u8>, spe: u8, register: u8, before: &Before) -> Result<(), AllocError>
     ensures { OnOk result (out.new.items ≡ out.old.items ++ signal_fields spe register before.now) }
 {
     put_named(out, b"signal", &[u32::from(spe), u32::from(register)])?;
@@ -172,12 +169,7 @@ fn put_signal(
 
 /// Writes what a note tells.
 #[tactic(auto, unfolding(crate::specs::Effects::note_fields))]
-fn put_note(
-    out: &mut Vec<u8>,
-    note: Note,
-    before: &Before,
-    after: &After,
-) -> Result<(), AllocError>
+fn put_note(out: &mut Vec<u8>, note: Note, before: &Before, after: &After) -> Result<(), AllocError>
     ensures { OnOk result (out.new.items ≡ out.old.items ++ note_fields note before.now after.now) }
 {
     match note {

@@ -3,7 +3,11 @@
 
 mod effects;
 mod fields;
+mod flows;
 mod looking;
 mod record;
+mod reserving;
 
 pub use effects::{put_effect, put_effects};
+pub use flows::put_flows;
+pub use reserving::Reserved;

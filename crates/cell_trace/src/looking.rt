@@ -264,7 +264,6 @@ const NOTHING: After = After {
     status: None,
 };
 
-
 /// What stands there after a step, of which the instruction asked so.
 pub fn look_after(m: &Machine, step: Step, asked: Option<ChannelOp>) -> After
     ensures { (M : State) → state_of m.now ≡ Some M → result ≡ after_in M step asked }

@@ -1,6 +1,7 @@
 //! Stand-in.
 ghost use Rattle.std.specs.Prelude.{◌≡◌, ◌++◌, OnOk};
 ghost use Rattle.cell_base.specs.Records.{field, step_line};
+
 use cell_base::Step;
 use cell_base::line_text::put_decimal;
 use std::alloc::AllocError;
@@ -53,4 +54,3 @@ pub fn put_step(out: &mut Vec<u8>, step: Step) -> Result<(), AllocError>
     out.push(b'\n')?;
     Ok(())
 }
-

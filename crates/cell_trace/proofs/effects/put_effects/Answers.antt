@@ -1,6 +1,6 @@
-use Rattle.std.proofs.Common.{arith, refl, ◌++◌, get_or}
+use Rattle.std.proofs.Common.{arith, refl, get_or}
 use Rattle.cell_base.specs.declared.steps.Step.TheVariants.{Exec}
-use Rattle.cell_trace.specs.Effects.{line_in, lines_in, refused_in, grown}
+use Rattle.cell_trace.specs.Effects.{line_in, grown}
 use Rattle.cell_trace.proofs.Lemmas.{one_line, refused_later, last_line, refused_here, all_lines, none_refused, line_of_told, none_of_told, text_of_some, text_of_none, grown_of}
 use Rattle.cell_trace.proofs.effects.put_effects.Goals as goal
 
