@@ -12,6 +12,7 @@ use crate::fields::{
 };
 use crate::looking::{After, Before, look_after, look_before};
 use crate::record::put_step;
+use crate::reserving::Reserved;
 use cell_base::{ChannelOp, Step};
 use cell_channels::{MFC_WR_TAG_MASK, MFC_WR_TAG_UPDATE};
 use cell_machine::{Effect, Machine, Note, Place, Span};
@@ -244,7 +245,12 @@ fn put_line(
 }
 
 /// Makes a step and writes its line, and says whether it is allowed. Where it isn't, nothing is made or written. The only refusal is want of memory.
-pub fn put_effect(out: &mut Vec<u8>, m: &mut Machine, step: Step) -> Result<bool, AllocError>
+fn put_effect(
+    out: &mut Vec<u8>,
+    m: &mut Machine,
+    reserved: &mut Reserved,
+    step: Step,
+) -> Result<bool, AllocError>
     ensures told { IfOk result (λ is_told. is_told ≡ is_some (line_in m.old step)) }
     ensures line { OnOk result (out.new.items ≡ out.old.items ++ option_map_or (λ line. line) (line_in m.old step) []) }
     ensures made { IfOk result (λ is_told. m.new ≡ (if is_told then grown m.old step else m.old)) }
@@ -256,6 +262,7 @@ pub fn put_effect(out: &mut Vec<u8>, m: &mut Machine, step: Step) -> Result<bool
     if m.step(step).is_err() {
         return Ok(false);
     }
+    reserved.take_in(step, before.atomic);
     let after = look_after(m, step, before.asked);
     put_line(out, step, &effect, &before, &after)?;
     Ok(true)
@@ -266,13 +273,14 @@ pub fn put_effect(out: &mut Vec<u8>, m: &mut Machine, step: Step) -> Result<bool
 pub fn put_effects(
     out: &mut Vec<u8>,
     m: &mut Machine,
+    reserved: &mut Reserved,
     steps: &[Step],
 ) -> Result<Option<Step>, AllocError>
     ensures lines { OnOk result (out.new.items ≡ out.old.items ++ lines_in m.old steps.now) }
     ensures refused { IfOk result (λ refused. refused ≡ refused_in m.old steps.now) }
 {
     for step in steps {
-        if !put_effect(out, m, *step)? {
+        if !put_effect(out, m, reserved, *step)? {
             return Ok(Some(*step));
         }
     }

@@ -8,6 +8,6 @@ mod looking;
 mod record;
 mod reserving;
 
-pub use effects::{put_effect, put_effects};
+pub use effects::put_effects;
 pub use flows::put_flows;
-pub use reserving::Reserved;
+pub use reserving::{Reserved, follow};

@@ -1,4 +1,5 @@
-//! Stand-in.
+//! The line of a step, as in a record.
+
 ghost use Rattle.std.specs.Prelude.{◌≡◌, ◌++◌, OnOk};
 ghost use Rattle.cell_base.specs.Records.{field, step_line};
 

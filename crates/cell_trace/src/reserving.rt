@@ -1,13 +1,14 @@
 //! The lines that processors reserved last, by their atomic commands: of a reservation that a store has ended the machine shows nothing.
 
-ghost use Rattle.std.specs.Prelude.{◌≡◌, ◌≤◌, ℕ, [], length, Option, Some, None, slice_index_or};
+ghost use Rattle.std.specs.Prelude.{◌≡◌, ◌≤◌, ℕ, [], length, Option, Some, None, ◌++◌, ◌∷◌, if◌then◌else◌, ◌↔◌, IsTrue, IsSome, IfNone, slice_index_or};
 ghost use Rattle.cell_machine.specs.Opening.{Opening, opening};
-ghost use Rattle.cell_machine.specs.Run.{state_of, next_of};
-ghost use Rattle.cell_machine.specs.State.{State};
-ghost use Rattle.cell_trace.specs.Effects.{done_in, grown};
+ghost use Rattle.cell_machine.specs.Run.{next_of};
+ghost use Rattle.cell_trace.specs.Effects.{grown};
 ghost use Rattle.cell_trace.specs.Reserving.{Tracks, line_by, lines_by, lines_next};
 
+use crate::looking::done_in;
 use cell_base::Step;
+use cell_machine::Machine;
 use mfc_command::{AtomicKind, AtomicOp};
 
 /// How many processors there are at most.
@@ -72,4 +73,29 @@ impl Reserved {
             _ => {}
         }
     }
+}
+
+/// Makes a step, and takes it in. False where it isn't allowed, and then nothing changes.
+fn pass(m: &mut Machine, reserved: &mut Reserved, step: Step) -> bool
+    ensures made { m.new ≡ (if result then grown m.old step else m.old) }
+    ensures allowed { IsTrue result ↔ IsSome (next_of m.old step) }
+{
+    let done = done_in(m, step);
+    if m.step(step).is_err() {
+        return false;
+    }
+    reserved.take_in(step, done);
+    true
+}
+
+/// Makes steps, up to the first that isn't allowed, which it answers.
+pub fn follow(m: &mut Machine, reserved: &mut Reserved, steps: &[Step]) -> Option<Step>
+    ensures made { IfNone result (m.new ≡ record m.old { steps = m.old.steps ++ steps.now }) }
+{
+    for step in steps {
+        if !pass(m, reserved, *step) {
+            return Some(*step);
+        }
+    }
+    None
 }
