@@ -35,8 +35,13 @@ def said_of(folder, *words):
     return done.stdout, done.stderr, done.returncode
 
 
+def places_in(line):
+    """The places that are ordered before one, as bits, from its line of `before`."""
+    ranges = (map(int, words.split()) for words in line.split(" | ")[1:])
+    return sum((1 << last + 1) - (1 << first) for first, last in ranges)
+
+
 def trace_of(folder, machine, record):
     """The trace of a run, and of each place the places that the orderer has before it, as bits."""
-    places = (printed.split(" | ")[2].strip("[]") for printed in output(["trace", machine, record], folder).splitlines())
-    before = [sum(1 << int(place) for place in found.split(",") if place) for found in places]
+    before = [places_in(line) for line in output(["before", machine, record], folder).splitlines()]
     return trace_of_lines(output(["effects", machine, record], folder).splitlines()), before

@@ -5,7 +5,6 @@ import re
 
 from celltools.run.effects import Trace, has_group, mailbox, shared_bytes
 from celltools.run.records import steps_in  # noqa: F401
-from lib.debug_text import Step  # noqa: F401  (of what `trace` prints, for tests that compare it with `effects`)
 
 INBOX_PLACES, OTHER_PLACES = 4, 1
 

@@ -15,7 +15,7 @@ use Rattle.cell_forms.specs.declared.fault.FileId.{FileId}
 use Rattle.cell_forms.specs.declared.fault.FileId.TheVariants.{Machine, Source}
 use Rattle.cell_forms.specs.Task.{Task, Work}
 use Rattle.cell_forms.specs.Course.{Given, nothing, too_long, whole, given, WithGiven, Settles}
-use Rattle.cell_forms.specs.Forms.{text_limit, with_image, sources_task, with_setup, with_plan, machine_task}
+use Rattle.cell_forms.specs.Forms.{text_limit, with_image, sources_task, with_setup, with_plan, planned_task, machine_task}
 
 module _ (files : List File) (work : Work) (next other : Opening → Task) where
   -- work that is come to from a setup, while the second task goes on with the same setup
@@ -50,9 +50,14 @@ module _ (files : List File) (work : Work) (next other : Opening → Task) where
       (λ text. with_image (Source i) (assembled text) (λ image. sources_task (i + 1) sources (so_far ++ image ∷ []) second))
       (λ text. image-on (Source i) (assembled text) _ _ (λ image. sources-on sources (i + 1) (so_far ++ image ∷ []) first second h)) e
 
-  plan-on : {F : Type 0} (r : Result (List Entry) (ℕ × F)) → GoesOn (with_plan r next) (with_plan r other)
+  planned-on : (entries : List Entry) → GoesOn (planned_task entries next) (planned_task entries other)
+  planned-on entries e = sources-on (sources_of entries) 0 [] _ _ (λ images. loaded-on (loaded entries images)) e
+
+  plan-on : {F : Type 0} (r : Result (List Entry) (ℕ × F)) → GoesOn (with_plan r (λ entries. planned_task entries next)) (with_plan r (λ entries. planned_task entries other))
   plan-on (Err fault) e = absurd cc
-  plan-on (Ok entries) e = sources-on (sources_of entries) 0 [] _ _ (λ images. loaded-on (loaded entries images)) e
+  plan-on (Ok entries) e = planned-on entries e
 
   pub machine-on : (machine : List ℕ) → GoesOn (machine_task machine next) (machine_task machine other)
-  machine-on machine e = given-on Machine (given files machine text_limit) (λ text. with_plan (machine_at text) next) (λ text. with_plan (machine_at text) other) (λ text. plan-on (machine_at text)) e
+  machine-on machine e =
+      given-on Machine (given files machine text_limit) (λ text. with_plan (machine_at text) (λ entries. planned_task entries next)) (λ text. with_plan (machine_at text) (λ entries. planned_task entries other))
+      (λ text. plan-on (machine_at text)) e

@@ -23,7 +23,7 @@ use Rattle.cell_forms.specs.declared.fault.FileId.TheVariants.{Machine, Source, 
 use Rattle.cell_forms.specs.Checks.{Finds}
 use Rattle.cell_forms.specs.Task.{Task, Work, refuse, ready, judge, read, run_of, text_of, verdict_of, gen_of, reordering_of}
 use Rattle.cell_forms.specs.Course.{Given, nothing, too_long, whole, given, by_run, WithGiven, Settles, SettlesOne}
-use Rattle.cell_forms.specs.Forms.{text_limit, record_limit, with_image, source_task, sources_task, with_setup, with_plan, machine_task, recorded_task, by_script}
+use Rattle.cell_forms.specs.Forms.{text_limit, record_limit, with_image, source_task, sources_task, with_setup, with_plan, planned_task, machine_task, recorded_task, by_script}
 use Rattle.cell_forms.specs.Words.{Spoken, run, check, asm, gen, debug, permute, no_form, task_of}
 use Rattle.cell_forms.proofs.Checked.{checked, is_checked, finds}
 
@@ -100,12 +100,17 @@ module _ (files : List File) where
   setup-memory (Err found) next h = refuse-memory _ (λ e. cc)
   setup-memory (Ok setup) next h = h setup
 
-  plan-memory : {F : Type 0} (r : Result (List Entry) (ℕ × F)) (next : Opening → Task) → ((setup : Opening) → NeverMemory (next setup)) → NeverMemory (with_plan r next)
+  plan-memory : {F : Type 0} (r : Result (List Entry) (ℕ × F)) (next : List Entry → Task) → ((entries : List Entry) → NeverMemory (next entries)) → NeverMemory (with_plan r next)
   plan-memory (Err fault) next h = refuse-memory _ (λ e. cc)
-  plan-memory (Ok entries) next h = sources-memory (sources_of entries) 0 [] (λ images. with_setup (loaded entries images) next) (λ images. setup-memory (loaded entries images) next h)
+  plan-memory (Ok entries) next h = h entries
+
+  planned-memory : (entries : List Entry) (next : Opening → Task) → ((setup : Opening) → NeverMemory (next setup)) → NeverMemory (planned_task entries next)
+  planned-memory entries next h = sources-memory (sources_of entries) 0 [] (λ images. with_setup (loaded entries images) next) (λ images. setup-memory (loaded entries images) next h)
 
   machine-memory : (name : List ℕ) (next : Opening → Task) → ((setup : Opening) → NeverMemory (next setup)) → NeverMemory (machine_task name next)
-  machine-memory name next h = read-memory Machine name text_limit (λ text. with_plan (machine_at text) next) (λ text. plan-memory (machine_at text) next h)
+  machine-memory name next h =
+      let go : List Entry → Task = λ entries. planned_task entries next in
+      read-memory Machine name text_limit (λ text. with_plan (machine_at text) go) (λ text. plan-memory (machine_at text) go (λ entries. planned-memory entries next h))
 
   recorded-memory : (machine record_file : List ℕ) (work : Ran → Work) → NeverMemory (recorded_task machine record_file work)
   recorded-memory machine record_file work =

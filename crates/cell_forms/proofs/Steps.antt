@@ -89,10 +89,10 @@ source_comes {V} files all names so_far text number at source next go_on old now
     comes_after files all (source_task at source.name go) go_on old new result here d
 
 -- a machine file that was read in its form
-pub leads_plan : (files : List File) (text : List ℕ) (entries : List Entry) (next : Opening → Task) → machine_at text ≡ Ok entries → Leads files (with_plan (machine_at text) next) (sources_task 0 (sources_of entries) [] (λ images. with_setup (loaded entries images) next))
+pub leads_plan : (files : List File) (text : List ℕ) (entries : List Entry) (next : List Entry → Task) → machine_at text ≡ Ok entries → Leads files (with_plan (machine_at text) next) (next entries)
 leads_plan files text entries next is = leads_here files _ _ (ap (λ r. with_plan r next) is)
 
-pub refuses_plan : {X : Type 0} (view : X → List Entry) (files : List File) (text : List ℕ) (next : Opening → Task) (old new : Ledger) (error : PlanError) → PlanGives {X = X} view (Err error) (machine_at text) → RefusesIn files (with_plan (machine_at text) next) old new (plan_fault_of error)
+pub refuses_plan : {X : Type 0} (view : X → List Entry) (files : List File) (text : List ℕ) (next : List Entry → Task) (old new : Ledger) (error : PlanError) → PlanGives {X = X} view (Err error) (machine_at text) → RefusesIn files (with_plan (machine_at text) next) old new (plan_fault_of error)
 refuses_plan view files text next old new (BadLine line) is = subst (λ r. Settles files (with_plan r next) (Err (Machine line))) (sym is) refl
 refuses_plan view files text next old new (Limit line) is = subst (λ r. Settles files (with_plan r next) (Err (Machine line))) (sym is) refl
 refuses_plan view files text next old new PlanMemory is = tt
@@ -109,6 +109,10 @@ refuses_setup view files loading next old new (NoRowError spe address word) is =
 pub refuses_then : (files : List File) (task rest : Task) (old now new : Ledger) (fault : Fault) → Leads files task rest → now ≡ old → RefusesIn files rest now new fault → RefusesIn files task old new fault
 refuses_then files task rest old now new fault l kept r =
     refuses_after files task rest old new fault l (subst (λ o. RefusesIn files rest o new fault) kept r)
+
+pub comes_then : {V : Type 0} (files : List File) (task rest : Task) (next : V → Task) (old now new : Ledger) (result : Result V Fault) → Leads files task rest → now ≡ old → Comes files rest next now new result → Comes files task next old new result
+comes_then files task rest next old now new result l kept comes =
+    comes_after files task rest next old new result l (subst (λ o. Comes files rest next o new result) kept comes)
 
 -- ---- a check
 

@@ -10,6 +10,8 @@ use Rattle.cell_forms.specs.declared.fault.Status.{Status}
 use Rattle.cell_forms.specs.declared.fault.Status.TheVariants.{Done, Race, Refused}
 use Rattle.cell_forms.specs.Task.{Task, Work}
 use Rattle.cell_forms.specs.Course.{Settles, Reads}
+use Rattle.cell_machine.specs.Run.{Ran}
+use Rattle.cell_forms.specs.Runs.{PrintsSteps}
 use Rattle.cell_forms.specs.Output.{Took, TookPart, Writes, LacksOrders}
 
 -- the rest of the task settles what the whole does, and what it reads the whole reads
@@ -80,6 +82,13 @@ Wrote work status old new = (text : List ℕ) × Writes work status text × Took
 -- a part of the text of some end went out
 abbrev pub WrotePart : Work → Option (List ℕ) → Option (List ℕ) → Type 0
 WrotePart work old new = (status : Status) × (text : List ℕ) × Writes work status text × TookPart old new text
+
+-- the record and the states of a run went out, or a part of them, or nothing
+abbrev pub WroteSteps : Ran → Sinks → Sinks → Status → Type 0
+WroteSteps m old new Done = (text : List ℕ) × PrintsSteps m text × Took old.taken new.taken text
+WroteSteps m old new (Refused WriteFault) = Rose old.faults new.faults × ((text : List ℕ) × PrintsSteps m text × TookPart old.taken new.taken text)
+WroteSteps m old new (Refused Memory) = new.taken ≡ old.taken
+WroteSteps m old new other = ⊥
 
 -- how work ends: its text went out, or a part of it, or nothing
 abbrev pub Ends : Work → Sinks → Sinks → Status → Type 0

@@ -46,13 +46,21 @@ abbrev pub with_setup : Result Opening NoRow → (Opening → Task) → Task
 with_setup (Err found) next = refuse (NotInTable found.spe found.address found.word)
 with_setup (Ok setup) next = next setup
 
-abbrev pub with_plan : {F : Type 0} → Result (List Entry) (ℕ × F) → (Opening → Task) → Task
+abbrev pub with_plan : {F : Type 0} → Result (List Entry) (ℕ × F) → (List Entry → Task) → Task
 with_plan (Err fault) next = refuse (BadMachine fault.0)
-with_plan (Ok entries) next = sources_task 0 (sources_of entries) [] (λ images. with_setup (loaded entries images) next)
+with_plan (Ok entries) next = next entries
+
+-- the machine file, and what its lines say
+abbrev pub plan_task : List ℕ → (List Entry → Task) → Task
+plan_task name next = read Machine name text_limit (λ text. with_plan (machine_at text) next)
+
+-- the sources of these lines, and the setup that all stand for
+abbrev pub planned_task : List Entry → (Opening → Task) → Task
+planned_task entries next = sources_task 0 (sources_of entries) [] (λ images. with_setup (loaded entries images) next)
 
 -- the machine file, its sources, and the setup that they stand for
 abbrev pub machine_task : List ℕ → (Opening → Task) → Task
-machine_task name next = read Machine name text_limit (λ text. with_plan (machine_at text) next)
+machine_task name next = plan_task name (λ entries. planned_task entries next)
 
 -- ---- forms
 

@@ -4,17 +4,18 @@ ghost use Rattle.std.specs.Prelude.{◌≡◌, ◌≤◌, ◌<◌, ◌^◌, [], 
 ghost use Rattle.std.specs.Option.{ForSome};
 ghost use Rattle.cell_io.specs.Store.{NoneFell, Rose};
 ghost use Rattle.spu_asm.specs.Images.{Image};
+ghost use Rattle.cell_load.specs.Entries.{Entry};
 ghost use Rattle.cell_load.specs.Sources.{named};
 ghost use Rattle.cell_machine.specs.Opening.{Opening};
 ghost use Rattle.cell_forms.specs.Causes.{IsOfInput};
 ghost use Rattle.cell_forms.specs.Task.{Task, read};
 ghost use Rattle.cell_forms.specs.Answer.{Comes, FailsBy, AtFile, AtSources, AtMachine};
-ghost use Rattle.cell_forms.specs.Forms.{source_task, sources_task, machine_task};
+ghost use Rattle.cell_forms.specs.Forms.{source_task, sources_task, plan_task, planned_task, machine_task};
 
 use crate::causes::{load_fault, plan_fault, source_fault};
 use crate::fault::{Fault, FileId};
 use cell_io::{FetchFault, Fetched, Store};
-use cell_load::{SourceName, load, read_machine};
+use cell_load::{Plan, SourceName, load, read_machine};
 use cell_machine::Setup;
 use spu_asm::{Image, assemble};
 use std::alloc::Global;
@@ -101,6 +102,41 @@ pub fn read_sources<T: Store>(
     Ok(images)
 }
 
+/// What a machine file says.
+pub fn read_plan<T: Store>(alloc: Global, files: &mut T, name: &str) -> Result<Plan, Fault>
+    ensures same { T.files files.new ≡ T.files files.old }
+    ensures store_count { NoneFell (T.ledger files.old) (T.ledger files.new) }
+    ensures kept { OnOk result (T.ledger files.new ≡ T.ledger files.old) }
+    ensures input { IfErr result IsOfInput }
+    ensures cause { FailsBy (AtFile FileId.Machine name.now) (T.ledger files.old) (T.ledger files.new) result }
+    ensures comes { ForSome (T.files files.old) (λ told. (next : List Entry → Task) →
+        Comes told (plan_task name.now next) next (T.ledger files.old) (T.ledger files.new) result) }
+{
+    let text = read_file(alloc, files, FileId::Machine, name, TEXT_LIMIT)?;
+    match read_machine(alloc, text.as_slice()) {
+        Ok(plan) => Ok(plan),
+        Err(error) => Err(plan_fault(error)),
+    }
+}
+
+/// The setup that the lines of a machine file and its sources stand for.
+pub fn load_plan<T: Store>(alloc: Global, files: &mut T, plan: Plan) -> Result<Setup, Fault>
+    ensures same { T.files files.new ≡ T.files files.old }
+    ensures store_count { NoneFell (T.ledger files.old) (T.ledger files.new) }
+    ensures kept { OnOk result (T.ledger files.new ≡ T.ledger files.old) }
+    ensures input { IfErr result IsOfInput }
+    ensures some { IfOk result (λ setup. 0 < length setup.entries) }
+    ensures cause { FailsBy AtSources (T.ledger files.old) (T.ledger files.new) result }
+    ensures comes { ForSome (T.files files.old) (λ told. (next : Opening → Task) →
+        Comes told (planned_task plan next) next (T.ledger files.old) (T.ledger files.new) result) }
+{
+    let images = read_sources(alloc, files, plan.sources())?;
+    match load(alloc, plan, images.as_slice()) {
+        Ok(setup) => Ok(setup),
+        Err(error) => Err(load_fault(error)),
+    }
+}
+
 /// The setup that a machine file and its sources stand for.
 pub fn read_setup<T: Store>(alloc: Global, files: &mut T, name: &str) -> Result<Setup, Fault>
     ensures same { T.files files.new ≡ T.files files.old }
@@ -112,14 +148,6 @@ pub fn read_setup<T: Store>(alloc: Global, files: &mut T, name: &str) -> Result<
     ensures comes { ForSome (T.files files.old) (λ told. (next : Opening → Task) →
         Comes told (machine_task name.now next) next (T.ledger files.old) (T.ledger files.new) result) }
 {
-    let text = read_file(alloc, files, FileId::Machine, name, TEXT_LIMIT)?;
-    let plan = match read_machine(alloc, text.as_slice()) {
-        Ok(plan) => plan,
-        Err(error) => return Err(plan_fault(error)),
-    };
-    let images = read_sources(alloc, files, plan.sources())?;
-    match load(alloc, plan, images.as_slice()) {
-        Ok(setup) => Ok(setup),
-        Err(error) => Err(load_fault(error)),
-    }
+    let plan = read_plan(alloc, files, name)?;
+    load_plan(alloc, files, plan)
 }

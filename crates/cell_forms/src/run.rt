@@ -11,7 +11,7 @@ ghost use Rattle.cell_forms.specs.Forms.{run_task};
 ghost use Rattle.cell_forms.specs.Output.{Writes};
 ghost use Rattle.cell_forms.specs.Runs.{PrintsSteps};
 ghost use Rattle.cell_forms.specs.declared.fault.Status.TheVariants.{Done};
-ghost use Rattle.cell_forms.specs.Answer.{Answers, AtMachine, Comes, Ends, FailsBy, IsQuiet, ReadFails};
+ghost use Rattle.cell_forms.specs.Answer.{Answers, AtMachine, Comes, Ends, FailsBy, IsQuiet, ReadFails, WroteSteps};
 
 use crate::fault::{Fault, Status};
 use crate::reading::read_setup;
@@ -35,6 +35,7 @@ fn put_both<K: Sink>(out: &mut K, first: &[u8], second: &[u8]) -> Result<(), Sin
 /// Writes the record's text of a machine, and the states'. Both are made before the first is put. Work that these texts do ends so.
 pub fn write_run<K: Sink>(alloc: Global, machine: &Machine, out: &mut K) -> Status
     ensures sink_count { K.faults out.old ≤ K.faults out.new }
+    ensures wrote { WroteSteps machine.now (record { taken = K.taken out.old; faults = K.faults out.old }) (record { taken = K.taken out.new; faults = K.faults out.new }) result }
     ensures ends { (work : Work) → ((text : List ℕ) → PrintsSteps machine.now text → Writes work Done text) → Ends work (record { taken = K.taken out.old; faults = K.faults out.old }) (record { taken = K.taken out.new; faults = K.faults out.new }) result }
 {
     let Ok(steps) = record_text(alloc, machine.steps()) else {

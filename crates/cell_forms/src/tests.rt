@@ -4,7 +4,7 @@ ghost use Rattle.cell_forms.specs.Words.{spoken, AsksForNoRun};
 
 use crate::fault::Status;
 use crate::program::{cell, cell_quiet};
-use cell_io::{MemFile, MemSink, MemStore};
+use cell_io::{Cut, MemFile, MemSink, MemStore};
 use spe_workers::Gate;
 use std::alloc::{AllocError, Global};
 use std::process::Abort;
@@ -67,12 +67,22 @@ const TWO: &str =
 const RAISE: &str =
     "ila $5,0x1000\nil $7,100\nloop: wrch $ch16,$5\nwrch $ch18,$0\nil $8,0xD0\nwrch $ch21,$8\nrdch $9,$ch27\nlqd $10,0($5)\nai $10,$10,1\nstqd $10,0($5)\nil $8,0xB4\nwrch $ch21,$8\nrdch $9,$ch27\nbrnz $9,loop\nai $7,$7,-1\nbrnz $7,loop\nstop 0\n";
 
-// It ends only where the workers run beside each other.
+/// For an output of which the call behind so many fails: what is whole goes to it in no more than these, a call for each text.
+fn fails_behind(alloc: Global, texts: u32) -> Result<Vec<Cut>, AllocError> {
+    let mut cuts = Vec::new(alloc);
+    cuts.push(Cut {
+        call: texts,
+        bytes: 0,
+    })?;
+    Ok(cuts)
+}
+
+// It ends only where the workers run beside each other. The record and the states are two texts.
 #[test]
 fn two_workers_wait_for_each_other(rt: HostRuntime) -> Result<(), Fail> {
     let alloc = rt.alloc();
     let mut files = files(alloc, [TWO, RAISE, ""])?;
-    let mut out = MemSink::new(alloc, 100_000, Vec::new(alloc))?;
+    let mut out = MemSink::new(alloc, 100_000, fails_behind(alloc, 2)?)?;
     let gate = Meet {
         rt: &rt,
         barrier: Barrier::new(2),
@@ -112,7 +122,7 @@ const RACING: &str =
 fn a_check_needs_no_thread(rt: HostRuntime) -> Result<(), Fail> {
     let alloc = rt.alloc();
     let mut files = files(alloc, [ONE, REUSE, RACING])?;
-    let mut out = MemSink::new(alloc, 100, Vec::new(alloc))?;
+    let mut out = MemSink::new(alloc, 100, fails_behind(alloc, 1)?)?;
     let words = check_words(alloc)?;
     let status = cell_quiet(alloc, words.as_slice(), &mut files, &mut out);
     let wanted = Status::Race {

@@ -5,12 +5,23 @@
 
 use crate::choosing::actor;
 use crate::lines::Text;
-use crate::passing::word_at;
 use cell_base::{Actor, Step};
 use cell_machine::Machine;
 
 /// Above the number of steps that one actor may make at a time.
 const MOST_STEPS: u64 = 65_536;
+
+/// How many bytes a local store has.
+const STORE_BYTES: u32 = 262_144;
+
+/// The word at an address of a processor's store.
+fn word_at(machine: &Machine, spe: u8, at: u32) -> Option<u32> {
+    if spe < machine.setup().spes() && at % 4 == 0 && at < STORE_BYTES {
+        Some(machine.local(spe).word(at))
+    } else {
+        None
+    }
+}
 
 /// The lines of the instructions at which processors are.
 fn put_words(out: &mut Text, machine: &Machine) {
@@ -26,8 +37,7 @@ fn put_words(out: &mut Text, machine: &Machine) {
 /// The line of a step that is allowed.
 fn put_step(out: &mut Text, step: Step) {
     out.put("may ");
-    out.step(step);
-    out.end_line();
+    out.step_line(step);
 }
 
 /// The lines of an actor's steps: behind the last one choices begin anew.

@@ -2,14 +2,12 @@
 
 use crate::allowed::put_allowed;
 use crate::choosing::chosen;
-use crate::effects::put_line;
 use crate::failing::Failed;
-use crate::flows::put_flows;
 use crate::lines::Text;
-use crate::reserving::Reserved;
 use crate::showing::put_states;
 use cell_base::Step;
 use cell_machine::Machine;
+use cell_trace::{Reserved, follow, put_effects, put_flows};
 
 /// What is told of such a run.
 #[derive(Clone, Copy)]
@@ -22,17 +20,26 @@ pub enum Watch<'a> {
     Go { numbers: &'a [u64] },
 }
 
-/// Makes a step, and prints its effect.
-fn show_step(
-    rt: &HostRuntime,
+/// How many steps are told before their lines are printed.
+const PART: usize = 1024;
+
+/// Whether each step was allowed.
+fn all_allowed(refused: Option<Step>) -> Result<(), Failed> {
+    match refused {
+        Some(step) => Err(Failed::Refused(step)),
+        None => Ok(()),
+    }
+}
+
+/// Makes steps, and writes their effects.
+fn put_part(
     out: &mut Text,
     reserved: &mut Reserved,
     machine: &mut Machine,
-    step: Step,
+    steps: &[Step],
 ) -> Result<(), Failed> {
-    let made = reserved.step(machine, step)?;
-    put_line(out, machine, &made);
-    out.print_pages(rt)
+    let refused = put_effects(&mut out.bytes, machine, reserved, steps)?;
+    all_allowed(refused)
 }
 
 /// Makes the steps, and prints their effects.
@@ -43,8 +50,9 @@ fn show_effects(
     machine: &mut Machine,
     steps: &[Step],
 ) -> Result<(), Failed> {
-    for step in steps {
-        show_step(rt, out, reserved, machine, *step)?;
+    for part in steps.chunks(PART) {
+        put_part(out, reserved, machine, part)?;
+        out.print(rt)?;
     }
     Ok(())
 }
@@ -59,24 +67,23 @@ fn show_chosen(
 ) -> Result<(), Failed> {
     for number in numbers {
         if let Some(step) = chosen(machine, *number) {
-            show_step(rt, out, reserved, machine, step)?;
+            put_part(out, reserved, machine, &[step])?;
+            out.print_pages(rt)?;
         }
     }
     Ok(())
 }
 
-/// Makes the steps.
-fn follow(reserved: &mut Reserved, machine: &mut Machine, steps: &[Step]) -> Result<(), Failed> {
-    for step in steps {
-        reserved.step(machine, *step)?;
-    }
-    Ok(())
-}
-
 /// Writes the states of a machine, and its flow controllers.
-fn put_all(rt: &HostRuntime, out: &mut Text, reserved: &Reserved, machine: &Machine) {
+fn put_all(
+    rt: &HostRuntime,
+    out: &mut Text,
+    reserved: &Reserved,
+    machine: &Machine,
+) -> Result<(), Failed> {
     put_states(rt, out, machine);
-    put_flows(out, reserved, machine);
+    put_flows(&mut out.bytes, machine, reserved)?;
+    Ok(())
 }
 
 /// Makes steps, and writes the states and the flow controllers behind them.
@@ -87,9 +94,8 @@ fn show_flows(
     machine: &mut Machine,
     steps: &[Step],
 ) -> Result<(), Failed> {
-    follow(reserved, machine, steps)?;
-    put_all(rt, out, reserved, machine);
-    Ok(())
+    all_allowed(follow(machine, reserved, steps))?;
+    put_all(rt, out, reserved, machine)
 }
 
 /// Makes steps, and then those that the numbers choose, and writes how the machine stands.
@@ -101,9 +107,9 @@ fn go_on(
     steps: &[Step],
     numbers: &[u64],
 ) -> Result<(), Failed> {
-    follow(reserved, machine, steps)?;
+    all_allowed(follow(machine, reserved, steps))?;
     show_chosen(rt, out, reserved, machine, numbers)?;
-    put_all(rt, out, reserved, machine);
+    put_all(rt, out, reserved, machine)?;
     put_allowed(out, machine);
     Ok(())
 }

@@ -1,4 +1,4 @@
-//! The lines that tools read: fields behind bars, each of words between blanks.
+//! A text of lines, which is printed page by page.
 
 use crate::failing::Failed;
 use cell_base::Step;
@@ -14,7 +14,7 @@ const PAGE: usize = 65_536;
 /// A text that grows. Where memory lacks it says so when it is printed, and not at each word.
 #[derive(Drop)]
 pub struct Text {
-    bytes: Vec<u8>,
+    pub bytes: Vec<u8>,
     lacks_memory: bool,
 }
 
@@ -47,12 +47,6 @@ impl Text {
         self.lacks_memory |= written.is_err();
     }
 
-    /// Writes a word behind a blank.
-    pub fn word(&mut self, word: &str) {
-        self.put(" ");
-        self.put(word);
-    }
-
     /// Writes a number behind a blank.
     pub fn number(&mut self, n: u32) {
         self.put(" ");
@@ -66,19 +60,10 @@ impl Text {
         }
     }
 
-    /// Writes a field of a name and numbers.
-    pub fn field(&mut self, name: &str, numbers: &[u32]) {
-        self.put(" | ");
-        self.put(name);
-        self.numbers(numbers);
-    }
-
-    /// Begins a line by a step as its line in a record.
-    pub fn step(&mut self, step: Step) {
+    /// Writes the line of a step.
+    pub fn step_line(&mut self, step: Step) {
         let written = put_step(&mut self.bytes, step);
         self.lacks_memory |= written.is_err();
-        // here the line goes on
-        self.bytes.pop();
     }
 
     pub fn end_line(&mut self) {

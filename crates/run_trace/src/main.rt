@@ -4,8 +4,8 @@
 //! record. `alone MACHINE` makes a run to its end on one thread, in which the actors take turns, and prints what `cell run` would.
 //! `effects MACHINE RECORD` prints of each step of a record what it does, `before MACHINE RECORD PLACE` the places that are ordered before one place, and
 //! `states MACHINE RECORD STEPS` the states and the flow controllers after the first so many steps; each takes time and memory as the record is long, and
-//! its lines stand in the module of that name. `trace MACHINE RECORD` prints a line for each step, with its effect and all places that are ordered before
-//! it, of which there are as many as pairs of steps. `states MACHINE RECORD` prints the states after all steps of a record. `time MACHINE RECORD` prints how
+//! the lines of effects, flow controllers and states are those of cell_trace and cell_report. `before MACHINE RECORD` prints a line for each step, with the
+//! places that are ordered before it, of which there are as many as pairs of steps. `states MACHINE RECORD` prints the states after all steps of a record. `time MACHINE RECORD` prints how
 //! long it takes to follow a record, alone, with an orderer, and with questions put to it, and to search it for races. `go MACHINE RECORD STEPS CHOICES`
 //! makes the first so many steps of a record, and then those that the numbers of a file choose; it prints the effects of these, then what `states` would
 //! print behind them, and then what may be done next.
@@ -15,22 +15,15 @@ mod allowed;
 mod answering;
 mod before;
 mod choosing;
-mod effects;
 mod failing;
-mod flows;
 mod following;
 mod going;
 mod lines;
-mod making;
 mod ordering;
-mod passing;
 mod performing;
 mod reading;
-mod reserving;
 mod showing;
-mod telling;
 mod timing;
-mod tracing;
 mod words;
 
 use answering::{print_answer, print_chosen, print_going, print_times};

@@ -4,12 +4,11 @@ ghost use Rattle.std.specs.Prelude.{◌≡◌, []};
 ghost use Rattle.cell_machine.specs.Run.{Ran};
 ghost use Rattle.race_order.specs.OrderedRuns.{StandsForRun};
 
-use crate::before::put_ranges;
+use crate::before::{put_each, put_ranges};
 use crate::failing::Failed;
 use crate::following::take_all;
 use crate::lines::Text;
 use crate::timing::time_order;
-use crate::tracing::print_steps;
 use cell_base::Step;
 use cell_machine::Machine;
 use race_order::Orderer;
@@ -17,8 +16,8 @@ use race_order::Orderer;
 /// What is to be printed of the order of steps.
 #[derive(Clone, Copy)]
 pub enum Order {
-    /// Each step with its effect and the places that are ordered before it.
-    Trace,
+    /// The places that are ordered before each step.
+    Each,
     /// The places that are ordered before the last step.
     Before,
     /// How long it takes to order them.
@@ -41,7 +40,7 @@ fn show_ordered(
     requires stands { StandsForRun orderer.old m }
 {
     match order {
-        Order::Trace => print_steps(rt, orderer, machine, steps),
+        Order::Each => put_each(rt, out, orderer, machine, steps),
         Order::Before => {
             take_all(orderer, machine, steps, false)?;
             put_ranges(out, orderer, machine);

@@ -7,7 +7,7 @@ use machine_files::number_of;
 
 /// What is said where the words have no form.
 pub const USAGE: &str =
-    "words: alone M, choose M CHOICES, (effects|trace|states|time) M RECORD, (before|states) M RECORD NUMBER, go M RECORD STEPS CHOICES";
+    "words: alone M, choose M CHOICES, (effects|before|states|time) M RECORD, (before|states) M RECORD NUMBER, go M RECORD STEPS CHOICES";
 
 /// What the words ask for. Each name is that of a file.
 #[derive(Clone, Copy)]
@@ -59,7 +59,7 @@ fn form_of_three<'a>(form: &str, machine: &'a str, file: &'a str) -> Option<Form
             });
         }
         "effects" => Task::Watch(Watch::Effects),
-        "trace" => Task::Order(Order::Trace),
+        "before" => Task::Order(Order::Each),
         "states" => Task::States,
         _ => return None,
     };

@@ -1,4 +1,4 @@
 use Rattle.run_trace.proofs.before.put_ranges.Given as goal
 
-abbrev pub ghost-is_before : goal.ghost-is_before
-ghost-is_before g a = g.m
+abbrev pub ghost-put_between : goal.ghost-put_between
+ghost-put_between g a = g.m

@@ -1,7 +1,7 @@
 use Rattle.run_trace.proofs.ordering.show_ordered.Given as goal
 
-abbrev pub ghost-print_steps : goal.ghost-print_steps
-ghost-print_steps g a = g.m
+abbrev pub ghost-put_each : goal.ghost-put_each
+ghost-put_each g a = g.m
 
 abbrev pub ghost-take_all : goal.ghost-take_all
 ghost-take_all g a = g.m
