@@ -38,7 +38,7 @@ WAYS = {
     "run": "Programs > Texts, Sources > Runs > Machine, which asks Instructions and Parts, step by step > Texts",
     "check": "Programs > Texts, Sources > Machine > Order > Texts",
     "permute": "Programs > Texts, Sources > Machine > Order > Other orders > Machine > Texts",
-    "hunt": "Programs > Texts, Sources > Runs > Machine, Order, run by run > Texts",
+    "hunt": "Programs > Texts, Sources > Runs > Machine, Order > Texts, Hunts, run by run > Hunts",
 }
 PASSED, FAILED, MISUSED = 0, 1, 2
 

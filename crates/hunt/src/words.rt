@@ -1,66 +1,74 @@
-//! The words of the command line.
+//! The words of the command line, and which file a refusal speaks of.
 
-ghost use Rattle.std.specs.Prelude.{◌≤◌, IfSome};
-ghost use Rattle.hunt.specs.Tasks.{IsWithin};
+ghost use Rattle.std.specs.Prelude.{◌≡◌, map, string_bytes};
+ghost use Rattle.hunt_forms.specs.Words.{spoken, no_form};
 
-use machine_files::number_of;
+use cell_forms::{Fault as InputFault, FileId as InputFile};
+use cell_io::{Words, read_words};
+use hunt_forms::{Fault, FileId, Form, form_of};
 
-/// How many runs a hunt may make.
-const MOST_RUNS: u32 = 1_000_000;
-
-/// What is asked for.
-#[derive(Clone, Copy, Debug, PartialEq, Eq)]
-pub enum Task {
-    /// To make so many runs, and to tell their races.
-    Hunt { runs: u32 },
-    /// To make so many runs, and to tell of each how it ends and its race.
-    Each { runs: u32 },
-    /// To print what `cell run` would print of this run.
-    Record { run: u32 },
+/// Why nothing was done, and what is said behind that.
+#[derive(Clone, Copy)]
+pub struct Refusal {
+    pub fault: Fault,
+    pub reason: &'static str,
 }
 
-/// A number of runs.
-fn runs_of(word: &str) -> Option<u32>
-    ensures { IfSome result (λ runs. runs ≤ 1000000) }
+/// Why words are refused of which one isn't UTF-8: where they are a form, a file has a name that isn't. The texts have U+FFFD for what isn't,
+/// which stands in no form's own words and in no number.
+fn refusal_of(texts: &[String]) -> Refusal
+    ensures { spoken (map string_bytes texts.now) ≡ no_form → result.fault ≡ Fault.Usage }
 {
-    let runs = u32::try_from(number_of(word)?).ok()?;
-    if runs == 0 || runs > MOST_RUNS {
-        return None;
+    if matches!(form_of(texts), Form::NoForm) {
+        return Refusal {
+            fault: Fault::Usage,
+            reason: "",
+        };
     }
-    Some(runs)
+    Refusal {
+        fault: Fault::Machine(InputFault::ReadFault {
+            file: InputFile::Machine,
+        }),
+        reason: ": the name of a file is not UTF-8",
+    }
 }
 
-/// The seed of the words behind the task: 1 where there is none.
-fn seed_of(words: &[String]) -> Option<u64> {
-    match words.len() {
-        0 => Some(1),
-        1 => number_of(words[0].as_str()),
+/// The words behind the program's name, where all are UTF-8.
+pub fn words_of(rt: &HostRuntime) -> Result<Vec<String>, Refusal> {
+    let Ok(Words { texts, not_utf8 }) = read_words(rt, rt.alloc()) else {
+        return Err(Refusal {
+            fault: Fault::Memory,
+            reason: "",
+        });
+    };
+    match not_utf8 {
+        None => Ok(texts),
+        Some(_) => Err(refusal_of(texts.as_slice())),
+    }
+}
+
+/// The machine file, the expectation file and the pass file that words name.
+fn names_of(words: &[String]) -> (Option<&str>, Option<&str>, Option<&str>) {
+    match form_of(words) {
+        Form::Hunt(hunt) => (Some(hunt.machine), hunt.expect, hunt.pass),
+        Form::Each { machine, .. } | Form::Record { machine, .. } => (Some(machine), None, None),
+        Form::Help | Form::NoForm => (None, None, None),
+    }
+}
+
+/// The name of the file that a refusal speaks of, where the words have it.
+pub fn name_behind(words: &[String], fault: Fault) -> Option<&str> {
+    let (machine, expect, pass) = names_of(words);
+    match fault {
+        Fault::Machine(
+            InputFault::ReadFault {
+                file: InputFile::Machine,
+            },
+        ) => machine,
+        Fault::ReadFault {
+            file: FileId::Expect,
+        } => expect,
+        Fault::ReadFault { file: FileId::Pass } => pass,
         _ => None,
     }
-}
-
-/// What the words behind the machine's name ask for, and the seed.
-pub fn task_of(words: &[String]) -> Option<(Task, u64)>
-    ensures { IfSome result (λ asked. IsWithin asked.0) }
-{
-    if words.is_empty() {
-        return None;
-    }
-    let form = words[0].as_str();
-    if form != "record" && form != "each" {
-        let runs = runs_of(form)?;
-        let seed = seed_of(&words[1..])?;
-        return Some((Task::Hunt { runs }, seed));
-    }
-    if words.len() < 2 {
-        return None;
-    }
-    let number = words[1].as_str();
-    let seed = seed_of(&words[2..])?;
-    if form == "record" {
-        let run = u32::try_from(number_of(number)?).ok()?;
-        return Some((Task::Record { run }, seed));
-    }
-    let runs = runs_of(number)?;
-    Some((Task::Each { runs }, seed))
 }

@@ -26,8 +26,8 @@ NAMES = [
     refused("two names", ["cell", "permute", ODD, ODD, "1"], 3, f"^cell: cannot read machine file: {NOT_UTF8}"),
     refused("a script", ["cell", "debug", MACHINE, ODD], 3, f"^cell: cannot read script file: {NOT_UTF8}"),
     refused("a source", ["cell", "asm", f"a{ODD}"], 3, f"^cell: cannot read source 0: {NOT_UTF8}"),
-    refused("a hunt's machine file", ["hunt", ODD, "3"], 3, f"cannot read machine file: {NOT_UTF8}"),
-    refused("a machine file of hunt itself", [HUNT, ODD, "3"], 3, f"^hunt: cannot read machine file: {NOT_UTF8}"),
+    refused("a hunt's machine file", ["hunt", ODD, "3"], 3, "^hunt: cannot read machine file: the name of a file is not UTF-8$"),
+    refused("a machine file of hunt itself", [HUNT, ODD, "3"], 3, "^hunt: cannot read machine file: the name of a file is not UTF-8$"),
     refused("a record of run_trace", [TRACER, "effects", MACHINE, ODD], 1, f"cannot read a file: {NOT_UTF8}"),
 ]
 
@@ -59,7 +59,7 @@ ENDLESS = [
     refused("choices without an end", [TRACER, "choose", MACHINE, "/dev/zero"], 1, "choice file is too long"),
     refused("a source without an end", [TRACER, "alone", "zero.cell"], 1, "source 0 is too long",
             {"zero.cell": b"cell-machine 1\nlines 1\nbudget 1\nspe\nsource /dev/zero\n"}),
-    refused("a machine file of hunt without an end", [HUNT, "/dev/zero", "1"], 5, "the machine file or a source is refused"),
+    refused("a machine file of hunt without an end", [HUNT, "/dev/zero", "1"], 5, "^hunt: machine file is too long"),
     refused("a missing machine file of run_trace", [TRACER, "alone", "missing.cell"], 1, "cannot read machine file"),
 ]
 

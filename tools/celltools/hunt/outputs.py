@@ -12,6 +12,7 @@ from celltools.run.runs import Refused
 
 # What can be wrong in a run, in the order in which it is told.
 FLAWS = ("race", "stuck", "budget", "fault", "halt", "missed")
+ADDED = ("places", "words")  # what ./hunt adds to a line of its program
 # The lines behind the head: the member that says what a line is, and those that tell two of them apart.
 KINDS = {"race": ("key",), "end": ("end",), "result": ("end", "result"), "missed": ("missed",)}
 ODD = re.compile(r'[^ !#-\[\]-~]')
@@ -168,7 +169,8 @@ def json_lines(hunt: Hunt) -> Iterator[str]:
     yield json_line({"hunt": 1, "seed": hunt.seed, "from": hunt.start, "runs": hunt.runs, "expects": hunt.expects, "all_stopped": hunt.all_stopped,
                      "left_out": hunt.left_out, **counts})
     for told in hunt.told:
-        yield json_line({**told.members, **dataclasses.asdict(told.count)})
+        added = {name: value for name, value in told.members.items() if name in ADDED}
+        yield json_line({**{name: value for name, value in told.members.items() if name not in ADDED}, **dataclasses.asdict(told.count), **added})
 
 
 def json_line(value: Any) -> str:

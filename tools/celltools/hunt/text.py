@@ -1,5 +1,5 @@
 """The text of a hunt, as `./hunt MACHINE` prints it, of the objects that it prints with --json."""
-from typing import Iterator, List
+from typing import Iterator, List, Optional
 
 from celltools.common.texts import decoded, lines_in
 from celltools.hunt.outputs import Count, Hunt, Told
@@ -63,6 +63,13 @@ def lines_of_hunt(hunt: Hunt) -> Iterator[str]:
         yield f"missed {counted(line.count)} {decoded(line.members['missed'].encode('latin-1'))}"  # it has a character a byte
     if hunt.left_out:
         yield f"left out {hunt.left_out}"
+    yield from both_orders(hunt.machine["machine"], hunt.seed, hunt.flaws["race"].first)
+
+
+def both_orders(machine: str, seed: int, run: Optional[int]) -> Iterator[str]:
+    """How both orders of the first race are seen, which this run has, None where none has one."""
+    if run is not None:
+        yield f"both orders of a race, as short records: tools/witness --run {run} {'' if seed == 1 else f'--seed {seed} '}{machine}"
 
 
 def with_places(text: str, told: Told) -> str:

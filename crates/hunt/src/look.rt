@@ -1,0 +1,100 @@
+//! What standard error shows of a hunt where it is a terminal.
+
+use hunt_forms::Progress;
+use hunt_tally::Hunted;
+use std::io::IsTerminal;
+use std::time::Instant;
+
+/// How long the threads are to be busy at most before the next look, and how long a line stands at least, in milliseconds.
+const BUSY: u128 = 200;
+
+const STANDS: u128 = 100;
+
+/// How many runs a thread makes at most before the next look.
+const MOST_SHARE: u32 = 4096;
+
+/// Shows how far a hunt is, and finds out how many runs fit between two looks.
+#[derive(Drop)]
+pub struct Look<'a> {
+    rt: &'a HostRuntime,
+    is_terminal: bool,
+    /// When the hunt began, and since when the line stands.
+    began: Option<Instant>,
+    stands: Option<Instant>,
+    /// How many runs each thread makes, and since when.
+    share: u32,
+    busy: Option<Instant>,
+}
+
+/// How many milliseconds have passed since then; 0 where that can't be told.
+fn since(rt: &HostRuntime, then: Option<Instant>) -> u128 {
+    match then {
+        Some(then) => match then.elapsed(rt) {
+            Ok(passed) => passed.as_millis(),
+            Err(_) => 0,
+        },
+        None => 0,
+    }
+}
+
+impl<'a> Look<'a> {
+    /// Before the first run.
+    pub fn new(rt: &'a HostRuntime) -> Look<'a> {
+        let now = Instant::now(rt).ok();
+        Look {
+            rt,
+            is_terminal: rt.stderr().is_terminal(),
+            began: now,
+            stands: now,
+            share: 1,
+            busy: None,
+        }
+    }
+
+    /// Writes the line over the last one.
+    fn write(&self, hunted: &Hunted, runs: u32) {
+        let rt = self.rt;
+        let passed = since(rt, self.began).max(1);
+        let a_second = u128::from(hunted.runs()) * 1000 / passed;
+        let flaws = hunted.flaws();
+        let _ = eprint!(rt;
+            "\rrun {} of {runs}, {a_second} a second: {} with a race, {} stuck, {} over budget, {} with a fault, {} halted, {} missing a line\x1b[K",
+            hunted.runs(),
+            flaws.race.runs,
+            flaws.stuck.runs,
+            flaws.budget.runs,
+            flaws.fault.runs,
+            flaws.halt.runs,
+            flaws.missed.runs
+        );
+    }
+}
+
+impl<'a> Progress for Look<'a> {
+    /// Twice as many as before while they take less than half of the time that threads are to be busy, and half as many where they take longer.
+    fn share(&mut self) -> u32 {
+        let took = since(self.rt, self.busy);
+        if self.busy.is_some() && took > BUSY {
+            self.share = (self.share / 2).max(1);
+        } else if self.busy.is_some() && took < BUSY / 2 {
+            self.share = (self.share.saturating_mul(2)).min(MOST_SHARE);
+        }
+        self.busy = Instant::now(self.rt).ok();
+        self.share
+    }
+
+    fn show(&mut self, hunted: &Hunted, runs: u32) {
+        if self.is_terminal && since(self.rt, self.stands) >= STANDS {
+            self.write(hunted, runs);
+            self.stands = Instant::now(self.rt).ok();
+        }
+    }
+
+    /// Wipes the line.
+    fn end(&mut self) {
+        if self.is_terminal {
+            let rt = self.rt;
+            let _ = eprint!(rt; "\r\x1b[K");
+        }
+    }
+}

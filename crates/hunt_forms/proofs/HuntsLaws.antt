@@ -1,0 +1,110 @@
+-- What runs tell, while they are made.
+use Rattle.std.proofs.Common.{◌≡◌, ℕ, ◌+◌, ◌*◌, ◌<◌, ◌^◌, Bool, true, false, List, [], ◌∷◌, ◌++◌, length, refl, sym, ap, subst, ◌∙◌, arith, length-append, append_assoc}
+use Rattle.std.specs.Prelude.{◌||◌, slice_index_or, Result, Ok, IfOk, is_some, if◌then◌else◌}
+use Rattle.std.specs.List.{flat_map, list_any}
+use Rattle.std.proofs.lemmas.List.{append-nil, length_push}
+use Rattle.std.proofs.lemmas.List.Folds.{list_any-append}
+use Rattle.std.proofs.lemmas.List.Concat.{flat_map-append}
+use Rattle.cell_machine.specs.Opening.{Opening}
+use Rattle.hunt_tally.specs.Reports.{Reported, Sums, hunted, is_flawed}
+use Rattle.hunt_texts.specs.Texts.{hunt_text}
+use Rattle.hunt_texts.specs.Jsons.{hunt_json}
+use Rattle.hunt_reports.specs.declared.asked.Asked.{Asked as Question}
+use Rattle.hunt_forms.specs.declared.each.Told.{Told}
+use Rattle.hunt_forms.specs.declared.input.Quarry.{Quarry}
+use Rattle.hunt_forms.specs.declared.fault.Status.{Status}
+use Rattle.hunt_forms.specs.Words.{Asked}
+use Rattle.hunt_forms.specs.Hunts.{Each, status_of, TellsHunt, TellsEach, HasTaken, HasRoom, IsShare, IsReportOfSeed, AreReports, IsTold, AreTold, TellsRuns, told_line, is_racy}
+use Rattle.hunt_forms.proofs.Eaches.{each-none, each-append, each-snoc}
+
+pub runs_of : (reports : List Reported) → (hunted reports).runs ≡ length reports
+unfolding hunted
+runs_of reports = refl
+
+or-false : (b : Bool) → b || false ≡ b
+or-false true = refl
+or-false false = refl
+
+any_more : (xs : List Told) (x : Told) → list_any is_racy (xs ++ x ∷ []) ≡ list_any is_racy xs || is_racy x
+any_more xs x = list_any-append is_racy xs (x ∷ []) ∙ ap (λ b. list_any is_racy xs || b) (or-false (is_racy x))
+
+lines_more : (xs : List Told) (x : Told) → flat_map told_line (xs ++ x ∷ []) ≡ flat_map told_line xs ++ told_line x
+lines_more xs x = flat_map-append told_line xs (x ∷ []) ∙ ap (λ (l : List ℕ). flat_map told_line xs ++ l) (append-nil (told_line x))
+
+pub told_none : (setup : Opening) (seed from : ℕ) (text : List ℕ) → text ≡ [] → TellsRuns setup seed from 0 text false
+told_none setup seed from text is = record { all = []; count = refl; each = each-none (IsTold setup seed) from; says = is; found = refl }
+
+-- one more run
+pub told_more : (setup : Opening) (seed from runs : ℕ) (old new : List ℕ) (was is : Bool) (t : Told) → IsTold setup seed (from + runs) t → new ≡ old ++ told_line t → is ≡ is_racy t → TellsRuns setup seed from runs old was → TellsRuns setup seed from (runs + 1) new (was || is)
+told_more setup seed from runs old new was is t told text racy so_far = record {
+  all = so_far.all ++ t ∷ [];
+  count = length_push so_far.all t ∙ (let n = so_far.count in omega (arith, n));
+  each = each-snoc (IsTold setup seed) from (from + runs) so_far.all t (let n = so_far.count in omega (arith, n)) so_far.each told;
+  says = text ∙ ap (λ (x : List ℕ). x ++ told_line t) so_far.says ∙ sym (lines_more so_far.all t);
+  found = ap (λ b. b || is) so_far.found ∙ ap (λ b. list_any is_racy so_far.all || b) racy ∙ sym (any_more so_far.all t);
+}
+
+-- ---- shares
+
+-- the reports of one more share
+pub has_more : (q : Quarry) (seed from made share : ℕ) (old new : Sums) (xs : List Reported) → HasTaken q seed from made old → IsShare q seed (from + made) share xs
+    → ((before : List Reported) → old ≡ hunted before → new ≡ hunted (before ++ xs)) → HasTaken q seed from (made + share) new
+has_more q seed from made share old new xs taken is goes =
+    let both = length-append taken.reports xs in
+    let count = taken.count in
+    let all = is.all in
+    record {
+      reports = taken.reports ++ xs;
+      count = omega (arith, both, count, all);
+      each = each-append (IsReportOfSeed q.setup q.asked seed) from (from + made) taken.reports xs (omega (arith, count)) taken.each is.each;
+      told = goes taken.reports taken.told;
+    }
+
+pub has_none : (q : Quarry) (seed from : ℕ) (h : Sums) → h ≡ hunted [] → HasTaken q seed from 0 h
+has_none q seed from h is = record { reports = []; count = refl; each = each-none (IsReportOfSeed q.setup q.asked seed) from; told = is }
+
+-- there is room for as many as are left
+pub has_room : (q : Quarry) (seed from made more : ℕ) (h : Sums) → HasTaken q seed from made h → made + more + 2 < 2 ^ 32 → HasRoom more h
+has_room q seed from made more h taken room = record { before = taken.reports; told = taken.told; room = (let count = taken.count in omega (arith, count, room)) }
+
+-- the next share of those that are left
+pub next_is : {X : Type 0} (all before rest : List X) (x : X) → before ++ x ∷ rest ≡ all → x ≡ slice_index_or all (length before) x
+next_is {X = X} all before rest x same = sym (ap (λ xs. slice_index_or xs (length before) x) (sym same) ∙ at before)
+  where
+    at : (xs : List X) → slice_index_or (xs ++ x ∷ rest) (length xs) x ≡ x
+    at [] = refl
+    at (y ∷ xs) = at xs
+
+pub next_inside : {X : Type 0} (all before rest : List X) (x : X) → before ++ x ∷ rest ≡ all → length before < length all
+next_inside all before rest x same = let n = ap length same in let parts = length-append before (x ∷ rest) in omega (arith, n, parts)
+
+pub taken_runs : (q : Quarry) (seed from made : ℕ) (h : Sums) → HasTaken q seed from made h → h.runs ≡ made
+taken_runs q seed from made h taken = ap (λ s. s.runs) taken.told ∙ runs_of taken.reports ∙ taken.count
+
+pub each_writes : (setup : Opening) (seed from runs : ℕ) (items text : List ℕ) (racy : Bool) (status : Status) → TellsRuns setup seed from runs items racy → text ≡ items → status ≡ status_of racy → TellsEach setup from runs seed status text
+each_writes setup seed from runs items text racy status t is same = record { all = t.all; count = t.count; each = t.each; says = is ∙ t.says; found = same ∙ ap status_of t.found }
+
+pub hunt_writes : (setup : Opening) (question : Question) (a : Asked) (items text : List ℕ) (found : Bool) (status : Status) → TellsHunt setup question a (status_of found) items → text ≡ items → status ≡ status_of found → TellsHunt setup question a status text
+hunt_writes setup question a items text found status t is same =
+    subst (λ s. TellsHunt setup question a s text) (sym same) (subst (λ x. TellsHunt setup question a (status_of found) x) (sym is) t)
+
+pub of_ok : {A E : Type 0} (P : A → Type 0) (r : Result A E) (x : A) → r ≡ Ok x → IfOk r P → P x
+of_ok P r x is holds = subst (λ o. IfOk o P) is holds
+
+-- ---- a hunt
+
+pub hunt_tells : (q : Quarry) (a : Asked) (h : Sums) (text : List ℕ) (expects found : Bool) → HasTaken q a.seed a.from a.runs h → expects ≡ is_some a.expect
+    → ((reports : List Reported) → h ≡ hunted reports → found ≡ list_any is_flawed reports) → text ≡ (if a.json then hunt_json h a.seed a.from expects else hunt_text h a.seed a.from expects) → TellsHunt q.setup q.asked a (status_of found) text
+hunt_tells q a h text expects found taken wants finds is = record {
+  reports = taken.reports;
+  count = taken.count;
+  each = taken.each;
+  says = is ∙ ap (λ (b : Bool). if a.json then hunt_json h a.seed a.from b else hunt_text h a.seed a.from b) wants ∙ ap (λ (s : Sums). if a.json then hunt_json s a.seed a.from (is_some a.expect) else hunt_text s a.seed a.from (is_some a.expect)) taken.told;
+  found = ap status_of (finds taken.reports taken.told);
+}
+
+pub text_then : (b : Bool) (text x y : List ℕ) → b ≡ true → text ≡ x → text ≡ (if b then x else y)
+text_then b text x y is same = subst (λ (c : Bool). text ≡ (if c then x else y)) (sym is) same
+
+pub text_else : (b : Bool) (text x y : List ℕ) → b ≡ false → text ≡ y → text ≡ (if b then x else y)
+text_else b text x y is same = subst (λ (c : Bool). text ≡ (if c then x else y)) (sym is) same

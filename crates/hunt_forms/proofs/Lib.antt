@@ -1,0 +1,6 @@
+pub mod WordsLaws
+pub mod Eaches
+pub mod FilesLaws
+pub mod HuntsLaws
+pub mod AnswersLaws
+pub mod KeysLaws

@@ -1,0 +1,10 @@
+pub mod Numbers
+pub mod Heard
+pub mod Words
+pub mod Lines
+pub mod Expected
+pub mod Passes
+pub mod Code
+pub mod Files
+pub mod Hunts
+pub mod Answers

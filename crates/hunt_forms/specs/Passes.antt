@@ -1,0 +1,102 @@
+-- What a pass file says: the races that are left out.
+use Rattle.std.specs.Prelude.{◌≡◌, ℕ, ◌==◌, Bool, false, nat_lt, List, [], ◌∷◌, codes, if◌then◌else◌, Option, Some, None, is_none, Result, Ok, Err}
+use Rattle.cell_base.specs.Numbers.{◌>>=◌, word_number}
+use Rattle.cell_base.specs.Words.{lines_of, words_in}
+use Rattle.cell_base.specs.Walk.{walk}
+use Rattle.cell_hunt.specs.declared.site.Site.{Site}
+use Rattle.cell_hunt.specs.declared.site.Sites.{Sites}
+use Rattle.cell_hunt.specs.declared.site.Site.TheVariants.{Exec, Piece, Elem, Retire, Atomic, Host}
+use Rattle.hunt_forms.specs.declared.passes.PassError.{PassError}
+use Rattle.hunt_forms.specs.declared.passes.PassError.TheVariants.{BadLine, Memory}
+use Rattle.hunt_forms.specs.Heard.{is_word}
+use Rattle.hunt_forms.specs.Lines.{without_return}
+
+-- a word, and the words behind it
+abbrev pub word_at : List (List ℕ) → Option (List ℕ × List (List ℕ))
+word_at [] = None
+word_at (word ∷ words) = Some (word, words)
+
+-- a number, and the words behind it
+unfoldable pub number_in : List (List ℕ) → Option (ℕ × List (List ℕ))
+number_in words = word_at words >>= λ w. word_number w.0 >>= λ n. Some (n, w.1)
+
+-- a processor, of so many
+unfoldable pub spe_in : ℕ → List (List ℕ) → Option (ℕ × List (List ℕ))
+spe_in spes words = number_in words >>= λ n. if nat_lt n.0 spes then Some n else None
+
+-- this very word, and the words behind it
+unfoldable pub mark_in : List ℕ → List (List ℕ) → Option (List (List ℕ))
+mark_in mark words = word_at words >>= λ w. if is_word w.0 mark then Some w.1 else None
+
+-- the words behind the next bar
+unfoldable pub behind_bar : List (List ℕ) → Option (List (List ℕ))
+behind_bar [] = None
+behind_bar (word ∷ words) = if is_word word (codes "|") then Some words else behind_bar words
+
+-- the site of a step whose line begins with this letter
+abbrev pub site_named : List ℕ → ℕ → ℕ → Option Site
+site_named letter spe place =
+    if is_word letter (codes "x") then Some (Exec spe place)
+    else if is_word letter (codes "p") then Some (Piece spe place)
+    else if is_word letter (codes "e") then Some (Elem spe place)
+    else if is_word letter (codes "r") then Some (Retire spe place)
+    else if is_word letter (codes "a") then Some (Atomic spe place)
+    else None
+
+-- `x 0 at 0x00080`, behind its letter
+unfoldable pub spe_site : ℕ → List ℕ → List (List ℕ) → Option (Site × List (List ℕ))
+spe_site spes letter words =
+    spe_in spes words >>= λ spe. mark_in (codes "at") spe.1 >>= λ rest. number_in rest >>= λ place. site_named letter spe.0 place.0 >>= λ site. Some (site, place.1)
+
+-- `h 3`, behind its letter
+unfoldable pub host_site : List (List ℕ) → Option (Site × List (List ℕ))
+host_site words = number_in words >>= λ action. Some (Host action.0, action.1)
+
+-- a site, and the words behind it
+unfoldable pub site_in : ℕ → List (List ℕ) → Option (Site × List (List ℕ))
+site_in spes words = word_at words >>= λ w. if is_word w.0 (codes "h") then host_site w.1 else spe_site spes w.0 w.1
+
+-- `race COUNT FIRST |`, or the bar alone; and the words behind it
+unfoldable pub head_in : List (List ℕ) → Option (List (List ℕ))
+head_in words =
+    word_at words >>= λ w.
+    if is_word w.0 (codes "race") then (number_in w.1 >>= λ count. number_in count.1 >>= λ first. mark_in (codes "|") first.1)
+    else mark_in (codes "|") words
+
+-- two sites, each behind a bar; behind each may stand where it is in a source
+unfoldable pub race_in : ℕ → List (List ℕ) → Option Sites
+race_in spes words =
+    head_in words >>= λ rest. site_in spes rest >>= λ first. behind_bar first.1 >>= λ more. site_in spes more >>= λ second.
+    if is_none (behind_bar second.1) then Some (record { first = first.0; second = second.0 }) else None
+
+-- ---- all lines
+
+abbrev pub has_hash : List ℕ → Bool
+has_hash [] = false
+has_hash (b ∷ bs) = b == 35
+
+abbrev pub placed_race : Option Sites → Result (Option (Sites × Unit {0})) (Unit {0})
+placed_race None = Err tt
+placed_race (Some race) = Ok (Some (race, tt))
+
+-- a line without words, or with a comment alone, is skipped
+abbrev pub words_step : ℕ → List (List ℕ) → Result (Option (Sites × Unit {0})) (Unit {0})
+words_step spes [] = Ok None
+words_step spes (word ∷ words) = if has_hash word then Ok None else placed_race (race_in spes (word ∷ words))
+
+unfoldable pub line_step : ℕ → Unit {0} → List ℕ → Result (Option (Sites × Unit {0})) (Unit {0})
+line_step spes s line = words_step spes (words_in (without_return line))
+
+-- a pass file may end anywhere
+abbrev pub lacks : Unit {0} → Option (Unit {0})
+lacks s = None
+
+-- the races of the lines of a text, where a machine has so many processors; or the first line that names none
+abbrev pub passes_at : ℕ → List ℕ → Result (List Sites) (ℕ × Unit {0})
+passes_at spes text = walk (line_step spes) lacks 1 tt (lines_of text)
+
+-- What a function returned, seen by view, is what reading gives, unless memory ran out.
+abbrev pub PassesGive : {X : Type 0} → (X → List Sites) → Result X PassError → Result (List Sites) (ℕ × Unit {0}) → Type 0
+PassesGive view (Ok x) read = read ≡ Ok (view x)
+PassesGive view (Err (BadLine line)) read = read ≡ Err (line, tt)
+PassesGive view (Err Memory) read = Unit {0}

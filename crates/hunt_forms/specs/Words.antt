@@ -1,0 +1,155 @@
+-- The forms of words.
+use Rattle.std.specs.Prelude.{◌≡◌, ℕ, ◌+◌, ◌-◌, ◌≤◌, ◌<◌, ◌^◌, nat_le, nat_lt, Bool, true, false, ◌&&◌, List, [], ◌∷◌, if◌then◌else◌, codes, Option, Some, None, IfSome, unwrap_or, is_none, not}
+use Rattle.std.specs.Option.{option_map}
+use Rattle.std.specs.List.{list_any}
+use Rattle.cell_base.specs.Numbers.{◌>>=◌}
+use Rattle.hunt_forms.specs.Numbers.{number_within}
+use Rattle.hunt_forms.specs.Heard.{Word, is_word, texts_of, Said, silent, said_on}
+use Rattle.hunt_forms.specs.declared.words.Form.{Form}
+use Rattle.hunt_forms.specs.declared.words.Form.TheVariants as form
+use Rattle.hunt_forms.specs.declared.words.Hunt.{Hunt}
+
+-- a hunt that is asked for
+pub record Asked : Type 0 where
+  pub machine : Word
+  -- the number of the first run, and how many
+  pub from : ℕ
+  pub runs : ℕ
+  pub seed : ℕ
+  -- on how many threads, where it is said
+  pub jobs : Option ℕ
+  -- the expectation file and the pass file
+  pub expect : Option Word
+  pub pass : Option Word
+  pub json : Bool
+
+-- what the words say
+pub data Spoken : Type 0 where
+  hunt : Asked → Spoken
+  each : Word → ℕ → ℕ → ℕ → Spoken
+  record_of : Word → ℕ → ℕ → Spoken
+  help : Spoken
+  no_form : Spoken
+
+-- ---- limits
+
+abbrev pub most_runs : ℕ
+most_runs = 1000000
+
+abbrev pub most_jobs : ℕ
+most_jobs = 256
+
+abbrev pub most_run : ℕ
+most_run = 2 ^ 32 - 1
+
+abbrev pub most_seed : ℕ
+most_seed = 2 ^ 64 - 1
+
+-- ---- the words of options and places
+
+-- said by a place or by an option, and not by both
+abbrev pub either : Option Word → Option Word → Option (Option Word)
+either None option = Some option
+either (Some place) None = Some (Some place)
+either (Some place) (Some option) = None
+
+abbrev pub number_or : ℕ → ℕ → Option Word → Option ℕ
+number_or default limit None = Some default
+number_or default limit (Some word) = number_within limit word
+
+-- a number from 1 to the limit
+abbrev pub positive : ℕ → Option ℕ
+positive n = if nat_lt 0 n then Some n else None
+
+abbrev pub count_within : ℕ → Word → Option ℕ
+count_within limit word = number_within limit word >>= positive
+
+-- how many runs, 200 where it isn't said
+abbrev pub runs_said : Option Word → Option ℕ
+runs_said None = Some 200
+runs_said (Some word) = count_within most_runs word
+
+-- the seed, 1 where it isn't said
+abbrev pub seed_said : Option Word → Option ℕ
+seed_said word = number_or 1 most_seed word
+
+-- the number of the first of so many runs, 0 where it isn't said
+abbrev pub from_said : Option Word → ℕ → Option ℕ
+from_said word runs = number_or 0 most_run word >>= λ from. if nat_le (from + runs) most_run then Some from else None
+
+-- on how many threads, where it is said
+abbrev pub jobs_said : Option Word → Option (Option ℕ)
+jobs_said None = Some None
+jobs_said (Some word) = option_map Some (count_within most_jobs word)
+
+-- ---- forms
+
+-- nothing is said that is of hunts alone
+abbrev pub is_plain : Said → Bool
+is_plain s = is_none s.jobs && is_none s.expect && is_none s.pass && not s.json
+
+abbrev pub hunt_said : Said → Word → Option Word → Option Word → Option Spoken
+hunt_said s machine runs seed =
+    runs_said runs >>= λ runs. seed_said seed >>= λ seed. from_said s.from runs >>= λ from. jobs_said s.jobs >>= λ jobs.
+    Some (hunt (record { machine = machine; from = from; runs = runs; seed = seed; jobs = jobs; expect = s.expect; pass = s.pass; json = s.json }))
+
+abbrev pub each_said : Said → Word → Option Word → Option Word → Option Spoken
+each_said s machine runs seed =
+    if is_plain s then (runs_said runs >>= λ runs. seed_said seed >>= λ seed. from_said s.from runs >>= λ from. Some (each machine from runs seed))
+    else None
+
+abbrev pub record_said : Said → Word → Option Word → Option Word → Option Spoken
+record_said s machine run seed =
+    if is_plain s && is_none s.runs && is_none s.from then (run >>= λ word. number_within most_run word >>= λ run. seed_said seed >>= λ seed. Some (record_of machine run seed))
+    else None
+
+-- `MACHINE`, `MACHINE RUNS [SEED]`, `MACHINE each [RUNS [SEED]]` or `MACHINE record K [SEED]`, where a number may be said by an option instead
+abbrev pub placed : Said → Word → Option Word → Option Spoken
+placed s machine None = hunt_said s machine s.runs s.seed
+placed s machine (Some word) =
+    if is_word word (codes "record") then (either s.third s.seed >>= λ seed. record_said s machine s.second seed)
+    else if is_word word (codes "each") then (either s.second s.runs >>= λ runs. either s.third s.seed >>= λ seed. each_said s machine runs seed)
+    else if is_none s.third then (either (Some word) s.runs >>= λ runs. either s.second s.seed >>= λ seed. hunt_said s machine runs seed)
+    else None
+
+-- no option awaits a word, and a machine file is named
+abbrev pub form_said : Said → Option Spoken
+form_said s = if is_none s.awaited then (s.machine >>= λ machine. placed s machine s.first) else None
+
+abbrev pub asks_help : List Word → Bool
+asks_help words = list_any (λ word. is_word word (codes "--help")) words
+
+abbrev pub spoken : List Word → Spoken
+spoken words = if asks_help words then help else unwrap_or (said_on silent words >>= form_said) no_form
+
+-- ---- what a form that was read says
+
+abbrev pub asked : Hunt → Asked
+asked h = record {
+  machine = h.machine.now;
+  from = h.from;
+  runs = h.runs;
+  seed = h.seed;
+  jobs = h.jobs;
+  expect = texts_of h.expect;
+  pass = texts_of h.pass;
+  json = h.json;
+}
+
+abbrev pub said : Form → Spoken
+said (form.Hunt h) = hunt (asked h)
+said (form.Each machine from runs seed) = each machine.now from runs seed
+said (form.Record machine run seed) = record_of machine.now run seed
+said form.Help = help
+said form.NoForm = no_form
+
+-- runs from a number on are numbered within 32 bits, and they are some and not too many
+pub record AreRuns (from runs : ℕ) : Type 0 where
+  pub some : 0 < runs
+  pub few : runs ≤ most_runs
+  pub numbered : from + runs ≤ most_run
+
+abbrev pub IsWithin : Form → Type 0
+IsWithin (form.Hunt h) = AreRuns h.from h.runs × IfSome h.jobs (λ jobs. (0 < jobs) × (jobs ≤ most_jobs))
+IsWithin (form.Each machine from runs seed) = AreRuns from runs
+IsWithin other = Unit {0}

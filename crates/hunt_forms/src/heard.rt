@@ -1,0 +1,198 @@
+//! The words of the command line, one after the other.
+
+ghost use Rattle.std.specs.Prelude.{◌≡◌, map, string_bytes};
+ghost use Rattle.std.specs.Option.{option_map};
+ghost use Rattle.hunt_forms.specs.Heard.{has_dash, heard, texts_of, silent, plain_key, key_of, once, with_value, with_place, with_json, with_plain, with_word, said_on};
+
+/// An option that has a word behind it.
+#[derive(Clone, Copy, PartialEq, Eq)]
+pub enum Key {
+    Runs,
+    Seed,
+    From,
+    Jobs,
+    Expect,
+    Pass,
+}
+
+/// What was said so far.
+#[derive(Clone, Copy)]
+pub struct Heard<'a> {
+    /// By places: the machine file, and up to three words behind it.
+    pub machine: Option<&'a str>,
+    pub first: Option<&'a str>,
+    pub second: Option<&'a str>,
+    pub third: Option<&'a str>,
+    /// By options.
+    pub runs: Option<&'a str>,
+    pub seed: Option<&'a str>,
+    pub from: Option<&'a str>,
+    pub jobs: Option<&'a str>,
+    pub expect: Option<&'a str>,
+    pub pass: Option<&'a str>,
+    pub json: bool,
+    /// The option of which the word comes next.
+    pub awaited: Option<Key>,
+}
+
+fn has_dash(word: &str) -> bool
+    ensures { result ≡ has_dash word.now }
+{
+    match word.as_bytes() {
+        [b, ..] => *b == b'-',
+        [] => false,
+    }
+}
+
+/// The option that is said without dashes behind the machine file.
+fn plain_key(machine: Option<&str>, word: &str) -> Option<Key>
+    ensures { result ≡ plain_key (texts_of machine.entry) word.now }
+{
+    match machine {
+        Some(_) if word == "expect" => Some(Key::Expect),
+        Some(_) if word == "pass" => Some(Key::Pass),
+        _ => None,
+    }
+}
+
+/// The option that has a word behind it.
+fn key_of(machine: Option<&str>, word: &str) -> Option<Key>
+    ensures { result ≡ key_of (texts_of machine.entry) word.now }
+{
+    match word {
+        "--runs" => Some(Key::Runs),
+        "--seed" => Some(Key::Seed),
+        "--from" => Some(Key::From),
+        "--jobs" => Some(Key::Jobs),
+        "--expect" => Some(Key::Expect),
+        "--pass" => Some(Key::Pass),
+        _ => plain_key(machine, word),
+    }
+}
+
+impl<'a> Heard<'a> {
+    /// Before the first word.
+    pub fn new() -> Heard<'a>
+        ensures { heard result ≡ silent }
+    {
+        Heard {
+            machine: None,
+            first: None,
+            second: None,
+            third: None,
+            runs: None,
+            seed: None,
+            from: None,
+            jobs: None,
+            expect: None,
+            pass: None,
+            json: false,
+            awaited: None,
+        }
+    }
+
+    /// The word of an option, which is said once.
+    fn with_value(self, key: Key, word: &'a str) -> Option<Heard<'a>>
+        ensures { option_map heard result ≡ with_value (heard self.entry) key word.now }
+    {
+        let old = Heard {
+            awaited: None,
+            ..self
+        };
+        let value = Some(word);
+        match key {
+            Key::Runs if old.runs.is_none() => Some(Heard { runs: value, ..old }),
+            Key::Seed if old.seed.is_none() => Some(Heard { seed: value, ..old }),
+            Key::From if old.from.is_none() => Some(Heard { from: value, ..old }),
+            Key::Jobs if old.jobs.is_none() => Some(Heard { jobs: value, ..old }),
+            Key::Expect if old.expect.is_none() => Some(Heard {
+                expect: value,
+                ..old
+            }),
+            Key::Pass if old.pass.is_none() => Some(Heard { pass: value, ..old }),
+            _ => None,
+        }
+    }
+
+    /// The next place.
+    fn with_place(self, word: &'a str) -> Option<Heard<'a>>
+        ensures { option_map heard result ≡ with_place (heard self.entry) (heard self.entry).machine (heard self.entry).first (heard self.entry).second (heard self.entry).third word.now }
+    {
+        let place = Some(word);
+        match (self.machine, self.first, self.second, self.third) {
+            (None, _, _, _) => Some(Heard {
+                machine: place,
+                ..self
+            }),
+            (_, None, _, _) => Some(Heard {
+                first: place,
+                ..self
+            }),
+            (_, _, None, _) => Some(Heard {
+                second: place,
+                ..self
+            }),
+            (_, _, _, None) => Some(Heard {
+                third: place,
+                ..self
+            }),
+            _ => None,
+        }
+    }
+
+    fn with_json(self) -> Option<Heard<'a>>
+        ensures { option_map heard result ≡ with_json (heard self.entry) self.entry.json }
+    {
+        if self.json {
+            return None;
+        }
+        Some(Heard { json: true, ..self })
+    }
+
+    /// An option without a word behind it, or a place: no other word has a dash in front.
+    fn with_plain(self, word: &'a str) -> Option<Heard<'a>>
+        ensures { option_map heard result ≡ with_plain (heard self.entry) word.now }
+    {
+        if word == "--json" {
+            self.with_json()
+        } else if has_dash(word) {
+            None
+        } else {
+            self.with_place(word)
+        }
+    }
+
+    /// The next word, which may be the one that an option awaits.
+    fn with_word(self, word: &'a str) -> Option<Heard<'a>>
+        ensures { option_map heard result ≡ with_word (heard self.entry) word.now }
+    {
+        if let Some(key) = self.awaited {
+            return self.with_value(key, word);
+        }
+        match key_of(self.machine, word) {
+            Some(key) => Some(Heard {
+                awaited: Some(key),
+                ..self
+            }),
+            None => self.with_plain(word),
+        }
+    }
+}
+
+/// What the words say behind those that were heard, None where one is no option and has no place.
+#[tactic(auto, unfolding(crate::specs::Heard::said_on))]
+fn hear_on<'a>(so_far: Heard<'a>, words: &'a [String]) -> Option<Heard<'a>>
+    ensures { option_map heard result ≡ said_on (heard so_far.entry) (map string_bytes words.now) }
+{
+    match words {
+        [] => Some(so_far),
+        [word, rest @ ..] => hear_on(so_far.with_word(word.as_str())?, rest),
+    }
+}
+
+/// What the words say.
+pub fn hear(words: &[String]) -> Option<Heard<'_>>
+    ensures { option_map heard result ≡ said_on silent (map string_bytes words.now) }
+{
+    hear_on(Heard::new(), words)
+}

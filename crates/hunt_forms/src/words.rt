@@ -1,0 +1,259 @@
+//! The forms of words.
+
+ghost use Rattle.std.specs.Prelude.{◌≡◌, ◌≤◌, ◌<◌, ◌+◌, ℕ, Some, IfSome, map, option_and_then, string_bytes};
+ghost use Rattle.std.specs.Option.{option_map};
+ghost use Rattle.hunt_forms.specs.Heard.{heard, texts_of, silent, said_on};
+ghost use Rattle.hunt_forms.specs.Words.{asks_help, count_within, either, number_or, runs_said, seed_said, from_said, jobs_said, is_plain, hunt_said, each_said, record_said, placed, form_said, spoken, said, most_runs, most_run, most_jobs, AreRuns, IsWithin};
+
+use crate::heard::{Heard, hear};
+use crate::numbers::number_of;
+
+/// How many runs a hunt may make, and how many where the words don't say.
+const MOST_RUNS: u32 = 1_000_000;
+
+const FEW_RUNS: u32 = 200;
+
+/// On how many threads a hunt may run.
+const MOST_JOBS: u32 = 256;
+
+/// A hunt that is asked for.
+#[derive(Clone, Copy)]
+pub struct Hunt<'a> {
+    pub machine: &'a str,
+    /// The number of the first run, and how many.
+    pub from: u32,
+    pub runs: u32,
+    pub seed: u64,
+    /// On how many threads, where it is said.
+    pub jobs: Option<u32>,
+    /// The expectation file and the pass file.
+    pub expect: Option<&'a str>,
+    pub pass: Option<&'a str>,
+    pub json: bool,
+}
+
+/// What the words ask for.
+#[derive(Clone, Copy)]
+pub enum Form<'a> {
+    /// To make runs, and to tell what was found.
+    Hunt(Hunt<'a>),
+    /// To make so many runs, and to tell of each how it ends and its race.
+    Each {
+        machine: &'a str,
+        from: u32,
+        runs: u32,
+        seed: u64,
+    },
+    /// To print what `cell run` would print of this run.
+    Record {
+        machine: &'a str,
+        run: u32,
+        seed: u64,
+    },
+    Help,
+    NoForm,
+}
+
+/// The word of a place or of an option; `Err` where both are said.
+fn either<'a>(place: Option<&'a str>, option: Option<&'a str>) -> Option<Option<&'a str>>
+    ensures { option_map texts_of result ≡ either (texts_of place.entry) (texts_of option.entry) }
+{
+    match (place, option) {
+        (None, _) => Some(option),
+        (Some(_), None) => Some(place),
+        (Some(_), Some(_)) => None,
+    }
+}
+
+/// A number from 1 to the limit.
+fn count_of(word: &str, limit: u32) -> Option<u32>
+    ensures value { result ≡ count_within limit word.now }
+    ensures bounds { IfSome result (λ n. (0 < n) × (n ≤ limit)) }
+{
+    let n = number_of(word, u64::from(limit))?;
+    if n > 0 { Some(n as u32) } else { None }
+}
+
+fn runs_of(word: Option<&str>) -> Option<u32>
+    ensures value { result ≡ runs_said (texts_of word.entry) }
+    ensures bounds { IfSome result (λ n. (0 < n) × (n ≤ most_runs)) }
+{
+    match word {
+        Some(word) => count_of(word, MOST_RUNS),
+        None => Some(FEW_RUNS),
+    }
+}
+
+fn seed_of(word: Option<&str>) -> Option<u64>
+    ensures { result ≡ seed_said (texts_of word.entry) }
+{
+    match word {
+        Some(word) => number_of(word, u64::MAX),
+        None => Some(1),
+    }
+}
+
+/// The number of a run.
+fn run_of(word: &str) -> Option<u32>
+    ensures { result ≡ number_or 0 most_run (Some word.now) }
+{
+    let n = number_of(word, u64::from(u32::MAX))?;
+    Some(n as u32)
+}
+
+/// The number of the first of so many runs.
+fn from_of(word: Option<&str>, runs: u32) -> Option<u32>
+    ensures value { result ≡ from_said (texts_of word.entry) runs }
+    ensures bounds { IfSome result (λ from. from + runs ≤ most_run) }
+{
+    let from = match word {
+        Some(word) => run_of(word)?,
+        None => 0,
+    };
+    if u64::from(from) + u64::from(runs) <= u64::from(u32::MAX) {
+        Some(from)
+    } else {
+        None
+    }
+}
+
+fn jobs_of(word: Option<&str>) -> Option<Option<u32>>
+    ensures value { result ≡ jobs_said (texts_of word.entry) }
+    ensures bounds { IfSome result (λ jobs. IfSome jobs (λ n. (0 < n) × (n ≤ most_jobs))) }
+{
+    match word {
+        Some(word) => Some(Some(count_of(word, MOST_JOBS)?)),
+        None => Some(None),
+    }
+}
+
+/// Whether nothing is said that is of hunts alone.
+fn is_plain(words: &Heard) -> bool
+    ensures { result ≡ is_plain (heard words.now) }
+{
+    words.jobs.is_none() && words.expect.is_none() && words.pass.is_none() && !words.json
+}
+
+fn hunt_form<'a>(
+    words: &Heard<'a>,
+    machine: &'a str,
+    runs: Option<&'a str>,
+    seed: Option<&'a str>,
+) -> Option<Form<'a>>
+    ensures value { option_map said result ≡ hunt_said (heard words.now) machine.now (texts_of runs.entry) (texts_of seed.entry) }
+    ensures within { IfSome result IsWithin }
+{
+    let runs = runs_of(runs)?;
+    let seed = seed_of(seed)?;
+    let from = from_of(words.from, runs)?;
+    let jobs = jobs_of(words.jobs)?;
+    Some(Form::Hunt(Hunt {
+        machine,
+        from,
+        runs,
+        seed,
+        jobs,
+        expect: words.expect,
+        pass: words.pass,
+        json: words.json,
+    }))
+}
+
+fn each_form<'a>(
+    words: &Heard<'a>,
+    machine: &'a str,
+    runs: Option<&'a str>,
+    seed: Option<&'a str>,
+) -> Option<Form<'a>>
+    ensures value { option_map said result ≡ each_said (heard words.now) machine.now (texts_of runs.entry) (texts_of seed.entry) }
+    ensures within { IfSome result IsWithin }
+{
+    if !is_plain(words) {
+        return None;
+    }
+    let runs = runs_of(runs)?;
+    let seed = seed_of(seed)?;
+    let from = from_of(words.from, runs)?;
+    Some(Form::Each {
+        machine,
+        from,
+        runs,
+        seed,
+    })
+}
+
+fn record_form<'a>(
+    words: &Heard<'a>,
+    machine: &'a str,
+    run: Option<&'a str>,
+    seed: Option<&'a str>,
+) -> Option<Form<'a>>
+    ensures value { option_map said result ≡ record_said (heard words.now) machine.now (texts_of run.entry) (texts_of seed.entry) }
+    ensures within { IfSome result IsWithin }
+{
+    if !is_plain(words) || words.runs.is_some() || words.from.is_some() {
+        return None;
+    }
+    let run = run_of(run?)?;
+    let seed = seed_of(seed)?;
+    Some(Form::Record { machine, run, seed })
+}
+
+/// The form that the words behind the machine file ask for.
+fn placed<'a>(words: &Heard<'a>, machine: &'a str) -> Option<Form<'a>>
+    ensures value { option_map said result ≡ placed (heard words.now) machine.now (heard words.now).first }
+    ensures within { IfSome result IsWithin }
+{
+    let Some(word) = words.first else {
+        return hunt_form(words, machine, words.runs, words.seed);
+    };
+    if word == "record" {
+        let seed = either(words.third, words.seed)?;
+        return record_form(words, machine, words.second, seed);
+    }
+    if word == "each" {
+        let runs = either(words.second, words.runs)?;
+        let seed = either(words.third, words.seed)?;
+        return each_form(words, machine, runs, seed);
+    }
+    if words.third.is_some() {
+        return None;
+    }
+    let runs = either(Some(word), words.runs)?;
+    let seed = either(words.second, words.seed)?;
+    hunt_form(words, machine, runs, seed)
+}
+
+/// The form of the words, where they are one.
+fn form_heard(words: &[String]) -> Option<Form<'_>>
+    ensures value { option_map said result ≡ option_and_then form_said (said_on silent (map string_bytes words.now)) }
+    ensures within { IfSome result IsWithin }
+{
+    let heard = hear(words)?;
+    if heard.awaited.is_some() {
+        return None;
+    }
+    placed(&heard, heard.machine?)
+}
+
+fn asks_help(words: &[String]) -> bool
+    ensures { result ≡ asks_help (map string_bytes words.now) }
+{
+    for word in words {
+        if word.as_str() == "--help" {
+            return true;
+        }
+    }
+    false
+}
+
+/// The form of the words.
+pub fn form_of(words: &[String]) -> Form<'_>
+    ensures form { said result ≡ spoken (map string_bytes words.now) }
+    ensures within { IsWithin result }
+{
+    if asks_help(words) {
+        return Form::Help;
+    }
+    form_heard(words).unwrap_or(Form::NoForm)
+}
