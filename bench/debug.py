@@ -1,24 +1,28 @@
 #!/usr/bin/env python3
-"""Measures the debugger: python3 bench/debug.py, from the repository's root, after `rt ci` or `./cell`.
+"""Measures `cell debug`.
+
+Usage: bench/debug.py
 
 Of scripts over a machine of eight processors (bench/transfer.s) it prints the seconds, files in and text out, less those of an empty script: 10,000 lines that
 make a turn each, such lines with one that prints between any two, and one line that makes many turns. Each time is the best of RUNS.
 """
-import pathlib
-import subprocess
-import sys
-import tempfile
-import time
+import celltools.common.starting  # noqa: F401  (before all others)
 
-ROOT = pathlib.Path(__file__).resolve().parent.parent
-CELL = ROOT / "crates" / "cell_cli" / "out" / "cell_cli"
-RUNS = 5
+import pathlib
+import tempfile
+from typing import List
+
+from celltools.common.ending import end
+from celltools.common.repository import built
+from lib.measuring import called, measured
+
+CELL = built("cell_cli")
 LINES = 10_000
 SPES = 8
 MACHINE = "cell-machine 1\nlines 128\nbudget 1000000\n" + "spe\nsource bench/transfer.s\n" * SPES
 
 
-def turns(count):
+def turns(count: int) -> List[str]:
     """Lines that make a turn each, of the processors and of the flow controllers one after the other."""
     return [f"step {'xm'[k // SPES % 2]} {k % SPES} {k} 1\n" for k in range(count)]
 
@@ -32,29 +36,19 @@ SCRIPTS = {
 }
 
 
-def best(machine, script):
-    """The best time of a script."""
-    times = []
-    for _ in range(RUNS):
-        start = time.monotonic()
-        done = subprocess.run([CELL, "debug", machine, script], cwd=ROOT, stdout=subprocess.DEVNULL)
-        times.append(time.monotonic() - start)
-        if done.returncode:
-            sys.exit("bench/debug.py: the script failed")
-    return min(times)
-
-
-def main():
+def main(words: List[str]) -> int:
+    called(__doc__, words)
     with tempfile.TemporaryDirectory(prefix="cell-bench-") as room:
         machine, script = pathlib.Path(room) / "m", pathlib.Path(room) / "script"
         machine.write_text(MACHINE)
         script.write_text("")
-        start = best(machine, script)
+        start, _ = measured(["debug", machine, script], program=CELL)
         print(f"an empty script: {start:.3f} s")
         for name, lines in SCRIPTS.items():
             script.write_text("".join(lines))
-            print(f"{name}: {best(machine, script) - start:.3f} s")
+            print(f"{name}: {measured(['debug', machine, script], program=CELL)[0] - start:.3f} s")
+    return 0
 
 
 if __name__ == "__main__":
-    sys.exit(main())
+    end(main)

@@ -1,18 +1,24 @@
 #!/usr/bin/env python3
-"""Measures how soon tools/debug answers: python3 bench/debugger.py, from the repository's root, after `rt ci`, or after `./cell` and a tool were called.
+"""Measures how soon tools/debug answers.
+
+Usage: bench/debugger.py
 
 Eight processors bring blocks, work on them and put them back. Of sessions behind so many steps it prints how long each command takes until its answer is
 there, in seconds, the best of five; `step`, `back` and `step x1` are each made at that step.
 """
-import os
+import celltools.common.starting  # noqa: F401  (before all others)
+
 import subprocess
 import tempfile
 import time
+from typing import Dict, List
 
-import order
-import run
+from celltools.common.ending import end
+from celltools.common.repository import ROOT
+from lib.machines import blocks
+from lib.measuring import RUNS, STEPS, Path, called
 
-DEBUG = os.path.join(run.ROOT, "tools/debug")
+DEBUG = ROOT / "tools" / "debug"
 PLACES = (1000, 10_000, 100_000)
 COMMANDS = ("step", "back", "step x1", "where", "print", "x 0x1000 64", "queue", "actors", "dis", "next", "run 0x38")
 
@@ -20,15 +26,16 @@ COMMANDS = ("step", "back", "step x1", "where", "print", "x 0x1000 64", "queue",
 class Session:
     """A session of the debugger that is asked by a pipe."""
 
-    def __init__(self, machine):
-        self.child = subprocess.Popen([DEBUG, machine], cwd=run.ROOT, stdin=subprocess.PIPE, stdout=subprocess.PIPE, text=True)
+    def __init__(self, machine: Path) -> None:
+        self.child = subprocess.Popen([DEBUG, machine], cwd=ROOT, stdin=subprocess.PIPE, stdout=subprocess.PIPE, text=True)
         self.count = 0
         self.ask("where")
 
-    def ask(self, command):
+    def ask(self, command: str) -> float:
         """How long a command takes. A comment behind it says that its answer has ended."""
         self.count += 1
         start = time.monotonic()
+        assert self.child.stdin and self.child.stdout
         self.child.stdin.write(f"{command}\n# {self.count}\n")
         self.child.stdin.flush()
         for line in self.child.stdout:
@@ -36,14 +43,14 @@ class Session:
                 return time.monotonic() - start
         raise SystemExit("tools/debug ended")
 
-    def close(self):
+    def close(self) -> None:
         self.child.communicate()
 
 
-def times(session, place):
+def times(session: Session, place: int) -> Dict[str, float]:
     """The best time of each command at a step."""
-    best = {}
-    for _ in range(run.RUNS):
+    best: Dict[str, float] = {}
+    for _ in range(RUNS):
         for command in COMMANDS:
             session.ask("back to 0")
             session.ask("cut")
@@ -53,13 +60,15 @@ def times(session, place):
     return best
 
 
-def main():
+def main(words: List[str]) -> int:
+    called(__doc__, words)
     with tempfile.TemporaryDirectory() as folder:
-        session = Session(order.blocks(folder, run.STEPS))
+        session = Session(blocks(folder, STEPS))
         for place in PLACES:
             print(f"at step {place}: " + ", ".join(f"{command} {took:.2f}" for command, took in times(session, place).items()))
         session.close()
+    return 0
 
 
 if __name__ == "__main__":
-    main()
+    end(main)

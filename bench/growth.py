@@ -1,21 +1,27 @@
 #!/usr/bin/env python3
 """Whether a step costs more when more steps were made before it, in machine instructions counted by valgrind.
 
-Usage: python3 bench/growth.py [run] [check], from the repository's root, after `rt ci` or after `./cell`; both where none is named. `run` takes some five
+Usage: bench/growth.py [run] [check]   (both where none is named)
+
+ `run` takes some five
 minutes: it has the runs of transfers. `check` takes some ten: it has the checks of runs in which nobody waits for a command by its tag, and at last the
 processor time of a check of a million steps beside that of transfers. The runs are made on one thread (`run_trace alone`), so that they have the same steps
 each time.
 """
+import celltools.common.starting  # noqa: F401  (before all others)
+
 import os
-import re
-import subprocess
-import sys
+import pathlib
 import tempfile
+from typing import Callable, List, Sequence, Tuple
 
-import order
-import run
+from celltools.common.ending import end
+from celltools.common.repository import built
+from celltools.common.words import Words
+from lib.machines import LINES, SPES, machine_file
+from lib.measuring import STEPS, TRACER, Path, instructions, recorded, usage_of
 
-CELL = os.path.join(run.ROOT, "crates", "cell_cli", "out", "cell_cli")
+CELL = built("cell_cli")
 RUNS = ("bench/transfer.s", "bench/lists.s")
 RUN_BUDGETS = (10_000, 20_000, 40_000, 80_000, 160_000, 800_000, 1_000_000)
 # The sources of such a run, of each processor with the address at which it begins.
@@ -29,16 +35,7 @@ CHECK_BUDGETS = (10_000, 20_000, 40_000, 80_000, 160_000)
 TIMED = 5
 
 
-def instructions(folder, words):
-    """How many machine instructions a command takes. A check may find a race."""
-    counts = os.path.join(folder, "counts")
-    done = subprocess.run(["valgrind", "--tool=callgrind", f"--callgrind-out-file={counts}", *words], cwd=run.ROOT, capture_output=True, text=True)
-    if done.returncode not in (0, 1):
-        sys.exit(f"{' '.join(words)} failed: {done.stderr}")
-    return int(re.search(r"Collected : (\d+)", done.stderr).group(1))
-
-
-def growth(folder, what, budgets, words_of):
+def growth(folder: str, what: str, budgets: Sequence[int], words_of: Callable[[int], Sequence[Path]]) -> None:
     """What a step takes in each part of a run, by a command on the run of a budget."""
     steps, before = 1, instructions(folder, words_of(1))
     for budget in budgets:
@@ -47,62 +44,55 @@ def growth(folder, what, budgets, words_of):
         steps, before = budget, taken
 
 
-def machine_of(folder, spes, budget):
+def machine_of(folder: str, spes: Sequence[Tuple[str, int]], budget: int) -> pathlib.Path:
     """The machine file of processors, each with its source and where it begins."""
-    name = os.path.join(folder, f"{len(spes)}.{os.path.basename(spes[0][0])}.{budget}.cell")
+    name = pathlib.Path(folder, f"{len(spes)}.{os.path.basename(spes[0][0])}.{budget}.cell")
     lines = ["cell-machine 1", "lines 1", f"budget {budget}"]
     for source, entry in spes:
         lines += ["spe", f"source {source}", f"entry {entry}"]
-    with open(name, "w", encoding="utf-8") as file:
-        file.write("".join(f"{line}\n" for line in lines))
+    name.write_text("".join(f"{line}\n" for line in lines))
     return name
 
 
-def recorded(machine):
-    """The machine file and its run's output, in a file."""
-    record = f"{machine}.out"
-    if not os.path.exists(record):
-        with open(record, "wb") as file:
-            subprocess.run([order.PROGRAM, "alone", machine], cwd=run.ROOT, stdout=file, check=True)
-    return machine, record
+def check_of(machine: pathlib.Path) -> List[Path]:
+    """The check of a machine's run, which is made once."""
+    record = pathlib.Path(f"{machine}.record")
+    return [CELL, "check", machine, record if record.exists() else recorded(machine)]
 
 
-def check_time(machine):
+def check_time(machine: pathlib.Path) -> float:
     """The least processor time of several checks, in seconds."""
-    times = []
-    for _ in range(TIMED):
-        child = subprocess.Popen([CELL, "check", *recorded(machine)], cwd=run.ROOT, stdout=subprocess.DEVNULL)
-        _, _, usage = os.wait4(child.pid, 0)
-        times.append(usage.ru_utime + usage.ru_stime)
-    return min(times)
+    return min(usage_of(check_of(machine), (0, 1))[1] for _ in range(TIMED))
 
 
-def runs(folder):
+def runs(folder: str) -> None:
     for source in RUNS:
-        growth(folder, source, RUN_BUDGETS, lambda budget: [order.PROGRAM, "alone", run.machine_file(folder, source, budget, 8, 128)])
+        growth(folder, source, RUN_BUDGETS, lambda budget: [TRACER, "alone", machine_file(folder, source, budget, SPES, LINES)])
 
 
-def checks(folder):
+def checks(folder: str) -> None:
     for what, spes in CHECKED.items():
-        growth(folder, f"check of {what}", CHECK_BUDGETS, lambda budget: [CELL, "check", *recorded(machine_of(folder, spes, budget))])
-    transfer = check_time(run.machine_file(folder, "bench/transfer.s", run.STEPS, 8, 128))
+        growth(folder, f"check of {what}", CHECK_BUDGETS, lambda budget: check_of(machine_of(folder, spes, budget)))
+    transfer = check_time(machine_file(folder, "bench/transfer.s", STEPS, SPES, LINES))
     print(f"check of a million steps of bench/transfer.s on eight processors: {transfer:.2f} s")
     for what, spes in CHECKED.items():
-        took = check_time(machine_of(folder, spes, run.STEPS))
+        took = check_time(machine_of(folder, spes, STEPS))
         print(f"check of a million steps of {what}: {took:.2f} s, {took / transfer:.2f} times that", flush=True)
 
 
 PARTS = {"run": runs, "check": checks}
 
 
-def main(words):
-    if not all(word in PARTS for word in words):
-        sys.exit(__doc__)
+def main(words: List[str]) -> int:
+    reader = Words(__doc__)
+    reader.add_argument("parts", nargs="*", choices=[*PARTS, []], default=list(PARTS))
+    asked = reader.read(words, 0).parts
     with tempfile.TemporaryDirectory() as folder:
         for name, part in PARTS.items():
-            if not words or name in words:
+            if name in asked:
                 part(folder)
+    return 0
 
 
 if __name__ == "__main__":
-    main(sys.argv[1:])
+    end(main)

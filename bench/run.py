@@ -1,5 +1,7 @@
 #!/usr/bin/env python3
-"""Measures `cell`: python3 bench/run.py, from the repository's root, after `./cell` was built.
+"""Measures `cell`.
+
+Usage: bench/run.py
 
 Prints instructions per second of two loops of a million steps; steps per second of a whole run, file in
 and text out, with one, eight and sixteen processors; the greatest memory of the widest machine; steps per
@@ -10,44 +12,22 @@ for races, beside those of the run; and the time and the greatest memory that as
 4 MB takes. Each figure is the best of five runs; the time of a run of one step is taken off that of the
 loops and of the commands, so that starting the program isn't counted.
 """
+import celltools.common.starting  # noqa: F401  (before all others)
+
 import os
 import subprocess
-import sys
 import tempfile
-import time
+from typing import Iterator, List
 
-ROOT = os.path.dirname(os.path.dirname(os.path.abspath(__file__)))
-CELL = os.path.join(ROOT, "cell")
-RUNS = 5
-STEPS = 1_000_000
-BUDGETS = (10_000, 100_000, STEPS)
+from celltools.common.ending import end
+from celltools.common.repository import CELL, ROOT
+from lib.machines import machine_file
+from lib.measuring import BUDGETS, STEPS, called, measured
+
 SOURCE_BYTES = 4_194_304
 
 
-def measured(words, allowed=(0,), program=CELL, runs=RUNS, errors=None):
-    """The best time in seconds, and the greatest resident memory in KiB, of a command that ends with a status that is allowed."""
-    best, most = None, 0
-    for _ in range(runs):
-        start = time.monotonic()
-        with open(os.devnull, "w") as nowhere:
-            child = subprocess.Popen([program, *words], stdout=nowhere, stderr=errors, cwd=ROOT)
-            _, status, usage = os.wait4(child.pid, 0)
-        took = time.monotonic() - start
-        if os.waitstatus_to_exitcode(status) not in allowed:
-            sys.exit(f"{program} {' '.join(words)} failed")
-        best = took if best is None else min(best, took)
-        most = max(most, usage.ru_maxrss)
-    return best, most
-
-
-def machine_file(folder, source, budget, spes=1, lines=1):
-    name = os.path.join(folder, f"{os.path.basename(source)}.{budget}.{spes}.{lines}.cell")
-    with open(name, "w") as file:
-        file.write(f"cell-machine 1\nlines {lines}\nbudget {budget}\n" + f"spe\nsource {source}\n" * spes)
-    return name
-
-
-def loop(folder, source):
+def loop(folder: str, source: str) -> None:
     """Instructions per second of a loop, and the memory of its run."""
     idle, _ = measured(["run", machine_file(folder, source, 1)])
     busy, most = measured(["run", machine_file(folder, source, STEPS)])
@@ -55,14 +35,14 @@ def loop(folder, source):
           f"{busy:.2f} s and {most / 1024:.0f} MiB for a million steps, {idle * 1000:.0f} ms for one")
 
 
-def whole_run(folder, source, spes, lines):
+def whole_run(folder: str, source: str, spes: int, lines: int) -> None:
     """Steps per second of a whole run of a million steps, and its memory."""
     took, most = measured(["run", machine_file(folder, source, STEPS, spes, lines)])
     print(f"{source} on {spes} processors with {lines} lines: {STEPS / took / 1e6:.1f} million steps a second; "
           f"{took:.2f} s and {most / 1024:.1f} MiB")
 
 
-def commands(folder, source, spes, lines):
+def commands(folder: str, source: str, spes: int, lines: int) -> None:
     """Steps per second of processors with commands, their memory, and whether a step costs more when more steps were made before it."""
     idle, _ = measured(["run", machine_file(folder, source, 1, spes, lines)])
     for budget in BUDGETS:
@@ -72,7 +52,7 @@ def commands(folder, source, spes, lines):
     print(f"{source} on {spes} processors with {lines} lines: {BUDGETS[-1] / (took - idle) / 1e6:.2f} million steps a second")
 
 
-def checking(folder, source, spes, lines):
+def checking(folder: str, source: str, spes: int, lines: int) -> None:
     """Steps per second and the memory of the check of a run's output, beside the run's own."""
     machine = machine_file(folder, source, STEPS, spes, lines)
     output = f"{machine}.out"
@@ -84,7 +64,7 @@ def checking(folder, source, spes, lines):
           f"{took:.2f} s and {most / 1024:.1f} MiB, {took / ran:.2f} times the run's {ran:.2f} s, which takes {ran_most / 1024:.1f} MiB")
 
 
-def assembling(folder, title, lines):
+def assembling(folder: str, title: str, lines: Iterator[str]) -> None:
     """The time and the memory of a source of 4 MB."""
     name = os.path.join(folder, "big.s")
     size = 0
@@ -98,13 +78,13 @@ def assembling(folder, title, lines):
     print(f"{title}: {took:.2f} s and {most / 1024:.0f} MiB for {size / 1048576:.1f} MiB of source")
 
 
-def commented():
+def commented() -> Iterator[str]:
     """As many instructions as a store holds, each with a label and a comment."""
     for number in range(65_536):
         yield f"l{number}:\tai\t$3,$4,{number % 512}\t# the number of this line is {number:>12}\n"
 
 
-def short():
+def short() -> Iterator[str]:
     """Short lines: labels alone."""
     number = 0
     while True:
@@ -112,13 +92,14 @@ def short():
         number += 1
 
 
-def empty():
+def empty() -> Iterator[str]:
     """Empty lines."""
     while True:
         yield "\n"
 
 
-def main():
+def main(words: List[str]) -> int:
+    called(__doc__, words)
     with tempfile.TemporaryDirectory() as folder:
         loop(folder, "bench/arithmetic.s")
         loop(folder, "bench/memory.s")
@@ -136,7 +117,8 @@ def main():
         assembling(folder, "65,536 instructions with labels and comments", commented())
         assembling(folder, "labels alone", short())
         assembling(folder, "line feeds alone", empty())
+    return 0
 
 
 if __name__ == "__main__":
-    main()
+    end(main)

@@ -1,24 +1,12 @@
 """Asks the proved programs about runs, in a folder that has the machine file and the record."""
 import subprocess
-import sys
 
 from celltools.common.repository import built
-from celltools.common.texts import number_of
 from lib.order_rules import trace_of_lines
 
 TRACER = built("run_trace")
 CELL = built("cell_cli")
 SECONDS = 60
-MISUSED = 2
-
-
-def wanted_runs(words, usual):
-    """How many random runs are asked for, and the seed of the first of them. Words that aren't two numbers at most end the program."""
-    numbers = [number_of(word) for word in words]
-    if len(words) > 2 or None in numbers:
-        print(f"name a number of random runs ({usual} where none is named), and the seed of the first, if you like", file=sys.stderr)
-        sys.exit(MISUSED)
-    return tuple(numbers + [usual, 1][len(numbers):])
 
 
 def output(words, folder):

@@ -13,7 +13,8 @@ WORDS = ("--headless=new", "--no-sandbox", "--disable-gpu", "--hide-scrollbars",
 HEIGHT = 900
 TO_BROWSER, FROM_BROWSER = 3, 4  # the files by which it is asked and answers
 SHIFT = 8  # of a key or a click, by the protocol
-NAMED_KEYS = {"Enter": (13, "\r"), "Escape": (27, ""), "Tab": (9, "")}  # each with its code and what it types
+NAMED_KEYS = {"Enter": (13, "\r"), "Escape": (27, ""), "Tab": (9, ""), "End": (35, ""), "Backspace": (8, ""), "ArrowLeft": (37, ""),
+              "ArrowRight": (39, "")}  # each with its code and what it types
 
 
 class Silent(Exception):
@@ -48,6 +49,7 @@ class Browser:
         os.close(theirs_in)
         os.close(theirs_out)
         self.session, self.sessions = None, {}
+        self.requests = []  # the addresses that pages, their frames and workers asked for, from hear_requests on
 
     def end(self):
         os.close(self.asking)
@@ -63,6 +65,22 @@ class Browser:
             self.session = self.sessions[is_in_front] = self.call("Target.attachToTarget", targetId=page, flatten=True)["sessionId"]
         self.call("Emulation.setDeviceMetricsOverride", width=width, height=HEIGHT, deviceScaleFactor=1, mobile=False)
         self.call("Page.navigate", url=address)
+
+    def hear_requests(self):
+        """Begins to hear what pages ask for, with the frames and workers that they make."""
+        self.requests = []
+        self.open("about:blank", 1, is_in_front=True)
+        self.call("Network.enable")
+        self.call("Target.setAutoAttach", autoAttach=True, waitForDebuggerOnStart=False, flatten=True)
+
+    def hear(self, told):
+        """Takes in what the browser tells without being asked."""
+        if told.get("method") == "Network.requestWillBeSent":
+            self.requests.append(told["params"]["request"]["url"])
+        elif told.get("method") == "Target.attachedToTarget":
+            self.number += 1
+            asked = {"id": self.number, "method": "Network.enable", "params": {}, "sessionId": told["params"]["sessionId"]}
+            self.write(json.dumps(asked).encode() + b"\0")
 
     def key(self, name, modifiers=0):
         """Presses a key and lets it go: one of NAMED_KEYS, or a letter."""
@@ -85,14 +103,15 @@ class Browser:
     def call(self, method, **words):
         """The answer to one request."""
         self.number += 1
-        asked = {"id": self.number, "method": method, "params": words}
+        number, asked = self.number, {"id": self.number, "method": method, "params": words}
         if self.session:
             asked["sessionId"] = self.session
         end = time.monotonic() + self.seconds
         self.write(json.dumps(asked).encode() + b"\0")
         while True:
             told = json.loads(self.message(end))
-            if told.get("id") == self.number:
+            self.hear(told)
+            if told.get("id") == number:
                 if "error" in told:
                     raise Silent(f"{method}: {told['error']}")
                 return told["result"]

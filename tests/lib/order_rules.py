@@ -4,7 +4,6 @@ tools/celltools/order/graph.py, each rule as a look at one pair of places. Nothi
 import re
 
 from celltools.run.effects import Trace, has_group, mailbox, shared_bytes
-from celltools.run.records import steps_in  # noqa: F401
 
 INBOX_PLACES, OTHER_PLACES = 4, 1
 
@@ -196,7 +195,21 @@ def closure(count, found, without=None):
 def least_race(trace, before):
     """The race of a trace with the least second place, and with it the least first; None where there is none."""
     for j, later in enumerate(trace.steps):
-        for i, earlier in enumerate(trace.steps[:j]):
-            if not before[j] >> i & 1 and shared_bytes(earlier, later):
+        for i in places_in(~before[j] & (1 << j) - 1):
+            if shared_bytes(trace.steps[i], later):
                 return i, j
     return None
+
+
+def places_in(bits):
+    """The places of a set that is the bits of a number, from the least on."""
+    while bits:
+        least = bits & -bits
+        yield least.bit_length() - 1
+        bits ^= least
+
+
+def order_differences(before, found):
+    """Where the orderer and the rules, by the pairs that they order directly, differ."""
+    wanted = closure(len(before), found)
+    return [f"before step {j}: by the rules {bits:b}, by the orderer {found:b}" for j, (bits, found) in enumerate(zip(wanted, before)) if bits != found]

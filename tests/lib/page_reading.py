@@ -47,7 +47,7 @@ class Block:
     def file(self) -> str:
         """The name of the file that it shows, where the paragraph before it names one."""
         named = NAMED.findall(self.before)
-        return named[-1] if named else ""
+        return str(named[-1]) if named else ""
 
     def commands(self) -> List[str]:
         """The commands, those without forms; what stands deeper goes on with the command before it."""
@@ -95,7 +95,8 @@ def begins(line: str, lines: List[str]) -> bool:
 
 def parts_of(lines: List[str]) -> Iterator[Tuple[int, List[str]]]:
     """Lines that stand together, with the number of the first from 1; an empty line ends them."""
-    start, together = 0, []
+    start = 0
+    together: List[str] = []
     for number, line in enumerate([*lines, ""], 1):
         if together and (not line.strip() or begins(line, together)):
             yield start, together

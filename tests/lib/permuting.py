@@ -3,10 +3,9 @@
 The run is of a machine file in a folder, which also has its record as the file `record` and takes what is written.
 """
 from lib.asking import output, said_of, trace_of
-from lib.order_rules import steps_in
 from lib.settled_rules import broken, reordering
 
-from celltools.run.records import record_text
+from celltools.run.records import record_text, steps_in
 
 TEN = range(10)
 GREATEST = 4294967295
@@ -15,12 +14,17 @@ RACE, SETTLED, UNSETTLED = "with a race", "settled", "not settled"
 NOT_SETTLED = ("", "cell: the run is not settled\n", 6)
 
 
+def moved(places, order):
+    """A set of places, as bits, by where they stand in an order."""
+    bits = f"{places:0{len(order)}b}"[::-1]
+    return int("".join(map(bits.__getitem__, reversed(order))), 2)
+
+
 def again(folder, machine, before, order, printed):
     """What is wrong with a reordered run, which is traced anew: it is settled, and the same steps are ordered."""
     (folder / "again").write_text(printed)
     trace, found = trace_of(folder, machine, "again")
-    at = {place: k for k, place in enumerate(order)}
-    wanted = [sum(1 << at[i] for i in range(len(order)) if before[place] >> i & 1) for place in order]
+    wanted = [moved(before[place], order) for place in order]
     return [f"it breaks {name}" for name in broken(trace, found)] + ["other steps are ordered"] * (found != wanted)
 
 

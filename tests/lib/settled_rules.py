@@ -4,6 +4,9 @@ A run is settled where no processor sees how far its flow controller has come, e
 they have in run_permute's `Settled`, each of them here as a look at the places of a trace. `before` has of each place the places that are ordered before it, as
 the bits of a number. Nothing here is fast: every clause looks at every place.
 """
+import bisect
+import collections
+
 from lib.order_rules import is_stalled
 
 from celltools.run.effects import MEMORY_LINE
@@ -185,11 +188,22 @@ def broken(t, before):
 
 def reordering(before, n):
     """The places of a run in the order of a number: of the steps before which nothing is left, by their places, each time the one at position n (i + 1)."""
-    taken, left, order = 0, list(range(len(before))), []
+    taken, free, order = 0, [], []
+    waiting = collections.defaultdict(list)  # for the latest of the places that are left before them
+
+    def put(place):
+        left = before[place] & ~taken
+        if left:
+            waiting[left.bit_length() - 1].append(place)
+        else:
+            bisect.insort(free, place)
+
+    for place in range(len(before)):
+        put(place)
     for i in range(len(before)):
-        free = [place for place in left if not before[place] & ~taken]
-        place = free[n * (i + 1) % len(free)]
+        place = free.pop(n * (i + 1) % len(free))
         order.append(place)
-        left.remove(place)
         taken |= 1 << place
+        for other in waiting.pop(place, ()):
+            put(other)
     return order

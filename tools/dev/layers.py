@@ -19,13 +19,13 @@ import celltools.common.starting  # noqa: E402, F401  (before all others)
 
 import dataclasses
 import html
-import pathlib
 import re
 import textwrap
-from typing import Dict, Iterator, List, Tuple
+from typing import Dict, Iterator, List, Set, Tuple
 
 from celltools.common.ending import end
 from celltools.common.repository import ROOT
+from celltools.common.words import Words
 
 CRATES = ROOT / "crates.txt"
 PAGE = ROOT / "docs" / "ARCHITECTURE.md"
@@ -40,7 +40,7 @@ WAYS = {
     "permute": "Programs > Texts, Sources > Machine > Order > Other orders > Machine > Texts",
     "hunt": "Programs > Texts, Sources > Runs > Machine, Order > Texts, Hunts, run by run > Hunts",
 }
-PASSED, FAILED, MISUSED = 0, 1, 2
+PASSED, FAILED = 0, 1
 
 # The picture, in its own units: a line of text, the free room of a box, and of each column its left edge and how many characters go into a line of it.
 LINE, ROOM, WIDTH = 16, 10, 1080
@@ -80,7 +80,7 @@ def layers_of(text: str) -> List[Layer]:
 def faults_of(layers: List[Layer]) -> Iterator[str]:
     """The crates that use one which doesn't stand before them."""
     crates = {crate for layer in layers for crate in layer.uses}
-    before = set()
+    before: Set[str] = set()
     for crate, uses in (item for layer in layers for item in layer.uses.items()):
         yield from (f"{crate} uses {used}, which stands behind it" for used in uses if used in crates - before)
         before.add(crate)
@@ -152,17 +152,19 @@ def with_drawing(page: str, drawn: str) -> str:
 
 
 def main(words: List[str]) -> int:
-    if words not in ([], ["--svg"], ["--write"]):
-        print(__doc__, file=sys.stderr)
-        return MISUSED
+    reader = Words(__doc__)
+    ways = reader.add_mutually_exclusive_group()
+    ways.add_argument("--svg", action="store_true")
+    ways.add_argument("--write", action="store_true")
+    asked = reader.read(words, 0)
     layers = layers_of(CRATES.read_text())
     faults = list(faults_of(layers))
     print(*(f"layers.py: {fault}" for fault in faults), sep="\n", end="\n" if faults else "", file=sys.stderr)
-    if words == ["--write"]:
+    if asked.write:
         PAGE.write_text(with_drawing(PAGE.read_text(), drawing(layers)))
         PICTURE.write_text(picture(layers))
     else:
-        print(picture(layers) if words else drawing(layers), end="")
+        print(picture(layers) if asked.svg else drawing(layers), end="")
     return FAILED if faults else PASSED
 
 

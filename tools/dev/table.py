@@ -1,8 +1,10 @@
 #!/bin/sh
 "trap" "" "INT"  # sh reads these two lines, and Python the others: tools/celltools/common/starting.py says why
 "exec" "python3" "$0" "$@"
-# Writes src/row.rt and src/table.rt of crates/spu_decode from the instruction table in its specs/Table.antt.
-# Usage: tools/dev/table.py   (from anywhere; then `rt check` in crates/spu_decode proves that they say what the table says)
+__doc__ = """Writes src/row.rt and src/table.rt of crates/spu_decode from the instruction table in its specs/Table.antt.
+
+Usage: tools/dev/table.py   (then `rt check` in crates/spu_decode proves that they say what the table says)
+"""
 import os
 import sys
 
@@ -10,22 +12,24 @@ sys.excepthook = lambda kind, why, trace: os._exit(print(f"{sys.argv[0]}: {why}"
 sys.path.insert(0, os.path.dirname(os.path.dirname(os.path.realpath(__file__))))
 import celltools.common.starting  # noqa: E402, F401  (before all others)
 
-import pathlib
 import re
+from typing import List, Sequence, Tuple
 
 from celltools.common.ending import end
 from celltools.common.repository import ROOT
+from celltools.common.words import Words
 
 CRATE = ROOT / "crates" / "spu_decode"
+Row = Tuple[str, str, str, str, str]  # its name, mnemonic, form, opcode and operands
 ENTRY = re.compile(r'^entry_of (\w+) = row \(codes "(\w+)"\) (\w+) 0x([0-9A-F]+) (\w+)$', re.M)
 OPCODE_BITS = {"Rr": 11, "Indirect": 11, "Rrr": 4, "Ri7": 11, "Ri10": 8, "Ri16": 9, "Ri18": 7, "Stop": 11}
 
 
-def read_rows():
+def read_rows() -> List[Row]:
     return ENTRY.findall((CRATE / "specs" / "Table.antt").read_text())
 
 
-def row_numbers(rows):
+def row_numbers(rows: Sequence[Row]) -> List[int]:
     """For each first eleven bits of a word, one more than the number of its row, or 0."""
     numbers = [0] * 2048
     for number, (_, _, form, opcode, _) in enumerate(rows):
@@ -37,7 +41,7 @@ def row_numbers(rows):
     return numbers
 
 
-def row_file(rows):
+def row_file(rows: Sequence[Row]) -> str:
     names = "".join(f"    {name},\n" for name, *_ in rows)
     return (
         "/// The rows of the instruction table, one for each mnemonic.\n"
@@ -45,7 +49,7 @@ def row_file(rows):
     )
 
 
-def table_file(rows):
+def table_file(rows: Sequence[Row]) -> str:
     numbers = row_numbers(rows)
     lines = "".join("    " + ", ".join(map(str, numbers[k : k + 16])) + ",\n" for k in range(0, 2048, 16))
     names = "".join(f"    Row::{name},\n" for name, *_ in rows)
@@ -68,10 +72,12 @@ def table_file(rows):
     )
 
 
-def main(_):
+def main(words: List[str]) -> int:
+    Words(__doc__).read(words, 0)
     rows = read_rows()
     (CRATE / "src" / "row.rt").write_text(row_file(rows))
     (CRATE / "src" / "table.rt").write_text(table_file(rows))
+    return 0
 
 
 if __name__ == "__main__":

@@ -12,9 +12,10 @@ use Rattle.run_record.specs.Form.{Reading, BeginsWith, IsFault}
 use Rattle.run_record.specs.Replayed.{IsRefusedAt}
 use Rattle.run_record.specs.declared.error.RecordError.{RecordError}
 use Rattle.run_record.specs.declared.error.RecordError.TheVariants as record_error
-use Rattle.run_record.specs.declared.error.ReplayError.{ReplayError}
-use Rattle.run_record.specs.declared.error.ReplayError.TheVariants as replay_error
-use Rattle.cell_forms.specs.Causes.{record_fault_of, replay_fault_of}
+use Rattle.cell_forms.specs.declared.fault.Fault.{Fault}
+use Rattle.cell_forms.specs.declared.fault.Fault.TheVariants.{NotARun, Memory}
+use Rattle.cell_forms.specs.Causes.{record_fault_of, IsOfInput}
+use Rattle.cell_forms.specs.Judging.{StopsOrMemory}
 use Rattle.cell_forms.specs.Checks.{BeginsWithRun, TellsEnd, RecordsRun, DifferAt, StatesDifferAt, RefusesOrMemory}
 use Rattle.cell_forms.proofs.Differences.{all_taken, differ_behind}
 
@@ -24,11 +25,16 @@ pub bad_record : {X : Type 0} (setup : Opening) (text : List ℕ) (e : RecordErr
 bad_record setup text record_error.Memory h = tt
 bad_record setup text (record_error.BadLine line) h = h line refl
 
-pub not_a_run : {X : Type 0} (setup : Opening) (text : List ℕ) (r : Reading) (steps : List Step) (e : ReplayError) → BeginsWith text r → steps ≡ r.steps
-    → ((at : ℕ) → IsErrOf {T = X} (Err e) (replay_error.NotARun at) → IsRefusedAt setup steps at) → RefusesOrMemory setup text (replay_fault_of e)
-not_a_run setup text r steps replay_error.Memory b made h = tt
-not_a_run setup text r steps (replay_error.NotARun at) b made h =
-    record { format = b.1.0; steps = r.steps; behind = drop r.end text; recorded = b.0; parts = b.1.1.1; refused = subst (λ ss. IsRefusedAt setup ss at) made (h at refl) }
+pub stopped : (setup : Opening) (text : List ℕ) (r : Reading) (steps : List Step) (fault : Fault) → BeginsWith text r → steps ≡ r.steps → StopsOrMemory setup steps fault → RefusesOrMemory setup text fault
+stopped setup text r steps (NotARun at) b made h =
+    record { format = b.1.0; steps = r.steps; behind = drop r.end text; recorded = b.0; parts = b.1.1.1; refused = subst (λ ss. IsRefusedAt setup ss at) made h }
+stopped setup text r steps Memory b made h = tt
+stopped setup text r steps fault b made h = absurd h
+
+pub stopped_input : (setup : Opening) (steps : List Step) (fault : Fault) → StopsOrMemory setup steps fault → IsOfInput fault
+stopped_input setup steps (NotARun at) h = tt
+stopped_input setup steps Memory h = tt
+stopped_input setup steps fault h = absurd h
 
 -- the record was read, and its steps were made
 module _ (setup : Opening) (text : List ℕ) (r : Reading) (b : BeginsWith text r) (steps : List Step) (made : steps ≡ r.steps) (m : Ran) (stands : m ≡ record { setup = setup; steps = steps }) (end : ℕ) (ends : end ≡ r.end) where

@@ -2,6 +2,7 @@ pub mod Differences
 pub mod Checked
 pub mod Settled
 pub mod Checks
+pub mod Fronts
 pub mod Steps
 pub mod Puts
 pub mod Runs

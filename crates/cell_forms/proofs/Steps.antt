@@ -134,7 +134,7 @@ fails-none : (cause : FileId → Ledger → Ledger → Type 0) (old new : Ledger
 fails-none cause old new setup text (ReadFault file) is = absurd is
 fails-none cause old new setup text fault is = tt
 
-pub check_fails : (cause : FileId → Ledger → Ledger → Type 0) (old new : Ledger) (setup : Opening) (text : List ℕ) (result : Result Ran Fault) → IfErr result (RefusesOrMemory setup text) → FailsBy cause old new result
+pub check_fails : {V : Type 0} (cause : FileId → Ledger → Ledger → Type 0) (old new : Ledger) (setup : Opening) (text : List ℕ) (result : Result V Fault) → IfErr result (RefusesOrMemory setup text) → FailsBy cause old new result
 check_fails cause old new setup text (Ok m) refused = tt
 check_fails cause old new setup text (Err fault) refused = fails-none cause old new setup text fault refused
 
@@ -151,10 +151,10 @@ refuses-judge files setup text work old new (ReadFault file) is = absurd is
 refuses-judge files setup text work old new NotSettled is = absurd is
 refuses-judge files setup text work old new fault is = (Err fault, is, refl)
 
-pub check_comes : (files : List File) (task : Task) (setup : Opening) (text : List ℕ) (work : Ran → Work) (old new : Ledger) (result : Result Ran Fault) → Leads files task (judge setup text work) → IfOk result (λ m. Finds setup text (Ok m)) → IfErr result (RefusesOrMemory setup text)
-    → Comes files task (λ m. ready (work m)) old new result
-check_comes files task setup text work old new (Ok m) l run refused = leads_on l (leads-judge files setup text work m run)
-check_comes files task setup text work old new (Err fault) l run refused = refuses_after files task (judge setup text work) old new fault l (refuses-judge files setup text work old new fault refused)
+pub check_comes : {V : Type 0} (ran : V → Ran) (files : List File) (task : Task) (setup : Opening) (text : List ℕ) (work : Ran → Work) (old new : Ledger) (result : Result V Fault) → Leads files task (judge setup text work)
+    → IfOk result (λ v. Finds setup text (Ok (ran v))) → IfErr result (RefusesOrMemory setup text) → Comes files task (λ v. ready (work (ran v))) old new result
+check_comes ran files task setup text work old new (Ok v) l run refused = leads_on l (leads-judge files setup text work (ran v) run)
+check_comes ran files task setup text work old new (Err fault) l run refused = refuses_after files task (judge setup text work) old new fault l (refuses-judge files setup text work old new fault refused)
 
 -- ---- a script
 

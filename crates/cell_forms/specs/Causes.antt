@@ -7,15 +7,13 @@ use Rattle.cell_load.specs.declared.loading.LoadError.{LoadError}
 use Rattle.cell_load.specs.declared.loading.LoadError.TheVariants.{NotInTable as NoRow, Memory as LoadMemory}
 use Rattle.run_record.specs.declared.error.RecordError.{RecordError}
 use Rattle.run_record.specs.declared.error.RecordError.TheVariants as record_error
-use Rattle.run_record.specs.declared.error.ReplayError.{ReplayError}
-use Rattle.run_record.specs.declared.error.ReplayError.TheVariants as replay_error
 use Rattle.cell_debug.specs.declared.error.ScriptError.{ScriptError}
 use Rattle.cell_debug.specs.declared.error.ScriptError.TheVariants as script_error
 use Rattle.cell_gen.specs.declared.error.GenError.{GenError}
 use Rattle.cell_gen.specs.declared.error.GenError.TheVariants as gen_error
 use Rattle.cell_forms.specs.declared.fault.FileId.{FileId}
 use Rattle.cell_forms.specs.declared.fault.Fault.{Fault}
-use Rattle.cell_forms.specs.declared.fault.Fault.TheVariants.{Machine, Source, NotInTable, BadRecord, NotARun, TooLarge, Script, Memory, Usage, WriteFault}
+use Rattle.cell_forms.specs.declared.fault.Fault.TheVariants.{Machine, Source, NotInTable, BadRecord, TooLarge, Script, Memory, Usage, WriteFault}
 
 abbrev pub plan_fault_of : PlanError → Fault
 plan_fault_of (BadLine line) = Machine line
@@ -33,10 +31,6 @@ load_fault_of LoadMemory = Memory
 abbrev pub record_fault_of : RecordError → Fault
 record_fault_of (record_error.BadLine line) = BadRecord line
 record_fault_of record_error.Memory = Memory
-
-abbrev pub replay_fault_of : ReplayError → Fault
-replay_fault_of (replay_error.NotARun at) = NotARun at
-replay_fault_of replay_error.Memory = Memory
 
 abbrev pub script_fault_of : ScriptError → Fault
 script_fault_of (script_error.BadLine line) = Script line

@@ -14,3 +14,4 @@ pub mod ReadBack
 pub mod Verdicts
 pub mod Judged
 pub mod Promises
+pub mod Judging

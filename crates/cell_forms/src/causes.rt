@@ -1,13 +1,13 @@
 //! What a refusal of a layer is called here.
 
 ghost use Rattle.std.specs.Prelude.{◌≡◌};
-ghost use Rattle.cell_forms.specs.Causes.{plan_fault_of, source_fault_of, load_fault_of, record_fault_of, replay_fault_of, script_fault_of, gen_fault_of, IsOfInput};
+ghost use Rattle.cell_forms.specs.Causes.{plan_fault_of, source_fault_of, load_fault_of, record_fault_of, script_fault_of, gen_fault_of, IsOfInput};
 
 use crate::fault::{Fault, FileId};
 use cell_debug::ScriptError;
 use cell_gen::GenError;
 use cell_load::{LoadError, PlanError};
-use run_record::{RecordError, ReplayError};
+use run_record::RecordError;
 use spu_asm::AsmError;
 
 pub fn plan_fault(error: PlanError) -> Fault
@@ -47,16 +47,6 @@ pub fn record_fault(error: RecordError) -> Fault
     match error {
         RecordError::BadLine { line } => Fault::BadRecord { line },
         RecordError::Memory => Fault::Memory,
-    }
-}
-
-pub fn replay_fault(error: ReplayError) -> Fault
-    ensures same { result ≡ replay_fault_of error }
-    ensures input { IsOfInput result }
-{
-    match error {
-        ReplayError::NotARun { at } => Fault::NotARun { at },
-        ReplayError::Memory => Fault::Memory,
     }
 }
 

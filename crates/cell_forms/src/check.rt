@@ -7,39 +7,43 @@ ghost use Rattle.cell_forms.specs.Causes.{IsOfInput};
 ghost use Rattle.cell_machine.specs.Run.{Ran};
 ghost use Rattle.race_check.specs.Races.{IsVerdict};
 ghost use Rattle.race_check.specs.Reorderings.{EveryReorderingAgrees};
+ghost use Rattle.cell_forms.specs.Judging.{IsJudged};
 ghost use Rattle.cell_forms.specs.Task.{ready, verdict_of, Work};
 ghost use Rattle.cell_forms.specs.Forms.{check_task, recorded_task};
 ghost use Rattle.cell_forms.specs.Answer.{Answers, AtMachineOrRecord, Comes, Ends, FailsBy, IsQuiet, ReadFails};
 
 use crate::checking::check_record;
 use crate::fault::{Fault, FileId, Status};
+use crate::judging::Judged;
 use crate::reading::{read_file, read_setup};
 use cell_io::{Sink, SinkFault, Store};
 use cell_machine::Machine;
 use cell_report::verdict_text;
-use race_check::{Verdict, check_races};
+use race_check::Verdict;
 use std::alloc::Global;
 
 /// How long a record file may be, in bytes.
 const RECORD_LIMIT: usize = 33_554_432;
 
-/// The machine whose run the record file has.
+/// The run that the record file has, judged.
 pub fn read_run<T: Store>(
     alloc: Global,
     files: &mut T,
     machine: &str,
     record_file: &str,
-) -> Result<Machine, Fault>
+    reorders: bool,
+) -> Result<Judged, Fault>
     ensures same { T.files files.new ≡ T.files files.old }
     ensures store_count { NoneFell (T.ledger files.old) (T.ledger files.new) }
     ensures input { IfErr result IsOfInput }
     ensures cause { FailsBy (AtMachineOrRecord machine.now record_file.now) (T.ledger files.old) (T.ledger files.new) result }
+    ensures judged { IfOk result (IsJudged reorders) }
     ensures comes { ForSome (T.files files.old) (λ told.
-        (work : Ran → Work) → Comes told (recorded_task machine.now record_file.now work) (λ m. ready (work m)) (T.ledger files.old) (T.ledger files.new) result) }
+        (work : Ran → Work) → Comes told (recorded_task machine.now record_file.now work) (λ judged. ready (work judged.machine)) (T.ledger files.old) (T.ledger files.new) result) }
 {
     let setup = read_setup(alloc, files, machine)?;
     let bytes = read_file(alloc, files, FileId::Rec, record_file, RECORD_LIMIT)?;
-    check_record(alloc, setup, bytes.as_slice())
+    check_record(alloc, &setup, bytes.as_slice(), reorders)
 }
 
 /// Writes the verdict on the machine's run. Its text is made before anything is put.
@@ -63,19 +67,8 @@ pub fn put_verdict<K: Sink>(
     }
 }
 
-/// Looks for races of the machine's run, and writes the verdict.
-fn write_verdict<K: Sink>(alloc: Global, machine: &Machine, out: &mut K) -> Status
-    ensures sink_count { K.faults out.old ≤ K.faults out.new }
-    ensures ends { Ends (verdict_of machine.now) (record { taken = K.taken out.old; faults = K.faults out.old }) (record { taken = K.taken out.new; faults = K.faults out.new }) result }
-{
-    match check_races(alloc, machine) {
-        Ok(verdict) => put_verdict(alloc, machine, verdict, out),
-        Err(_) => Status::Refused(Fault::Memory),
-    }
-}
-
-/// Does what `check` asks for, with this machine file and this record file: reads them and the sources, makes the steps of the record,
-/// compares the states, looks for races, and writes the verdict.
+/// Does what `check` asks for, with this machine file and this record file: reads them and the sources, makes the steps of the record
+/// and looks for races, compares the states, and writes the verdict.
 pub fn check<T: Store, K: Sink>(
     alloc: Global,
     machine: &str,
@@ -100,8 +93,8 @@ pub fn check<T: Store, K: Sink>(
 
     ensures usage { result ≢ Status.Refused Fault.Usage }
 {
-    match read_run(alloc, files, machine, record_file) {
-        Ok(machine) => write_verdict(alloc, &machine, out),
+    match read_run(alloc, files, machine, record_file, false) {
+        Ok(judged) => put_verdict(alloc, &judged.machine, judged.verdict, out),
         Err(fault) => Status::Refused(fault),
     }
 }

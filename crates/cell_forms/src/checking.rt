@@ -4,12 +4,14 @@ ghost use Rattle.std.specs.Prelude.{◌≡◌, ◌≤◌, ◌<◌, ◌^◌, drop
 ghost use Rattle.run_record.specs.Form.{BeginsWith};
 ghost use Rattle.cell_forms.specs.Causes.{IsOfInput};
 ghost use Rattle.cell_forms.specs.Checks.{BeginsWithRun, DifferAt, Finds, RecordsRun, RefusesOrMemory};
+ghost use Rattle.cell_forms.specs.Judging.{IsJudged};
 
-use crate::causes::{record_fault, replay_fault};
+use crate::causes::record_fault;
 use crate::fault::Fault;
+use crate::judging::{Judged, judge};
 use cell_machine::{Machine, Setup};
 use cell_report::states_text;
-use run_record::{Recorded, read_record, replay};
+use run_record::{Recorded, read_record};
 use std::alloc::Global;
 
 /// The first place where the texts differ, counted from 0. A text that ends early differs at its end.
@@ -56,40 +58,48 @@ fn check_states(alloc: Global, machine: &Machine, text: &[u8], end: usize) -> Re
     }
 }
 
-/// Makes the steps of the record that stands at the front of a record file, and compares the states.
+/// Makes the steps of the record that stands at the front of a record file, judges their run, and compares the states.
 fn check_steps(
     alloc: Global,
-    setup: Setup,
+    setup: &Setup,
     text: &[u8],
     record: &Recorded,
-) -> Result<Machine, Fault>
-    requires some { 0 < length setup.entries }
+    reorders: bool,
+) -> Result<Judged, Fault>
+    requires some { 0 < length setup.now.entries }
     requires fits { length text.now < 2 ^ 32 }
     requires found { BeginsWith text.now record.now }
     ensures input { IfErr result IsOfInput }
-    ensures run { IfOk result (λ m. Finds setup text.now (Ok m)) }
-    ensures refused { IfErr result (RefusesOrMemory setup text.now) }
+    ensures run { IfOk result (λ judged. Finds setup.now text.now (Ok judged.machine)) }
+    ensures judged { IfOk result (IsJudged reorders) }
+    ensures refused { IfErr result (RefusesOrMemory setup.now text.now) }
 {
-    let machine = match replay(alloc, setup, record.steps()) {
-        Ok(machine) => machine,
-        Err(error) => return Err(replay_fault(error)),
+    let judged = match judge(alloc, setup, record.steps(), reorders) {
+        Ok(judged) => judged,
+        Err(fault) => return Err(fault),
     };
-    match check_states(alloc, &machine, text, record.end()) {
-        Ok(()) => Ok(machine),
+    match check_states(alloc, &judged.machine, text, record.end()) {
+        Ok(()) => Ok(judged),
         Err(fault) => Err(fault),
     }
 }
 
-/// The machine of the run that a record file is: its record is replayed, and the states after it are compared.
-pub fn check_record(alloc: Global, setup: Setup, text: &[u8]) -> Result<Machine, Fault>
-    requires some { 0 < length setup.entries }
+/// The run that a record file is, judged: its record's steps are made again, and the states after it are compared.
+pub fn check_record(
+    alloc: Global,
+    setup: &Setup,
+    text: &[u8],
+    reorders: bool,
+) -> Result<Judged, Fault>
+    requires some { 0 < length setup.now.entries }
     requires fits { length text.now < 2 ^ 32 }
     ensures input { IfErr result IsOfInput }
-    ensures run { IfOk result (λ m. Finds setup text.now (Ok m)) }
-    ensures refused { IfErr result (RefusesOrMemory setup text.now) }
+    ensures run { IfOk result (λ judged. Finds setup.now text.now (Ok judged.machine)) }
+    ensures judged { IfOk result (IsJudged reorders) }
+    ensures refused { IfErr result (RefusesOrMemory setup.now text.now) }
 {
     match read_record(alloc, text) {
-        Ok(record) => check_steps(alloc, setup, text, &record),
+        Ok(record) => check_steps(alloc, setup, text, &record, reorders),
         Err(error) => Err(record_fault(error)),
     }
 }

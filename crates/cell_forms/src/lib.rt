@@ -8,6 +8,8 @@ mod checking;
 mod debug;
 mod fault;
 mod generated;
+mod judging;
+mod looks;
 mod permute;
 mod program;
 mod reading;

@@ -1,6 +1,6 @@
 //! The form `permute`: the run of a record file is made again in another order, and its record and states are written.
 
-ghost use Rattle.std.specs.Prelude.{◌≡◌, ◌≢◌, ◌≤◌, IfErr, IfOk};
+ghost use Rattle.std.specs.Prelude.{◌≡◌, ◌≢◌, ◌≤◌, IfErr, IfOk, true};
 ghost use Rattle.std.specs.Option.{ForSome};
 ghost use Rattle.cell_io.specs.Store.{NoneFell};
 ghost use Rattle.race_check.specs.Races.{IsVerdict};
@@ -8,61 +8,74 @@ ghost use Rattle.reorder.specs.Nth.{EndsAlike, IsReordered};
 ghost use Rattle.run_permute.specs.Settled.{IsSettled};
 ghost use Rattle.cell_forms.specs.Task.{reordering_of};
 ghost use Rattle.cell_forms.specs.Forms.{permute_task};
+ghost use Rattle.cell_forms.specs.Judging.{IsJudged, LooksAt};
 ghost use Rattle.cell_forms.specs.Reordered.{IsUnsettledOrMemory};
 ghost use Rattle.cell_forms.specs.Answer.{Answers, AtMachineOrRecord, Ends, IsQuiet, ReadFails};
 
 use crate::check::{put_verdict, read_run};
 use crate::fault::{Fault, Status};
+use crate::judging::Judged;
+use crate::looks::Looks;
 use crate::run::write_run;
 use cell_io::{Sink, Store};
 use cell_machine::Machine;
-use race_check::{Verdict, check_races};
-use settled::is_settled;
+use race_check::Verdict;
+use reorder::permute_by_needs;
 use std::alloc::Global;
 
 /// The machine that makes the run in the order of the number, where the run is settled.
-fn reordered(alloc: Global, machine: &Machine, n: u32) -> Result<Machine, Fault>
+fn reordered(alloc: Global, machine: &Machine, looks: &Looks, n: u32) -> Result<Machine, Fault>
     requires accepted { IsVerdict machine.now Verdict.Accepted }
+    requires looks { LooksAt machine.now looks.now }
     ensures settled { IfOk result (λ _. IsSettled machine.now) }
     ensures reordered { IfOk result (IsReordered machine.now n) }
     ensures ends { IfOk result (EndsAlike machine.now) }
     ensures refused { IfErr result (IsUnsettledOrMemory machine.now) }
 {
-    match is_settled(alloc, machine) {
-        Ok(true) => {}
-        Ok(false) => return Err(Fault::NotSettled),
-        Err(_) => return Err(Fault::Memory),
+    if !looks.settling.is_settled(machine) {
+        return Err(Fault::NotSettled);
     }
-    match reorder::permute(alloc, machine, n) {
+    match permute_by_needs(alloc, machine, &looks.needs, n) {
         Ok(again) => Ok(again),
         Err(_) => Err(Fault::Memory),
     }
 }
 
 /// Writes the record and the states of the run, which has no race, in the order of the number.
-fn write_reordered<K: Sink>(alloc: Global, machine: &Machine, n: u32, out: &mut K) -> Status
+fn write_reordered<K: Sink>(
+    alloc: Global,
+    machine: &Machine,
+    looks: &Looks,
+    n: u32,
+    out: &mut K,
+) -> Status
     requires accepted { IsVerdict machine.now Verdict.Accepted }
+    requires looks { LooksAt machine.now looks.now }
     ensures sink_count { K.faults out.old ≤ K.faults out.new }
     ensures ends { Ends (reordering_of machine.now n) (record { taken = K.taken out.old; faults = K.faults out.old }) (record { taken = K.taken out.new; faults = K.faults out.new }) result }
 {
     let _run = machine.steps(); // which are a run, as its contract says
-    match reordered(alloc, machine, n) {
+    match reordered(alloc, machine, looks, n) {
         Ok(again) => write_run(alloc, &again, out),
         Err(fault) => Status::Refused(fault),
     }
 }
 
-/// Looks for races of the machine's run, and writes the verdict where there is one, or else the run in the order of the number.
-fn write_reordering<K: Sink>(alloc: Global, machine: &Machine, n: u32, out: &mut K) -> Status
+/// Writes the verdict on the run where it has a race, or else the run in the order of the number.
+fn write_reordering<K: Sink>(alloc: Global, judged: &Judged, n: u32, out: &mut K) -> Status
+    requires { IsJudged true judged.now }
     ensures sink_count { K.faults out.old ≤ K.faults out.new }
-    ensures ends { Ends (reordering_of machine.now n) (record { taken = K.taken out.old; faults = K.faults out.old }) (record { taken = K.taken out.new; faults = K.faults out.new }) result }
+    ensures ends { Ends (reordering_of judged.now.machine n) (record { taken = K.taken out.old; faults = K.faults out.old }) (record { taken = K.taken out.new; faults = K.faults out.new }) result }
 {
-    let Ok(verdict) = check_races(alloc, machine) else {
-        return Status::Refused(Fault::Memory);
-    };
-    match verdict {
-        Verdict::Accepted => write_reordered(alloc, machine, n, out),
-        Verdict::Race { .. } => put_verdict(alloc, machine, verdict, out),
+    let machine = &judged.machine;
+    match judged.verdict {
+        Verdict::Accepted => {
+            let Some(looks) = &judged.looks else {
+                unreachable!()
+            };
+            write_reordered(alloc, machine, looks, n, out)
+        }
+        Verdict::Race { .. } => put_verdict(alloc, machine, judged.verdict, out),
     }
 }
 
@@ -93,8 +106,8 @@ pub fn permute<T: Store, K: Sink>(
 
     ensures usage { result ≢ Status.Refused Fault.Usage }
 {
-    match read_run(alloc, files, machine, record_file) {
-        Ok(machine) => write_reordering(alloc, &machine, n, out),
+    match read_run(alloc, files, machine, record_file, true) {
+        Ok(judged) => write_reordering(alloc, &judged, n, out),
         Err(fault) => Status::Refused(fault),
     }
 }

@@ -4,10 +4,9 @@ mod Bests
 mod Determined
 mod Making
 mod Places
-mod Counted
-mod Taking
 mod Same
 mod Grown
 mod Kept
 mod Knowing
 mod AllRaces
+mod Touching

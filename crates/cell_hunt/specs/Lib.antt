@@ -6,11 +6,10 @@ pub mod Choices
 pub mod Ends
 pub mod Runs
 pub mod Goings
-pub mod Counts
 pub mod Outcomes
-pub mod Hunts
-pub mod Takes
 pub mod Sites
 pub mod Origins
 pub mod Racings
+pub mod Kinds
+pub mod Touched
 pub mod SoFar

@@ -11,15 +11,6 @@ use Rattle.cell_hunt.specs.declared.site.Site.{Site}
 use Rattle.cell_hunt.specs.declared.site.Sites.{Sites}
 use Rattle.cell_hunt.specs.declared.site.Site.TheVariants.{Exec, Piece, Elem, Retire, Atomic, Host}
 
--- a site's kind by a number, its processor, and its address or number
-abbrev pub parts_of : Site → ℕ × ℕ × ℕ
-parts_of (Exec spe at) = (0, spe, at)
-parts_of (Piece spe at) = (1, spe, at)
-parts_of (Elem spe at) = (2, spe, at)
-parts_of (Retire spe at) = (3, spe, at)
-parts_of (Atomic spe at) = (4, spe, at)
-parts_of (Host action) = (5, 0, action)
-
 -- the site of a step of which this is the address of its instruction, or the number of its action
 abbrev pub site_of : Step → ℕ → Site
 site_of (step.Exec p) at = Exec p at

@@ -10,6 +10,7 @@ use Rattle.cell_hunt.specs.declared.racing.Racing.{Racing}
 use Rattle.cell_hunt.specs.Origins.{Knows}
 use Rattle.cell_hunt.specs.Racings.{HasSecond, IsRacing}
 use Rattle.cell_hunt.specs.Sites.{AreSites}
+use Rattle.cell_hunt.specs.Touched.{HasTouched}
 
 abbrev pub made_by : SoFar → Ran
 made_by so_far = run_of so_far.search
@@ -26,9 +27,10 @@ pub record AreRacesTo (n : ℕ) (m : Ran) (races : List Racing) : Type 0 where
   pub all : (i j : ℕ) → j < n → RaceIn m i j → HasSecond races j
   pub ascend : AllPairs (λ a b. a.second < b.second) races
 
--- the search can go on, and what is kept tells where the steps so far come from, and the races of the first n
+-- the search can go on, and what is kept tells where the steps so far come from, what they touched, and the races of the first n
 pub record IsSearchedTo (n : ℕ) (so_far : SoFar) : Type 0 where
   pub keeps : Keeps so_far.search
   pub knows : Knows (made_by so_far) so_far.origins
   pub least : IsLeastTo n (made_by so_far) so_far.least
   pub all : AreRacesTo n (made_by so_far) so_far.races.items
+  pub touched : HasTouched (made_by so_far) so_far.touched

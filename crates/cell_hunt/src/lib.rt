@@ -1,6 +1,7 @@
 //! Many runs of one machine, in orders that a seed chooses, each searched for races.
 //!
-//! A race that shows only once in many runs shows in one of them. Every actor of a machine has a key, and of those that have an allowed step
+//! A race that shows only once in many runs shows in one of them, and how many kinds of runs there are, by what their actors touched in which
+//! order, tells how much is left to be seen. Every actor of a machine has a key, and of those that have an allowed step
 //! the one with the greatest key makes one; the ways of a hunt differ in how often keys are drawn anew, and in whose keys weigh more.
 #![tactic(auto)]
 
@@ -8,17 +9,17 @@ mod actors;
 mod chooser;
 mod draws;
 mod error;
-mod found;
 mod origins;
 mod outcome;
 mod racing;
 mod running;
 mod site;
 mod so_far;
+mod touched;
+mod touches;
 mod way;
 
 pub use error::HuntError;
-pub use found::{Found, Hunted, outcome_of_seed};
 pub use outcome::{Outcome, outcome_of};
 pub use racing::Racing;
 pub use running::{SeedRun, run_of_seed};

@@ -10,6 +10,7 @@ ghost use Rattle.cell_hunt.specs.SoFar.{IsSearchedTo, made_by};
 ghost use Rattle.cell_hunt.specs.Racings.{AreAllRaces};
 ghost use Rattle.cell_hunt.specs.Runs.{IsRunOfSeed};
 ghost use Rattle.cell_hunt.specs.Goings.{Goes};
+ghost use Rattle.cell_hunt.specs.Kinds.{kind_of};
 
 use crate::chooser::Chooser;
 use crate::error::HuntError;
@@ -28,6 +29,7 @@ pub struct SeedRun {
     machine: Machine,
     least: Option<Racing>,
     races: Vec<Racing>,
+    kind: u64,
 }
 
 impl Model for SeedRun {
@@ -38,7 +40,10 @@ impl Model for SeedRun {
 
     ghost view = { λ r. r.machine };
 
-    ghost invariant = { λ r. IsSearched r.machine r.least r.races.items };
+    ghost use Rattle.std.specs.Prelude.{◌≡◌};
+    ghost use Rattle.cell_hunt.specs.Kinds.{kind_of};
+
+    ghost invariant = { λ r. IsSearched r.machine r.least r.races.items × (r.kind ≡ kind_of r.machine) };
 }
 
 impl SeedRun {
@@ -65,6 +70,13 @@ impl SeedRun {
         ensures { AreAllRaces self.now result.now }
     {
         self.races.as_slice()
+    }
+
+    /// The digest of its kind.
+    pub fn kind(&self) -> u64
+        ensures { result ≡ kind_of self.now }
+    {
+        self.kind
     }
 }
 
@@ -97,9 +109,11 @@ pub fn run_of_seed(alloc: Global, setup: &Setup, seed: u64, run: u32) -> Result<
     let mut chooser = Chooser::new(way_of(run), words);
     let mut so_far = SoFar::new(alloc, setup)?;
     make_all(&mut so_far, &mut chooser)?;
+    let kind = so_far.touched.kind();
     Ok(SeedRun {
         machine: so_far.search.into_machine(),
         least: so_far.least,
         races: so_far.races,
+        kind,
     })
 }

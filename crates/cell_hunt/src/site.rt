@@ -1,7 +1,7 @@
 //! Where a step comes from.
 
-ghost use Rattle.std.specs.Prelude.{◌≡◌, ◌↔◌, IsTrue};
-ghost use Rattle.cell_hunt.specs.Sites.{parts_of, site_of};
+ghost use Rattle.std.specs.Prelude.{◌≡◌};
+ghost use Rattle.cell_hunt.specs.Sites.{site_of};
 
 use cell_base::Step;
 
@@ -22,7 +22,7 @@ pub enum Site {
     Host { action: u32 },
 }
 
-/// Where the two steps of a race come from, in the order of the run. Two races are the same where these are.
+/// Where the two steps of a race come from, in the order of the run.
 #[derive(Clone, Copy)]
 pub struct Sites {
     pub first: Site,
@@ -43,36 +43,4 @@ impl Site {
             Step::Host => Site::Host { action: at },
         }
     }
-}
-
-impl Site {
-    /// Its kind by a number, its processor, and its address or number.
-    fn parts(self) -> (u8, u8, u32)
-        ensures { result ≡ parts_of self }
-    {
-        match self {
-            Site::Exec { spe, at } => (0, spe, at),
-            Site::Piece { spe, at } => (1, spe, at),
-            Site::Elem { spe, at } => (2, spe, at),
-            Site::Retire { spe, at } => (3, spe, at),
-            Site::Atomic { spe, at } => (4, spe, at),
-            Site::Host { action } => (5, 0, action),
-        }
-    }
-}
-
-/// Whether two sites are the same.
-fn is_same_site(a: Site, b: Site) -> bool
-    ensures { IsTrue result ↔ (a ≡ b) }
-{
-    let (kind, spe, at) = a.parts();
-    let (k, p, n) = b.parts();
-    kind == k && spe == p && at == n
-}
-
-/// Whether two races are the same.
-pub fn is_same(a: Sites, b: Sites) -> bool
-    ensures { IsTrue result ↔ (a ≡ b) }
-{
-    is_same_site(a.first, b.first) && is_same_site(a.second, b.second)
 }

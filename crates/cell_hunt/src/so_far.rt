@@ -9,6 +9,7 @@ ghost use Rattle.cell_hunt.specs.Runs.{with_step};
 use crate::error::HuntError;
 use crate::origins::Origins;
 use crate::racing::Racing;
+use crate::touched::Touched;
 use cell_base::Step;
 use cell_machine::Setup;
 use race_check::Search;
@@ -21,6 +22,7 @@ pub struct SoFar {
     pub origins: Origins,
     pub least: Option<Racing>,
     pub races: Vec<Racing>,
+    pub touched: Touched,
 }
 
 impl SoFar {
@@ -38,6 +40,7 @@ impl SoFar {
             origins: Origins::new(alloc),
             least: None,
             races: Vec::new(alloc),
+            touched: Touched::new(alloc, setup.lines())?,
         })
     }
 
@@ -89,6 +92,7 @@ impl SoFar {
         ensures searched { OnOk result (IsSearchedTo (place + 1) self.new) }
     {
         let effect = self.origins.add(self.search.machine(), step, place)?;
+        self.touched.add(step, effect);
         let Some(latest) = self.search.go_on(step, effect)? else {
             return Ok(());
         };

@@ -1,9 +1,9 @@
 -- Texts that grow, and lines one after the other.
 use Rattle.std.proofs.Common.{◌≡◌, ℕ, zero, suc, ◌+◌, ◌-◌, ◌<◌, ◌≤◌, Bool, true, false, if◌then◌else◌, nat_lt, List, [], ◌∷◌, ◌++◌, take, drop, drop-cons, get_or, length, arith, refl, sym, ap, ap₂, ◌∙◌, append_assoc, length-append}
-use Rattle.std.specs.Prelude.{Option, Some, None, IsSome, Result, Ok, Err, is_err, is_some, IfOk, OnOk, IsSomeAnd, slice_get, slice_index_or, replicate}
+use Rattle.std.specs.Prelude.{Option, Some, None, IsSome, Result, Ok, Err, is_err, is_some, IsTrue, IfOk, OnOk, IsSomeAnd, slice_get, slice_index_or, replicate}
 use Rattle.std.specs.Option.{option_and_then, option_map, option_map_or}
 use Rattle.std.proofs.Math.Seq.{take-append-add}
-use Rattle.std.proofs.lemmas.List.{append-nil, nil_from_length, length-drop}
+use Rattle.std.proofs.lemmas.List.{append-nil, nil_from_length, length-drop, take-append-drop, take_more}
 use Rattle.cell_base.specs.declared.steps.Step.{Step}
 use Rattle.cell_base.specs.declared.steps.Step.TheVariants.{Exec, Piece, Elem, Retire, Atomic, Host}
 use Rattle.cell_base.specs.Records.{step_line}
@@ -23,7 +23,7 @@ use Rattle.cell_machine.specs.Run.{Ran, state_of, next_of}
 use Rattle.cell_machine.proofs.Replays.{replay-snoc}
 use Rattle.cell_trace.specs.declared.looking.Before.{Before}
 use Rattle.cell_trace.specs.declared.looking.After.{After}
-use Rattle.cell_trace.specs.Effects.{asked_in, before_in, after_in, effect_line, line_between, line_in, lines_in, refused_in, grown}
+use Rattle.cell_trace.specs.Effects.{asked_in, before_in, after_in, effect_line, line_between, line_in, lines_in, refused_in, grown, StopsAt}
 
 -- ---- the step as its line, without its end
 
@@ -165,6 +165,34 @@ text_of_none out new o is wrote = rw is at wrote
 
 pub grown_of : (n x y : Ran) (b : Bool) → b ≡ true → n ≡ (if b then x else y) → n ≡ x
 grown_of n x y b holds made = rw holds at made
+
+pub kept_of : (n x y : Ran) (b : Bool) → b ≡ false → n ≡ (if b then x else y) → n ≡ y
+kept_of n x y b fails made = rw fails at made
+
+-- ---- where a machine stops
+
+pub not_there : {X : Type 0} (o : Option X) (b : Bool) → b ≡ false → (IsSome o → IsTrue b) → o ≡ None
+not_there None b fails h = refl
+not_there (Some x) b fails h = let holds : b ≡ true = h refl in absurd (cc)
+
+pub not_some : {X : Type 0} (o : Option X) (b : Bool) → b ≡ is_some o → b ≡ false → o ≡ None
+not_some None b told fails = refl
+not_some (Some x) b told fails = absurd (cc)
+
+pub stops : (m l n : Ran) (steps : List Step) (i : ℕ) (s d : Step) → i < length steps → s ≡ get_or steps i d → l ≡ record m { steps = m.steps ++ take i steps } → n ≡ l → next_of l s ≡ None → StopsAt m steps n s
+stops m l n steps i s d lt same stands kept none = record {
+  before = take i steps;
+  after = drop (suc i) steps;
+  parts = sym (take-append-drop i steps) ∙ ap (λ (t : List Step). take i steps ++ t) (drop-cons steps i d lt ∙ ap (λ (x : Step). x ∷ drop (suc i) steps) (sym same));
+  made = kept ∙ stands;
+  refused = ap (λ (x : Ran). next_of x s) kept ∙ none;
+}
+
+pub goes_on : (m l n : Ran) (steps : List Step) (i : ℕ) (s d : Step) → i < length steps → s ≡ get_or steps i d → l ≡ record m { steps = m.steps ++ take i steps } → n ≡ grown l s → n ≡ record m { steps = m.steps ++ take (i + 1) steps }
+goes_on m l n steps i s d lt same stands made =
+    let more : take (i + 1) steps ≡ take i steps ++ s ∷ [] = take_more steps i d lt ∙ ap (λ (x : Step). take i steps ++ x ∷ []) (sym same) in
+    let here : (m.steps ++ take i steps) ++ s ∷ [] ≡ m.steps ++ take (i + 1) steps = append_assoc m.steps (take i steps) (s ∷ []) ∙ ap (λ (t : List Step). m.steps ++ t) (sym more) in
+    made ∙ ap (λ (x : Ran). grown x s) stands ∙ ap (λ (t : List Step). record m { steps = t }) here
 
 -- ---- processors
 

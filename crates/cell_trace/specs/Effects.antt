@@ -1,5 +1,5 @@
 -- What the steps of a run do, a line a step: the step as its line in the record, and then its fields.
-use Rattle.std.specs.Prelude.{ℕ, ◌+◌, ◌-◌, ◌%◌, ◌==◌, ◌&&◌, nat_lt, if◌then◌else◌, List, [], ◌∷◌, ◌++◌, take, length, codes, Option, Some, None, is_none, slice_get, slice_index_or}
+use Rattle.std.specs.Prelude.{◌≡◌, ℕ, ◌+◌, ◌-◌, ◌%◌, ◌==◌, ◌&&◌, nat_lt, if◌then◌else◌, List, [], ◌∷◌, ◌++◌, take, length, codes, Option, Some, None, is_none, slice_get, slice_index_or}
 use Rattle.std.specs.Option.{option_and_then, option_map, option_map_or}
 use Rattle.cell_base.specs.declared.steps.Step.{Step}
 use Rattle.cell_base.specs.declared.steps.Step.TheVariants.{Exec, Piece, Elem, Atomic, Host}
@@ -207,3 +207,18 @@ lines_in m (s ∷ steps) = option_map_or (λ line. line ++ lines_in (grown m s) 
 unfoldable pub refused_in : Ran → List Step → Option Step
 refused_in m [] = None
 refused_in m (s ∷ steps) = if is_none (line_in m s) then Some s else refused_in (grown m s) steps
+
+-- ---- machines that make steps
+
+-- The first of the steps were made behind those of m, and this one, which is next, isn't allowed there.
+pub record StopsAt (m : Ran) (steps : List Step) (n : Ran) (s : Step) : Type 0 where
+  pub before : List Step
+  pub after : List Step
+  pub parts : steps ≡ before ++ s ∷ after
+  pub made : n ≡ record m { steps = m.steps ++ before }
+  pub refused : next_of n s ≡ None
+
+-- n is m after the steps, or after those before the one that isn't allowed
+abbrev pub Makes : Ran → List Step → Ran → Option Step → Type 0
+Makes m steps n None = n ≡ record m { steps = m.steps ++ steps }
+Makes m steps n (Some s) = StopsAt m steps n s

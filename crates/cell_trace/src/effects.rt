@@ -4,7 +4,8 @@ ghost use Rattle.std.specs.Prelude.{◌≡◌, ◌++◌, [], ◌∷◌, ◌+◌,
 ghost use Rattle.std.specs.Option.{option_map_or};
 ghost use Rattle.cell_base.specs.Records.{field, line_feed, step_line};
 ghost use Rattle.cell_trace.specs.Fields.{named, bit, atomic_field};
-ghost use Rattle.cell_trace.specs.Effects.{place_word, span_field, spans, tags_field, channel_fields, done_fields, own_fields, value_of, mailbox_name, mail_field, deliver_field, signal_fields, note_fields, step_words, effect_line, line_in, lines_in, refused_in, grown};
+ghost use Rattle.cell_trace.specs.Effects.{place_word, span_field, spans, tags_field, channel_fields, done_fields, own_fields, value_of, mailbox_name, mail_field, deliver_field, signal_fields, note_fields, step_words, effect_line, line_in, lines_in, refused_in, grown, Makes};
+ghost use Rattle.cell_machine.specs.Run.{next_of};
 ghost use Rattle.cell_trace.specs.Fields.{word};
 
 use crate::fields::{
@@ -254,6 +255,7 @@ fn put_effect(
     ensures told { IfOk result (λ is_told. is_told ≡ is_some (line_in m.old step)) }
     ensures line { OnOk result (out.new.items ≡ out.old.items ++ option_map_or (λ line. line) (line_in m.old step) []) }
     ensures made { IfOk result (λ is_told. m.new ≡ (if is_told then grown m.old step else m.old)) }
+    ensures allowed { IfOk result (λ is_told. is_told ≡ is_some (next_of m.old step)) }
 {
     let Some(effect) = m.effect(step) else {
         return Ok(false);
@@ -278,6 +280,7 @@ pub fn put_effects(
 ) -> Result<Option<Step>, AllocError>
     ensures lines { OnOk result (out.new.items ≡ out.old.items ++ lines_in m.old steps.now) }
     ensures refused { IfOk result (λ refused. refused ≡ refused_in m.old steps.now) }
+    ensures made { IfOk result (Makes m.old steps.now m.new) }
 {
     for step in steps {
         if !put_effect(out, m, reserved, *step)? {

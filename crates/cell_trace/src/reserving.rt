@@ -1,9 +1,9 @@
 //! The lines that processors reserved last, by their atomic commands: of a reservation that a store has ended the machine shows nothing.
 
-ghost use Rattle.std.specs.Prelude.{◌≡◌, ◌≤◌, ℕ, [], length, Option, Some, None, ◌++◌, ◌∷◌, if◌then◌else◌, ◌↔◌, IsTrue, IsSome, IfNone, slice_index_or};
+ghost use Rattle.std.specs.Prelude.{◌≡◌, ◌≤◌, ℕ, [], length, Option, Some, None, ◌++◌, ◌∷◌, if◌then◌else◌, ◌↔◌, IsTrue, IsSome, slice_index_or};
 ghost use Rattle.cell_machine.specs.Opening.{Opening, opening};
 ghost use Rattle.cell_machine.specs.Run.{next_of};
-ghost use Rattle.cell_trace.specs.Effects.{grown};
+ghost use Rattle.cell_trace.specs.Effects.{grown, Makes};
 ghost use Rattle.cell_trace.specs.Reserving.{Tracks, line_by, lines_by, lines_next};
 
 use crate::looking::done_in;
@@ -90,7 +90,7 @@ fn pass(m: &mut Machine, reserved: &mut Reserved, step: Step) -> bool
 
 /// Makes steps, up to the first that isn't allowed, which it answers.
 pub fn follow(m: &mut Machine, reserved: &mut Reserved, steps: &[Step]) -> Option<Step>
-    ensures made { IfNone result (m.new ≡ record m.old { steps = m.old.steps ++ steps.now }) }
+    ensures { Makes m.old steps.now m.new result }
 {
     for step in steps {
         if !pass(m, reserved, *step) {

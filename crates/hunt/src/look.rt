@@ -1,23 +1,32 @@
-//! What standard error shows of a hunt where it is a terminal.
+//! What standard error shows of a hunt where it is a terminal, and what ends a hunt early.
 
 use hunt_forms::Progress;
 use hunt_tally::Hunted;
+use std::fs;
 use std::io::IsTerminal;
 use std::time::Instant;
 
-/// How long the threads are to be busy at most before the next look, and how long a line stands at least, in milliseconds.
-const BUSY: u128 = 200;
-
+/// How long the threads are to be busy at most before the next look, and how long a line stands at least, in milliseconds. At a look all wait for
+/// the thread that is the last, and the runs of a hunt take from one time to a hundred times as long.
+const BUSY: u128 = 2000;
 const STANDS: u128 = 100;
+
+/// How many runs a thread makes before the first look: one of each way of a hunt, so that all threads have as much to do.
+const FIRST_SHARE: u32 = 4;
 
 /// How many runs a thread makes at most before the next look.
 const MOST_SHARE: u32 = 4096;
 
-/// Shows how far a hunt is, and finds out how many runs fit between two looks.
+/// Shows how far a hunt is, finds out how many runs fit between two looks, and ends the hunt once a file is there.
 #[derive(Drop)]
 pub struct Look<'a> {
     rt: &'a HostRuntime,
     is_terminal: bool,
+    /// The file that ends the hunt, whether it has, and how many runs were made of how many.
+    until: Option<&'a str>,
+    is_stopped: bool,
+    made: u32,
+    runs: u32,
     /// When the hunt began, and since when the line stands.
     began: Option<Instant>,
     stands: Option<Instant>,
@@ -39,15 +48,27 @@ fn since(rt: &HostRuntime, then: Option<Instant>) -> u128 {
 
 impl<'a> Look<'a> {
     /// Before the first run.
-    pub fn new(rt: &'a HostRuntime) -> Look<'a> {
+    pub fn new(rt: &'a HostRuntime, until: Option<&'a str>) -> Look<'a> {
         let now = Instant::now(rt).ok();
         Look {
             rt,
             is_terminal: rt.stderr().is_terminal(),
+            until,
+            is_stopped: false,
+            made: 0,
+            runs: 0,
             began: now,
             stands: now,
-            share: 1,
+            share: FIRST_SHARE,
             busy: None,
+        }
+    }
+
+    /// Says that the hunt ended early, where it did.
+    pub fn tell_end(&self) {
+        if self.is_stopped {
+            let rt = self.rt;
+            let _ = eprintln!(rt; "hunt: ended early: {} of {} runs were made", self.made, self.runs);
         }
     }
 
@@ -71,6 +92,8 @@ impl<'a> Look<'a> {
 }
 
 impl<'a> Progress for Look<'a> {
+    ghost stopped = { λ s. s.is_stopped };
+
     /// Twice as many as before while they take less than half of the time that threads are to be busy, and half as many where they take longer.
     fn share(&mut self) -> u32 {
         let took = since(self.rt, self.busy);
@@ -83,7 +106,18 @@ impl<'a> Progress for Look<'a> {
         self.share
     }
 
+    /// Not once the file is there.
+    fn goes_on(&mut self) -> bool {
+        if let Some(name) = self.until {
+            let is_there = fs::exists(self.rt, name).unwrap_or(false);
+            self.is_stopped = self.is_stopped || is_there;
+        }
+        !self.is_stopped
+    }
+
     fn show(&mut self, hunted: &Hunted, runs: u32) {
+        self.made = hunted.runs();
+        self.runs = runs;
         if self.is_terminal && since(self.rt, self.stands) >= STANDS {
             self.write(hunted, runs);
             self.stands = Instant::now(self.rt).ok();

@@ -9,12 +9,11 @@ use hunt_forms::{Status, hunt};
 use look::Look;
 use std::io;
 use std::process::ExitCode;
-use words::{name_behind, words_of};
+use words::{name_behind, until_of, words_of};
 
 fn main(rt: HostRuntime) -> ExitCode {
     let mut files = DirStore::new(&rt);
     let mut out = OutSink::new(io::writer(&rt));
-    let mut look = Look::new(&rt);
     let words = match words_of(&rt) {
         Ok(words) => words,
         Err(refusal) => {
@@ -22,6 +21,7 @@ fn main(rt: HostRuntime) -> ExitCode {
             return ExitCode::from(Status::Refused(refusal.fault).code());
         }
     };
+    let mut look = Look::new(&rt, until_of(words.as_slice()));
     let status = hunt(
         &rt,
         rt.alloc(),
@@ -30,6 +30,7 @@ fn main(rt: HostRuntime) -> ExitCode {
         &mut out,
         &mut look,
     );
+    look.tell_end();
     if let Status::Refused(fault) = status {
         match name_behind(words.as_slice(), fault) {
             Some(name) => {

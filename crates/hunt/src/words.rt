@@ -47,6 +47,14 @@ pub fn words_of(rt: &HostRuntime) -> Result<Vec<String>, Refusal> {
     }
 }
 
+/// The file that ends a hunt once it is there, where words name one.
+pub fn until_of(words: &[String]) -> Option<&str> {
+    match form_of(words) {
+        Form::Hunt(hunt) => hunt.until,
+        _ => None,
+    }
+}
+
 /// The machine file, the expectation file and the pass file that words name.
 fn names_of(words: &[String]) -> (Option<&str>, Option<&str>, Option<&str>) {
     match form_of(words) {

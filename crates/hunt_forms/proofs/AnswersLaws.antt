@@ -1,26 +1,24 @@
 -- What is promised follows from how the parts end.
-use Rattle.std.proofs.Common.{◌≡◌, ◌≤◌, ◌↔◌, ℕ, List, None, refl, sym, subst, le_refl}
+use Rattle.std.proofs.Common.{◌≡◌, ◌≤◌, ◌↔◌, ℕ, Bool, List, refl, sym, subst, le_refl}
 use Rattle.std.specs.Prelude.{◌≢◌}
 use Rattle.std.specs.Option.{ForSome}
 use Rattle.cell_io.specs.Files.{File}
 use Rattle.cell_io.specs.Store.{Ledger, NoneFell}
-use Rattle.cell_machine.specs.Opening.{Opening}
 use Rattle.cell_forms.specs.Answer.{Sinks}
 use Rattle.hunt_forms.specs.declared.fault.Fault.{Fault}
 use Rattle.hunt_forms.specs.declared.fault.Fault.TheVariants.{Usage, WriteFault, Memory}
 use Rattle.hunt_forms.specs.declared.fault.Status.{Status}
 use Rattle.hunt_forms.specs.declared.fault.Status.TheVariants.{Clean, Found, Refused}
 use Rattle.hunt_forms.specs.Words.{Spoken, hunt, each, record_of, help, no_form}
-use Rattle.hunt_forms.specs.Heard.{Word}
-use Rattle.hunt_forms.specs.declared.input.Quarry.{Quarry}
-use Rattle.hunt_forms.specs.Files.{IsOfFiles, IsQuarry}
-use Rattle.hunt_forms.specs.Answers.{Stores, Promises, Answers, Writes, Refuses, ReadFails, IsQuiet, EndsText, EndsRun, TellsRun}
+use Rattle.hunt_forms.specs.declared.help.TheConstants.{HELP}
+use Rattle.hunt_forms.specs.Files.{IsOfFiles}
+use Rattle.hunt_forms.specs.Answers.{Stores, Promises, Answers, Writes, Refuses, ReadFails, IsQuiet, EndsText, EndsBy}
 
 -- ---- files that are refused
 
-answers_refused : (files : List File) (spoken : Spoken) (old new : Ledger) (before after : Sinks) (fault : Fault) → IsOfFiles fault → Refuses files spoken old new fault → Answers files spoken old new before after (Refused fault)
-answers_refused files spoken old new before after WriteFault input r = absurd input
-answers_refused files spoken old new before after fault input r = r
+answers_refused : (files : List File) (spoken : Spoken) (stopped : Bool) (old new : Ledger) (before after : Sinks) (fault : Fault) → IsOfFiles fault → Refuses files spoken old new fault → Answers files spoken stopped old new before after (Refused fault)
+answers_refused files spoken stopped old new before after WriteFault input r = absurd input
+answers_refused files spoken stopped old new before after fault input r = r
 
 quiet_refused : (sink : Sinks) (fault : Fault) → IsOfFiles fault → IsQuiet sink sink (Refused fault)
 quiet_refused sink WriteFault input = absurd input
@@ -32,105 +30,109 @@ no_usage spoken status form other = (λ e. absurd (other e), λ e. absurd (form 
 not_usage : (fault : Fault) → IsOfFiles fault → Refused fault ≢ Refused Usage
 not_usage fault input e = let same : fault ≡ Usage = cc in subst IsOfFiles same input
 
-pub refused : (spoken : Spoken) (store store_after : Stores) (sink : Sinks) (fault : Fault) → spoken ≢ no_form → IsOfFiles fault → store_after.files ≡ store.files → NoneFell store.ledger store_after.ledger
+pub refused : (spoken : Spoken) (stopped : Bool) (store store_after : Stores) (sink : Sinks) (fault : Fault) → spoken ≢ no_form → IsOfFiles fault → store_after.files ≡ store.files → NoneFell store.ledger store_after.ledger
     → ForSome store.files (λ files. Refuses files spoken store.ledger store_after.ledger fault) → ReadFails spoken store.ledger store_after.ledger (Refused fault)
-    → Promises spoken store store_after sink sink (Refused fault)
-refused spoken store store_after sink fault form input same count told fails = record {
+    → Promises spoken stopped store store_after sink sink (Refused fault)
+refused spoken stopped store store_after sink fault form input same count told fails = record {
   same = same;
   store_count = count;
   sink_count = le_refl sink.faults;
-  told = λ files is. answers_refused files spoken store.ledger store_after.ledger sink sink fault input (told files is);
+  told = λ files is. answers_refused files spoken stopped store.ledger store_after.ledger sink sink fault input (told files is);
   read_fault = fails;
   quiet = quiet_refused sink fault input;
   usage = no_usage spoken (Refused fault) form (not_usage fault input);
 }
-
--- ---- want of memory
-
-fails_memory : (spoken : Spoken) (old new : Ledger) → ReadFails spoken old new (Refused Memory)
-fails_memory (hunt a) old new = tt
-fails_memory (each machine from runs seed) old new = tt
-fails_memory (record_of machine run seed) old new = tt
-fails_memory help old new = tt
-fails_memory no_form old new = tt
 
 pub none_fell : (l : Ledger) → NoneFell l l
 none_fell l = record { faults = le_refl l.faults; short = le_refl l.short }
 
 -- ---- a text that was written
 
-answers_text : (files : List File) (spoken : Spoken) (old new : Ledger) (before after : Sinks) (text : List ℕ) (status result : Status) → EndsText text status before after result → Writes files spoken status text → Answers files spoken old new before after result
-answers_text files spoken old new before after text status Clean e w = (text, subst (λ s. Writes files spoken s text) (sym e.0) w, e.1)
-answers_text files spoken old new before after text status Found e w = (text, subst (λ s. Writes files spoken s text) (sym e.0) w, e.1)
-answers_text files spoken old new before after text status (Refused WriteFault) e w = (e.0, (status, text, w, e.1))
-answers_text files spoken old new before after text status (Refused fault) e w = absurd e
+-- what tells is what the words ask for
+abbrev pub IsAsked : (Status → List ℕ → Type 0) → List File → Spoken → Bool → Type 0
+IsAsked Tells files spoken stopped = (status : Status) (text : List ℕ) → Tells status text → Writes files spoken stopped status text
 
-fails_text : (spoken : Spoken) (old new : Ledger) (before after : Sinks) (text : List ℕ) (status result : Status) → EndsText text status before after result → ReadFails spoken old new result
-fails_text (hunt a) old new before after text status (Refused WriteFault) e = tt
-fails_text (hunt a) old new before after text status (Refused fault) e = absurd e
-fails_text (each machine from runs seed) old new before after text status (Refused WriteFault) e = tt
-fails_text (each machine from runs seed) old new before after text status (Refused fault) e = absurd e
-fails_text (record_of machine run seed) old new before after text status (Refused WriteFault) e = tt
-fails_text (record_of machine run seed) old new before after text status (Refused fault) e = absurd e
-fails_text spoken old new before after text status result e = tt
+answers_by : (Tells : Status → List ℕ → Type 0) (files : List File) (spoken : Spoken) (stopped : Bool) (old new : Ledger) (before after : Sinks) (result : Status) → Refuses files spoken old new Memory → IsAsked Tells files spoken stopped → EndsBy Tells before after result → Answers files spoken stopped old new before after result
+answers_by Tells files spoken stopped old new before after Clean short is e = (e.0, is Clean e.0 e.1, e.2)
+answers_by Tells files spoken stopped old new before after Found short is e = (e.0, is Found e.0 e.1, e.2)
+answers_by Tells files spoken stopped old new before after (Refused WriteFault) short is e = (e.0, (e.1.0, e.1.1, is e.1.0 e.1.1 e.1.2, e.1.3))
+answers_by Tells files spoken stopped old new before after (Refused Memory) short is e = short
+answers_by Tells files spoken stopped old new before after (Refused fault) short is e = absurd e
 
-quiet_text : (before after : Sinks) (text : List ℕ) (status result : Status) → EndsText text status before after result → IsQuiet before after result
-quiet_text before after text status Clean e = tt
-quiet_text before after text status Found e = tt
-quiet_text before after text status (Refused WriteFault) e = e.0
-quiet_text before after text status (Refused fault) e = absurd e
+fails_by : (Tells : Status → List ℕ → Type 0) (spoken : Spoken) (old new : Ledger) (before after : Sinks) (result : Status) → EndsBy Tells before after result → ReadFails spoken old new result
+fails_by Tells (hunt a) old new before after (Refused WriteFault) e = tt
+fails_by Tells (hunt a) old new before after (Refused Memory) e = tt
+fails_by Tells (hunt a) old new before after (Refused fault) e = absurd e
+fails_by Tells (each machine from runs seed) old new before after (Refused WriteFault) e = tt
+fails_by Tells (each machine from runs seed) old new before after (Refused Memory) e = tt
+fails_by Tells (each machine from runs seed) old new before after (Refused fault) e = absurd e
+fails_by Tells (record_of machine run seed) old new before after (Refused WriteFault) e = tt
+fails_by Tells (record_of machine run seed) old new before after (Refused Memory) e = tt
+fails_by Tells (record_of machine run seed) old new before after (Refused fault) e = absurd e
+fails_by Tells spoken old new before after result e = tt
 
-text_no_usage : (before after : Sinks) (text : List ℕ) (status result : Status) → EndsText text status before after result → result ≢ Refused Usage
-text_no_usage before after text status result e is = subst (EndsText text status before after) is e
+quiet_by : (Tells : Status → List ℕ → Type 0) (before after : Sinks) (result : Status) → EndsBy Tells before after result → IsQuiet before after result
+quiet_by Tells before after Clean e = tt
+quiet_by Tells before after Found e = tt
+quiet_by Tells before after (Refused WriteFault) e = e.0
+quiet_by Tells before after (Refused Memory) e = e
+quiet_by Tells before after (Refused fault) e = absurd e
 
-pub written : (spoken : Spoken) (store store_after : Stores) (sink sink_after : Sinks) (text : List ℕ) (status result : Status) → spoken ≢ no_form → store_after.files ≡ store.files → NoneFell store.ledger store_after.ledger → sink.faults ≤ sink_after.faults
-    → ForSome store.files (λ files. Writes files spoken status text) → EndsText text status sink sink_after result
-    → Promises spoken store store_after sink sink_after result
-written spoken store store_after sink sink_after text status result form same count faults told ends = record {
+by_no_usage : (Tells : Status → List ℕ → Type 0) (before after : Sinks) (result : Status) → EndsBy Tells before after result → result ≢ Refused Usage
+by_no_usage Tells before after result e is = subst (EndsBy Tells before after) is e
+
+pub ended : (Tells : Status → List ℕ → Type 0) (spoken : Spoken) (stopped : Bool) (store store_after : Stores) (sink sink_after : Sinks) (result : Status) → spoken ≢ no_form
+    → store_after.files ≡ store.files → NoneFell store.ledger store_after.ledger → sink.faults ≤ sink_after.faults
+    → ((files : List File) → Refuses files spoken store.ledger store_after.ledger Memory) → ForSome store.files (λ files. IsAsked Tells files spoken stopped)
+    → EndsBy Tells sink sink_after result → Promises spoken stopped store store_after sink sink_after result
+ended Tells spoken stopped store store_after sink sink_after result form same count faults short told ends = record {
   same = same;
   store_count = count;
   sink_count = faults;
-  told = λ files is. answers_text files spoken store.ledger store_after.ledger sink sink_after text status result ends (told files is);
-  read_fault = fails_text spoken store.ledger store_after.ledger sink sink_after text status result ends;
-  quiet = quiet_text sink sink_after text status result ends;
-  usage = no_usage spoken result form (text_no_usage sink sink_after text status result ends);
+  told = λ files is. answers_by Tells files spoken stopped store.ledger store_after.ledger sink sink_after result (short files) (told files is) ends;
+  read_fault = fails_by Tells spoken store.ledger store_after.ledger sink sink_after result ends;
+  quiet = quiet_by Tells sink sink_after result ends;
+  usage = no_usage spoken result form (by_no_usage Tells sink sink_after result ends);
 }
 
--- ---- the text of a run
+-- ---- a text that was put
 
-answers_run : (files : List File) (machine : Word) (run seed : ℕ) (q : Quarry) (old new : Ledger) (before after : Sinks) (result : Status) → IsQuarry files machine None None q → EndsRun q.setup run seed before after result → Answers files (record_of machine run seed) old new before after result
-answers_run files machine run seed q old new before after Clean is e = (e.0, (q, is, e.1), e.2)
-answers_run files machine run seed q old new before after Found is e = absurd e
-answers_run files machine run seed q old new before after (Refused WriteFault) is e = (e.0, (Clean, e.1.0, (q, is, e.1.1), e.1.2))
-answers_run files machine run seed q old new before after (Refused Memory) is e = tt
-answers_run files machine run seed q old new before after (Refused fault) is e = absurd e
+pub text_ends : (Tells : Status → List ℕ → Type 0) (before after : Sinks) (text items : List ℕ) (status found result : Status) → Tells found items → text ≡ items → status ≡ found → EndsText text status before after result → EndsBy Tells before after result
+text_ends Tells before after text items status found result tells same is ends =
+    by_text result (subst (λ s. Tells s text) (sym is) (subst (Tells found) (sym same) tells)) ends
+  where
+    by_text : (r : Status) → Tells status text → EndsText text status before after r → EndsBy Tells before after r
+    by_text Clean t e = (text, subst (λ s. Tells s text) (sym e.0) t, e.1)
+    by_text Found t e = (text, subst (λ s. Tells s text) (sym e.0) t, e.1)
+    by_text (Refused WriteFault) t e = (e.0, (status, text, t, e.1))
+    by_text (Refused fault) t e = absurd e
 
-fails_run : (machine : Word) (run seed : ℕ) (setup : Opening) (old new : Ledger) (before after : Sinks) (result : Status) → EndsRun setup run seed before after result → ReadFails (record_of machine run seed) old new result
-fails_run machine run seed setup old new before after Clean e = tt
-fails_run machine run seed setup old new before after Found e = tt
-fails_run machine run seed setup old new before after (Refused WriteFault) e = tt
-fails_run machine run seed setup old new before after (Refused Memory) e = tt
-fails_run machine run seed setup old new before after (Refused fault) e = absurd e
+-- ---- the text of --help
 
-quiet_run : (run seed : ℕ) (setup : Opening) (before after : Sinks) (result : Status) → EndsRun setup run seed before after result → IsQuiet before after result
-quiet_run run seed setup before after Clean e = tt
-quiet_run run seed setup before after Found e = tt
-quiet_run run seed setup before after (Refused WriteFault) e = e.0
-quiet_run run seed setup before after (Refused Memory) e = e
-quiet_run run seed setup before after (Refused fault) e = absurd e
+answers_help : (files : List File) (stopped : Bool) (old new : Ledger) (before after : Sinks) (result : Status) → EndsText HELP.now Clean before after result → Answers files help stopped old new before after result
+answers_help files stopped old new before after Clean e = (HELP.now, (refl, refl), e.1)
+answers_help files stopped old new before after Found e = (HELP.now, (e.0, refl), e.1)
+answers_help files stopped old new before after (Refused WriteFault) e = (e.0, (Clean, HELP.now, (refl, refl), e.1))
+answers_help files stopped old new before after (Refused fault) e = absurd e
 
-run_no_usage : (run seed : ℕ) (setup : Opening) (before after : Sinks) (result : Status) → EndsRun setup run seed before after result → result ≢ Refused Usage
-run_no_usage run seed setup before after result e is = subst (EndsRun setup run seed before after) is e
+quiet_help : (before after : Sinks) (result : Status) → EndsText HELP.now Clean before after result → IsQuiet before after result
+quiet_help before after Clean e = tt
+quiet_help before after Found e = tt
+quiet_help before after (Refused WriteFault) e = e.0
+quiet_help before after (Refused fault) e = absurd e
 
-pub recorded : (machine : Word) (run seed : ℕ) (q : Quarry) (store store_after : Stores) (sink sink_after : Sinks) (result : Status) → store_after.files ≡ store.files → NoneFell store.ledger store_after.ledger → sink.faults ≤ sink_after.faults
-    → ForSome store.files (λ files. IsQuarry files machine None None q) → EndsRun q.setup run seed sink sink_after result
-    → Promises (record_of machine run seed) store store_after sink sink_after result
-recorded machine run seed q store store_after sink sink_after result same count faults told ends = record {
-  same = same;
-  store_count = count;
+pub helped : (stopped : Bool) (store : Stores) (sink sink_after : Sinks) (result : Status) → sink.faults ≤ sink_after.faults → EndsText HELP.now Clean sink sink_after result → Promises help stopped store store sink sink_after result
+helped stopped store sink sink_after result faults ends = record {
+  same = refl;
+  store_count = none_fell store.ledger;
   sink_count = faults;
-  told = λ files is. answers_run files machine run seed q store.ledger store_after.ledger sink sink_after result (told files is) ends;
-  read_fault = fails_run machine run seed q.setup store.ledger store_after.ledger sink sink_after result ends;
-  quiet = quiet_run run seed q.setup sink sink_after result ends;
-  usage = no_usage (record_of machine run seed) result (λ e. cc) (run_no_usage run seed q.setup sink sink_after result ends);
+  told = λ files is. answers_help files stopped store.ledger store.ledger sink sink_after result ends;
+  read_fault = tt;
+  quiet = quiet_help sink sink_after result ends;
+  usage = no_usage help result (λ e. cc) (λ is. subst (EndsText HELP.now Clean sink sink_after) is ends);
 }
+
+-- ---- words
+
+pub as_spoken : {said spoken : Spoken} {stopped : Bool} {store store_after : Stores} {sink sink_after : Sinks} {status : Status} → said ≡ spoken → Promises said stopped store store_after sink sink_after status → Promises spoken stopped store store_after sink sink_after status
+as_spoken {stopped = stopped} {store = store} {store_after = store_after} {sink = sink} {sink_after = sink_after} {status = status} is promises = subst (λ s. Promises s stopped store store_after sink sink_after status) is promises

@@ -1,5 +1,5 @@
 -- What is read of files.
-use Rattle.std.proofs.Common.{◌≡◌, ℕ, zero, suc, ◌+◌, List, [], ◌∷◌, ◌++◌, length, Option, Some, None, Vec, Result, Ok, Err, refl, sym, ap, subst, arith}
+use Rattle.std.proofs.Common.{◌≡◌, ℕ, suc, ◌+◌, List, [], ◌∷◌, ◌++◌, length, Option, Some, None, Vec, Result, Ok, Err, refl, ap, subst, arith}
 use Rattle.std.specs.declared.alloc.Global.{Global}
 use Rattle.cell_io.specs.Files.{File}
 use Rattle.cell_io.specs.Store.{Ledger, FailedAt}
@@ -9,7 +9,6 @@ use Rattle.cell_machine.specs.Opening.{Opening}
 use Rattle.cell_forms.specs.declared.fault.Fault.{Fault as InputFault}
 use Rattle.cell_forms.specs.declared.fault.Fault.TheVariants as input
 use Rattle.cell_forms.specs.Task.{Task, Work, run_of, text_of, ready}
-use Rattle.cell_forms.specs.Course.{Settles}
 use Rattle.cell_forms.specs.Forms.{run_task, plan_task, planned_task}
 use Rattle.cell_forms.specs.Answer.{Leads, RefusesIn}
 use Rattle.hunt_forms.specs.Heard.{Word}

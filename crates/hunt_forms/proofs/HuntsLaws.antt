@@ -1,20 +1,16 @@
 -- What runs tell, while they are made.
-use Rattle.std.proofs.Common.{◌≡◌, ℕ, ◌+◌, ◌*◌, ◌<◌, ◌^◌, Bool, true, false, List, [], ◌∷◌, ◌++◌, length, refl, sym, ap, subst, ◌∙◌, arith, length-append, append_assoc}
-use Rattle.std.specs.Prelude.{◌||◌, slice_index_or, Result, Ok, IfOk, is_some, if◌then◌else◌}
+use Rattle.std.proofs.Common.{◌≡◌, ℕ, ◌+◌, ◌<◌, ◌^◌, Bool, true, false, List, [], ◌∷◌, ◌++◌, length, refl, sym, ap, subst, ◌∙◌, arith, length-append}
+use Rattle.std.specs.Prelude.{◌||◌, slice_index_or, Result, Ok, Err, IfOk, OnOk}
 use Rattle.std.specs.List.{flat_map, list_any}
 use Rattle.std.proofs.lemmas.List.{append-nil, length_push}
 use Rattle.std.proofs.lemmas.List.Folds.{list_any-append}
 use Rattle.std.proofs.lemmas.List.Concat.{flat_map-append}
 use Rattle.cell_machine.specs.Opening.{Opening}
 use Rattle.hunt_tally.specs.Reports.{Reported, Sums, hunted, is_flawed}
-use Rattle.hunt_texts.specs.Texts.{hunt_text}
-use Rattle.hunt_texts.specs.Jsons.{hunt_json}
-use Rattle.hunt_reports.specs.declared.asked.Asked.{Asked as Question}
 use Rattle.hunt_forms.specs.declared.each.Told.{Told}
 use Rattle.hunt_forms.specs.declared.input.Quarry.{Quarry}
-use Rattle.hunt_forms.specs.declared.fault.Status.{Status}
 use Rattle.hunt_forms.specs.Words.{Asked}
-use Rattle.hunt_forms.specs.Hunts.{Each, status_of, TellsHunt, TellsEach, HasTaken, HasRoom, IsShare, IsReportOfSeed, AreReports, IsTold, AreTold, TellsRuns, told_line, is_racy}
+use Rattle.hunt_forms.specs.Hunts.{status_of, text_by, AreMade, TellsHunt, TellsEach, HasTaken, HasMade, HasRoom, IsShare, IsReportOfSeed, IsTold, TellsRuns, told_line, is_racy}
 use Rattle.hunt_forms.proofs.Eaches.{each-none, each-append, each-snoc}
 
 pub runs_of : (reports : List Reported) → (hunted reports).runs ≡ length reports
@@ -81,30 +77,25 @@ next_inside all before rest x same = let n = ap length same in let parts = lengt
 pub taken_runs : (q : Quarry) (seed from made : ℕ) (h : Sums) → HasTaken q seed from made h → h.runs ≡ made
 taken_runs q seed from made h taken = ap (λ s. s.runs) taken.told ∙ runs_of taken.reports ∙ taken.count
 
-pub each_writes : (setup : Opening) (seed from runs : ℕ) (items text : List ℕ) (racy : Bool) (status : Status) → TellsRuns setup seed from runs items racy → text ≡ items → status ≡ status_of racy → TellsEach setup from runs seed status text
-each_writes setup seed from runs items text racy status t is same = record { all = t.all; count = t.count; each = t.each; says = is ∙ t.says; found = same ∙ ap status_of t.found }
-
-pub hunt_writes : (setup : Opening) (question : Question) (a : Asked) (items text : List ℕ) (found : Bool) (status : Status) → TellsHunt setup question a (status_of found) items → text ≡ items → status ≡ status_of found → TellsHunt setup question a status text
-hunt_writes setup question a items text found status t is same =
-    subst (λ s. TellsHunt setup question a s text) (sym same) (subst (λ x. TellsHunt setup question a (status_of found) x) (sym is) t)
+pub each_tells : (setup : Opening) (seed from runs : ℕ) (text : List ℕ) (racy : Bool) → TellsRuns setup seed from runs text racy → TellsEach setup from runs seed (status_of racy) text
+each_tells setup seed from runs text racy t = record { all = t.all; count = t.count; each = t.each; says = t.says; found = ap status_of t.found }
 
 pub of_ok : {A E : Type 0} (P : A → Type 0) (r : Result A E) (x : A) → r ≡ Ok x → IfOk r P → P x
 of_ok P r x is holds = subst (λ o. IfOk o P) is holds
 
+-- what holds where it was taken in, of what holds there
+pub on_ok : {A E P Q : Type 0} (r : Result A E) → (P → Q) → OnOk r P → OnOk r Q
+on_ok (Ok x) f p = f p
+on_ok (Err e) f p = tt
+
 -- ---- a hunt
 
-pub hunt_tells : (q : Quarry) (a : Asked) (h : Sums) (text : List ℕ) (expects found : Bool) → HasTaken q a.seed a.from a.runs h → expects ≡ is_some a.expect
-    → ((reports : List Reported) → h ≡ hunted reports → found ≡ list_any is_flawed reports) → text ≡ (if a.json then hunt_json h a.seed a.from expects else hunt_text h a.seed a.from expects) → TellsHunt q.setup q.asked a (status_of found) text
-hunt_tells q a h text expects found taken wants finds is = record {
-  reports = taken.reports;
-  count = taken.count;
-  each = taken.each;
-  says = is ∙ ap (λ (b : Bool). if a.json then hunt_json h a.seed a.from b else hunt_text h a.seed a.from b) wants ∙ ap (λ (s : Sums). if a.json then hunt_json s a.seed a.from (is_some a.expect) else hunt_text s a.seed a.from (is_some a.expect)) taken.told;
-  found = ap status_of (finds taken.reports taken.told);
+pub hunt_tells : (q : Quarry) (a : Asked) (stopped : Bool) (h : Sums) (text : List ℕ) (found : Bool) → HasMade q a.seed a.from a.runs stopped h
+    → ((reports : List Reported) → h ≡ hunted reports → found ≡ list_any is_flawed reports) → text ≡ text_by a h → TellsHunt q.setup q.asked a stopped (status_of found) text
+hunt_tells q a stopped h text found has finds is = record {
+  reports = has.taken.reports;
+  count = subst (AreMade stopped a.runs) (sym has.taken.count) has.count;
+  each = has.taken.each;
+  says = is ∙ ap (text_by a) has.taken.told;
+  found = ap status_of (finds has.taken.reports has.taken.told);
 }
-
-pub text_then : (b : Bool) (text x y : List ℕ) → b ≡ true → text ≡ x → text ≡ (if b then x else y)
-text_then b text x y is same = subst (λ (c : Bool). text ≡ (if c then x else y)) (sym is) same
-
-pub text_else : (b : Bool) (text x y : List ℕ) → b ≡ false → text ≡ y → text ≡ (if b then x else y)
-text_else b text x y is same = subst (λ (c : Bool). text ≡ (if c then x else y)) (sym is) same

@@ -1,5 +1,5 @@
 -- The answers of the program, each with its cause.
-use Rattle.std.specs.Prelude.{◌≡◌, ◌≤◌, ◌↔◌, ℕ, List, Option, Some, None}
+use Rattle.std.specs.Prelude.{◌≡◌, ◌≤◌, ◌↔◌, ℕ, Bool, List, Option, None}
 use Rattle.std.specs.Option.{ForSome}
 use Rattle.cell_io.specs.Files.{File}
 use Rattle.cell_io.specs.Store.{Ledger, NoneFell, Rose}
@@ -14,8 +14,7 @@ use Rattle.hunt_forms.specs.declared.fault.Fault.{Fault}
 use Rattle.hunt_forms.specs.declared.fault.Fault.TheVariants.{Usage, WriteFault, Memory}
 use Rattle.hunt_forms.specs.declared.fault.Status.{Status}
 use Rattle.hunt_forms.specs.declared.fault.Status.TheVariants.{Clean, Found, Refused}
-use Rattle.hunt_forms.specs.Heard.{Word}
-use Rattle.hunt_forms.specs.Words.{Asked, Spoken, hunt, each, record_of, help, no_form}
+use Rattle.hunt_forms.specs.Words.{Spoken, hunt, each, record_of, help, no_form}
 use Rattle.hunt_forms.specs.declared.input.Quarry.{Quarry}
 use Rattle.hunt_forms.specs.Files.{IsQuarry, RefusesFiles, FailsBy}
 use Rattle.hunt_forms.specs.Hunts.{TellsHunt, TellsEach}
@@ -29,24 +28,24 @@ pub record TellsRun (setup : Opening) (run seed : ℕ) (status : Status) (text :
   pub prints : PrintsSteps machine text
   pub done : status ≡ Clean
 
--- what words ask for, with the files: the text that is written, and the status that goes with it
-abbrev pub Writes : List File → Spoken → Status → List ℕ → Type 0
-Writes files (hunt a) status text = (q : Quarry) × IsQuarry files a.machine a.expect a.pass q × TellsHunt q.setup q.asked a status text
-Writes files (each machine from runs seed) status text = (q : Quarry) × IsQuarry files machine None None q × TellsEach q.setup from runs seed status text
-Writes files (record_of machine run seed) status text = (q : Quarry) × IsQuarry files machine None None q × TellsRun q.setup run seed status text
-Writes files help status text = (status ≡ Clean) × (text ≡ HELP.now)
-Writes files no_form status text = ⊥
+-- what words ask for, with the files, and whether somebody ended it: the text that is written, and the status that goes with it
+abbrev pub Writes : List File → Spoken → Bool → Status → List ℕ → Type 0
+Writes files (hunt a) stopped status text = (q : Quarry) × IsQuarry files a.machine a.expect a.pass q × TellsHunt q.setup q.asked a stopped status text
+Writes files (each machine from runs seed) stopped status text = (q : Quarry) × IsQuarry files machine None None q × TellsEach q.setup from runs seed status text
+Writes files (record_of machine run seed) stopped status text = (q : Quarry) × IsQuarry files machine None None q × TellsRun q.setup run seed status text
+Writes files help stopped status text = (status ≡ Clean) × (text ≡ HELP.now)
+Writes files no_form stopped status text = ⊥
 
 -- ---- answers
 
 -- the whole text of this status went out
-abbrev pub Wrote : List File → Spoken → Status → Sinks → Sinks → Type 0
-Wrote files spoken status before after = (text : List ℕ) × Writes files spoken status text × Took before.taken after.taken text
+abbrev pub Wrote : List File → Spoken → Bool → Status → Sinks → Sinks → Type 0
+Wrote files spoken stopped status before after = (text : List ℕ) × Writes files spoken stopped status text × Took before.taken after.taken text
 
 -- a part of the text of some status went out, and the sink failed
-abbrev pub WrotePart : List File → Spoken → Sinks → Sinks → Type 0
-WrotePart files spoken before after =
-    Rose before.faults after.faults × ((status : Status) × (text : List ℕ) × Writes files spoken status text × TookPart before.taken after.taken text)
+abbrev pub WrotePart : List File → Spoken → Bool → Sinks → Sinks → Type 0
+WrotePart files spoken stopped before after =
+    Rose before.faults after.faults × ((status : Status) × (text : List ℕ) × Writes files spoken stopped status text × TookPart before.taken after.taken text)
 
 -- the files are refused that the words name
 abbrev pub Refuses : List File → Spoken → Ledger → Ledger → Fault → Type 0
@@ -57,11 +56,11 @@ Refuses files help old new fault = ⊥
 Refuses files no_form old new fault = fault ≡ Usage
 
 -- each answer with its cause
-abbrev pub Answers : List File → Spoken → Ledger → Ledger → Sinks → Sinks → Status → Type 0
-Answers files spoken old new before after Clean = Wrote files spoken Clean before after
-Answers files spoken old new before after Found = Wrote files spoken Found before after
-Answers files spoken old new before after (Refused WriteFault) = WrotePart files spoken before after
-Answers files spoken old new before after (Refused fault) = Refuses files spoken old new fault
+abbrev pub Answers : List File → Spoken → Bool → Ledger → Ledger → Sinks → Sinks → Status → Type 0
+Answers files spoken stopped old new before after Clean = Wrote files spoken stopped Clean before after
+Answers files spoken stopped old new before after Found = Wrote files spoken stopped Found before after
+Answers files spoken stopped old new before after (Refused WriteFault) = WrotePart files spoken stopped before after
+Answers files spoken stopped old new before after (Refused fault) = Refuses files spoken old new fault
 
 -- whatever the store tells: where a reading failed
 abbrev pub ReadFails : Spoken → Ledger → Ledger → Status → Type 0
@@ -81,14 +80,14 @@ pub record Stores : Type 0 where
   pub files : Option (List File)
   pub ledger : Ledger
 
--- of an answer to these words, with the store and the sink before and after
-pub record Promises (spoken : Spoken) (store store_after : Stores) (sink sink_after : Sinks) (status : Status) : Type 0 where
+-- of an answer to these words, with the store and the sink before and after, and whether somebody has ended the hunt
+pub record Promises (spoken : Spoken) (stopped : Bool) (store store_after : Stores) (sink sink_after : Sinks) (status : Status) : Type 0 where
   -- The files stay as they were, and no count of faults falls.
   pub same : store_after.files ≡ store.files
   pub store_count : NoneFell store.ledger store_after.ledger
   pub sink_count : sink.faults ≤ sink_after.faults
   -- Where the store tells its files, each answer has its cause in them.
-  pub told : ForSome store.files (λ files. Answers files spoken store.ledger store_after.ledger sink sink_after status)
+  pub told : ForSome store.files (λ files. Answers files spoken stopped store.ledger store_after.ledger sink sink_after status)
   -- Whatever it tells: a reading is said to fail only where it did, under the name of that file.
   pub read_fault : ReadFails spoken store.ledger store_after.ledger status
   -- A refusal leaves the sink as it was, but for WriteFault, which comes only where the sink's count rose.
@@ -103,9 +102,9 @@ EndsText text status before after (Refused WriteFault) = Rose before.faults afte
 EndsText text status before after (Refused fault) = ⊥
 EndsText text status before after result = (result ≡ status) × Took before.taken after.taken text
 
--- the text of a run was written, or nothing for want of memory
-abbrev pub EndsRun : Opening → ℕ → ℕ → Sinks → Sinks → Status → Type 0
-EndsRun setup run seed before after Clean = (text : List ℕ) × TellsRun setup run seed Clean text × Took before.taken after.taken text
-EndsRun setup run seed before after (Refused WriteFault) = Rose before.faults after.faults × ((text : List ℕ) × TellsRun setup run seed Clean text × TookPart before.taken after.taken text)
-EndsRun setup run seed before after (Refused Memory) = after.taken ≡ before.taken
-EndsRun setup run seed before after other = ⊥
+-- such a text was written, of this status, or a part of one, or nothing for want of memory
+abbrev pub EndsBy : (Status → List ℕ → Type 0) → Sinks → Sinks → Status → Type 0
+EndsBy Tells before after (Refused WriteFault) = Rose before.faults after.faults × ((status : Status) × (text : List ℕ) × Tells status text × TookPart before.taken after.taken text)
+EndsBy Tells before after (Refused Memory) = after.taken ≡ before.taken
+EndsBy Tells before after (Refused other) = ⊥
+EndsBy Tells before after status = (text : List ℕ) × Tells status text × Took before.taken after.taken text

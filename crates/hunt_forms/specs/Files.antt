@@ -6,7 +6,6 @@ use Rattle.std.specs.declared.alloc.Global.{Global}
 use Rattle.std.specs.Str.{bytes_eq}
 use Rattle.cell_io.specs.Files.{File}
 use Rattle.cell_io.specs.Store.{Ledger, FailedAt}
-use Rattle.cell_load.specs.Entries.{Entry}
 use Rattle.cell_load.specs.Sources.{Named, sources_of}
 use Rattle.cell_machine.specs.Opening.{Opening}
 use Rattle.cell_forms.specs.declared.fault.Fault.{Fault as InputFault}
@@ -16,7 +15,6 @@ use Rattle.cell_forms.specs.Course.{too_long, whole, given, Settles}
 use Rattle.cell_forms.specs.Forms.{text_limit, run_task, plan_task}
 use Rattle.cell_forms.specs.Answer.{RefusesIn, AtMachine}
 use Rattle.cell_hunt.specs.declared.site.Sites.{Sites}
-use Rattle.hunt_reports.specs.declared.asked.Asked.{Asked}
 use Rattle.hunt_reports.specs.Lists.{bytes_in}
 use Rattle.hunt_reports.specs.Places.{key_of}
 use Rattle.hunt_forms.specs.declared.fault.Fault.{Fault}

@@ -5,7 +5,7 @@ use Rattle.std.specs.Option.{option_map}
 use Rattle.std.specs.Cmp.Lexicographic.{pointwise}
 use Rattle.cell_base.specs.Numbers.{◌>>=◌}
 use Rattle.hunt_forms.specs.declared.heard.Key.{Key}
-use Rattle.hunt_forms.specs.declared.heard.Key.TheVariants.{Runs, Seed, From, Jobs, Expect, Pass}
+use Rattle.hunt_forms.specs.declared.heard.Key.TheVariants.{Runs, Seed, From, Jobs, Expect, Pass, Until}
 use Rattle.hunt_forms.specs.declared.heard.Heard.{Heard}
 
 abbrev pub Word : Type 0
@@ -32,6 +32,7 @@ pub record Said : Type 0 where
   pub jobs : Option Word
   pub expect : Option Word
   pub pass : Option Word
+  pub until : Option Word
   pub json : Bool
   -- the option of which the word comes next
   pub awaited : Option Key
@@ -48,6 +49,7 @@ silent = record {
   jobs = None;
   expect = None;
   pass = None;
+  until = None;
   json = false;
   awaited = None;
 }
@@ -65,6 +67,7 @@ with_value s From word = option_map (λ w. record s { from = w; awaited = None }
 with_value s Jobs word = option_map (λ w. record s { jobs = w; awaited = None }) (once s.jobs word)
 with_value s Expect word = option_map (λ w. record s { expect = w; awaited = None }) (once s.expect word)
 with_value s Pass word = option_map (λ w. record s { pass = w; awaited = None }) (once s.pass word)
+with_value s Until word = option_map (λ w. record s { until = w; awaited = None }) (once s.until word)
 
 -- behind the machine file two options may be said without dashes
 abbrev pub plain_key : Option Word → Word → Option Key
@@ -83,6 +86,7 @@ key_of machine word =
     else if is_word word (codes "--jobs") then Some Jobs
     else if is_word word (codes "--expect") then Some Expect
     else if is_word word (codes "--pass") then Some Pass
+    else if is_word word (codes "--until") then Some Until
     else plain_key machine word
 
 -- the next place
@@ -139,6 +143,7 @@ heard h = record {
   jobs = texts_of h.jobs;
   expect = texts_of h.expect;
   pass = texts_of h.pass;
+  until = texts_of h.until;
   json = h.json;
   awaited = h.awaited;
 }

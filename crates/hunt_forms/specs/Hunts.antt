@@ -1,8 +1,9 @@
 -- The runs of a hunt, and what is written of them.
-use Rattle.std.specs.Prelude.{◌≡◌, ℕ, ◌+◌, Bool, true, false, List, ◌++◌, length, codes, Option, Some, None, ◌<◌, [], ◌∷◌, slice_index_or, is_some, IsTrue, ◌↔◌, ◌*◌, ◌^◌, if◌then◌else◌, Result, IfOk, Vec}
+use Rattle.std.specs.Prelude.{◌≡◌, ℕ, ◌+◌, Bool, true, false, List, ◌++◌, length, codes, Option, Some, None, ◌<◌, ◌≤◌, [], ◌∷◌, slice_index_or, is_some, IsTrue, ◌↔◌, ◌*◌, ◌^◌, if◌then◌else◌, Result, IfOk, OnOk, Vec}
 use Rattle.std.specs.declared.alloc.Global.{Global}
 use Rattle.std.specs.declared.alloc.AllocError.{AllocError}
 use Rattle.hunt_forms.specs.declared.input.Quarry.{Quarry}
+use Rattle.std.specs.Borrow.{Bor, MutBor}
 use Rattle.std.specs.List.{flat_map, list_any}
 use Rattle.std.specs.Fmt.{decimal}
 use Rattle.cell_machine.specs.Opening.{Opening}
@@ -11,7 +12,6 @@ use Rattle.cell_machine.specs.declared.status.End.{End}
 use Rattle.cell_machine.specs.declared.status.End.TheVariants.{AllStopped, Stuck, Budget}
 use Rattle.cell_hunt.specs.Runs.{IsRunOfSeed}
 use Rattle.cell_hunt.specs.Outcomes.{IsOutcome}
-use Rattle.cell_hunt.specs.declared.outcome.Outcome.{Outcome}
 use Rattle.cell_hunt.specs.declared.site.Sites.{Sites}
 use Rattle.run_permute.specs.Settled.{IsSettled}
 use Rattle.hunt_tally.specs.Reports.{Reported, Sums, hunted, is_flawed}
@@ -23,6 +23,8 @@ use Rattle.hunt_reports.specs.Reports.{IsReport}
 use Rattle.hunt_forms.specs.declared.fault.Status.{Status}
 use Rattle.hunt_forms.specs.declared.fault.Status.TheVariants.{Clean, Found}
 use Rattle.hunt_forms.specs.declared.each.Told.{Told}
+use Rattle.hunt_forms.specs.declared.team.Round.{Round}
+use Rattle.hunt_forms.specs.declared.words.Hunt.{Hunt}
 use Rattle.hunt_forms.specs.Words.{Asked}
 
 -- it holds of each element with its number, of which the first is n
@@ -47,16 +49,22 @@ pub record IsReportOfSeed (setup : Opening) (question : Question) (seed run : �
 abbrev pub AreReports : Opening → Question → ℕ → ℕ → List Reported → Type 0
 AreReports setup question seed from reports = Each (IsReportOfSeed setup question seed) from reports
 
--- the text in the form that is asked for
-abbrev pub text_by : Asked → Bool → List Reported → List ℕ
-text_by a expects reports = if a.json then hunt_json (hunted reports) a.seed a.from expects else hunt_text (hunted reports) a.seed a.from expects
+-- so many of the runs that are asked for were made: all, or some of them where somebody ended the hunt
+abbrev pub AreMade : Bool → ℕ → ℕ → Type 0
+AreMade false runs made = made ≡ runs
+AreMade true runs made = (0 < made) × (made ≤ runs)
 
--- The text tells the reports of all runs that are asked for, and the status whether one of them has a flaw.
-pub record TellsHunt (setup : Opening) (question : Question) (a : Asked) (status : Status) (text : List ℕ) : Type 0 where
+-- the text of what was found, in the form that is asked for
+abbrev pub text_by : Asked → Sums → List ℕ
+text_by a h = if a.json then hunt_json h a.seed a.from (is_some a.expect) else hunt_text h a.seed a.from (is_some a.expect)
+
+-- The text tells the reports of the runs that are asked for, of the first ones alone where somebody ended the hunt, and the status whether one of
+-- them has a flaw.
+pub record TellsHunt (setup : Opening) (question : Question) (a : Asked) (stopped : Bool) (status : Status) (text : List ℕ) : Type 0 where
   pub reports : List Reported
-  pub count : length reports ≡ a.runs
+  pub count : AreMade stopped a.runs (length reports)
   pub each : AreReports setup question a.seed a.from reports
-  pub says : text ≡ text_by a (is_some a.expect) reports
+  pub says : text ≡ text_by a (hunted reports)
   pub found : status ≡ status_of (list_any is_flawed reports)
 
 -- ---- each run
@@ -76,13 +84,17 @@ race_text None false = codes ", not settled"
 abbrev pub told_line : Told → List ℕ
 told_line t = codes "run " ++ decimal t.run ++ codes " " ++ end_word t.outcome.end ++ race_text t.outcome.race t.settled ++ codes "\n"
 
+-- this is told of a run
+pub record IsToldOf (machine : Ran) (t : Told) : Type 0 where
+  pub outcome : IsOutcome machine t.outcome
+  pub settled : t.outcome.race ≡ None → IsTrue t.settled ↔ IsSettled machine
+
 -- this is told of run `run` of the seed
 pub record IsTold (setup : Opening) (seed run : ℕ) (t : Told) : Type 0 where
   pub number : t.run ≡ run
   pub machine : Ran
   pub made : IsRunOfSeed setup seed run machine
-  pub outcome : IsOutcome machine t.outcome
-  pub settled : t.outcome.race ≡ None → IsTrue t.settled ↔ IsSettled machine
+  pub told : IsToldOf machine t
 
 abbrev pub AreTold : Opening → ℕ → ℕ → List Told → Type 0
 AreTold setup seed from all = Each (IsTold setup seed) from all
@@ -106,6 +118,32 @@ pub record HasTaken (q : Quarry) (seed from made : ℕ) (h : Sums) : Type 0 wher
   pub count : length reports ≡ made
   pub each : AreReports q.setup q.asked seed from reports
   pub told : h ≡ hunted reports
+
+-- so many of the runs that are asked for were made, and this was taken in of them
+pub record HasMade (q : Quarry) (seed from runs : ℕ) (stopped : Bool) (h : Sums) : Type 0 where
+  pub made : ℕ
+  pub taken : HasTaken q seed from made h
+  pub count : AreMade stopped runs made
+
+-- the runs of a round
+abbrev pub runs_in : Round → ℕ
+runs_in round = round.jobs * round.share
+
+-- so many runs were made and taken in, and those of a round can be made behind them
+pub record IsNext (q : Quarry) (hunt : Hunt) (made : ℕ) (round : Round) (h : Sums) : Type 0 where
+  pub some : 0 < length q.setup.entries
+  pub numbered : hunt.from + (made + runs_in round) < 2 ^ 32
+  pub room : made + runs_in round + 2 < 2 ^ 32
+  pub taken : HasTaken q hunt.seed hunt.from made h
+
+-- A call makes the runs of any next round and takes their reports in: `pre` and `post` are what it requires and ensures.
+pub record MakesRounds (pre : Bor Quarry → Bor Hunt → ℕ → Round → MutBor Sums → Type 0)
+    (post : Bor Quarry → Bor Hunt → ℕ → Round → MutBor Sums → Result (Unit {0}) AllocError → MutBor Sums → Type 0) : Type 0 where
+  pub can : (q : Bor Quarry) (hunt : Bor Hunt) (made : ℕ) (round : Round) (sums : MutBor Sums)
+      → IsNext q.now hunt.now made round sums.now → pre q hunt made round sums
+  pub makes : (q : Bor Quarry) (hunt : Bor Hunt) (made : ℕ) (round : Round) (sums after : MutBor Sums) (result : Result (Unit {0}) AllocError)
+      → IsNext q.now hunt.now made round sums.now → post q hunt made round sums result after
+      → OnOk result (HasTaken q.now hunt.now.seed hunt.now.from (made + runs_in round) after.now)
 
 -- more reports can be counted, so many
 pub record HasRoom (more : ℕ) (h : Sums) : Type 0 where

@@ -1,5 +1,5 @@
 -- The forms of words.
-use Rattle.std.specs.Prelude.{◌≡◌, ℕ, ◌+◌, ◌-◌, ◌≤◌, ◌<◌, ◌^◌, nat_le, nat_lt, Bool, true, false, ◌&&◌, List, [], ◌∷◌, if◌then◌else◌, codes, Option, Some, None, IfSome, unwrap_or, is_none, not}
+use Rattle.std.specs.Prelude.{ℕ, ◌+◌, ◌-◌, ◌≤◌, ◌<◌, ◌^◌, nat_le, nat_lt, Bool, ◌&&◌, List, if◌then◌else◌, codes, Option, Some, None, IfSome, unwrap_or, is_none, not}
 use Rattle.std.specs.Option.{option_map}
 use Rattle.std.specs.List.{list_any}
 use Rattle.cell_base.specs.Numbers.{◌>>=◌}
@@ -21,6 +21,8 @@ pub record Asked : Type 0 where
   -- the expectation file and the pass file
   pub expect : Option Word
   pub pass : Option Word
+  -- the file that ends the hunt once it is there
+  pub until : Option Word
   pub json : Bool
 
 -- what the words say
@@ -86,12 +88,12 @@ jobs_said (Some word) = option_map Some (count_within most_jobs word)
 
 -- nothing is said that is of hunts alone
 abbrev pub is_plain : Said → Bool
-is_plain s = is_none s.jobs && is_none s.expect && is_none s.pass && not s.json
+is_plain s = is_none s.jobs && is_none s.expect && is_none s.pass && is_none s.until && not s.json
 
 abbrev pub hunt_said : Said → Word → Option Word → Option Word → Option Spoken
 hunt_said s machine runs seed =
     runs_said runs >>= λ runs. seed_said seed >>= λ seed. from_said s.from runs >>= λ from. jobs_said s.jobs >>= λ jobs.
-    Some (hunt (record { machine = machine; from = from; runs = runs; seed = seed; jobs = jobs; expect = s.expect; pass = s.pass; json = s.json }))
+    Some (hunt (record { machine = machine; from = from; runs = runs; seed = seed; jobs = jobs; expect = s.expect; pass = s.pass; until = s.until; json = s.json }))
 
 abbrev pub each_said : Said → Word → Option Word → Option Word → Option Spoken
 each_said s machine runs seed =
@@ -133,6 +135,7 @@ asked h = record {
   jobs = h.jobs;
   expect = texts_of h.expect;
   pass = texts_of h.pass;
+  until = texts_of h.until;
   json = h.json;
 }
 

@@ -1,11 +1,11 @@
 //! What is told of each run.
 
 ghost use Rattle.std.specs.Prelude.{◌≡◌, ◌≤◌, ◌<◌, ◌+◌, ◌^◌, ◌++◌, length, IfOk, OnOk};
-ghost use Rattle.hunt_forms.specs.Hunts.{end_word, race_text, told_line, is_racy, IsTold, TellsRuns};
+ghost use Rattle.hunt_forms.specs.Hunts.{end_word, race_text, told_line, is_racy, IsTold, IsToldOf, TellsRuns};
 ghost use Rattle.hunt_forms.specs.Words.{AreRuns};
 
 use cell_base::line_text::put_decimal;
-use cell_hunt::{Outcome, outcome_of, run_of_seed};
+use cell_hunt::{Outcome, SeedRun, outcome_of, run_of_seed};
 use cell_machine::{End, Setup};
 use hunt_reports::put_sites;
 use settled::is_settled;
@@ -31,15 +31,12 @@ fn end_word(end: End) -> &'static [u8]
 }
 
 impl Told {
-    /// Makes a run, and looks whether it is settled if it has no race.
-    fn new(alloc: Global, setup: &Setup, seed: u64, run: u32) -> Result<Told, AllocError>
-        requires { 0 < length setup.now.entries }
-        ensures { IfOk result (IsTold setup.now seed run) }
+    /// What is told of a run that was made: if it has no race, whether it is settled.
+    fn of_run(alloc: Global, made: &SeedRun, run: u32) -> Result<Told, AllocError>
+        ensures number { IfOk result (λ t. t.run ≡ run) }
+        ensures told { IfOk result (IsToldOf made.now) }
     {
-        let Ok(made) = run_of_seed(alloc, setup, seed, run) else {
-            return Err(AllocError);
-        };
-        let outcome = outcome_of(&made);
+        let outcome = outcome_of(made);
         if outcome.race.is_some() {
             return Ok(Told {
                 run,
@@ -47,12 +44,24 @@ impl Told {
                 settled: false,
             });
         }
-        match is_settled(alloc, made.machine()) {
-            Ok(settled) => Ok(Told {
-                run,
-                outcome,
-                settled,
-            }),
+        let settled = match is_settled(alloc, made.machine()) {
+            Ok(settled) => settled,
+            Err(_) => return Err(AllocError),
+        };
+        Ok(Told {
+            run,
+            outcome,
+            settled,
+        })
+    }
+
+    /// Makes a run, and tells of it.
+    fn new(alloc: Global, setup: &Setup, seed: u64, run: u32) -> Result<Told, AllocError>
+        requires { 0 < length setup.now.entries }
+        ensures { IfOk result (IsTold setup.now seed run) }
+    {
+        match run_of_seed(alloc, setup, seed, run) {
+            Ok(made) => Told::of_run(alloc, &made, run),
             Err(_) => Err(AllocError),
         }
     }

@@ -13,6 +13,7 @@ pub enum Key {
     Jobs,
     Expect,
     Pass,
+    Until,
 }
 
 /// What was said so far.
@@ -30,6 +31,7 @@ pub struct Heard<'a> {
     pub jobs: Option<&'a str>,
     pub expect: Option<&'a str>,
     pub pass: Option<&'a str>,
+    pub until: Option<&'a str>,
     pub json: bool,
     /// The option of which the word comes next.
     pub awaited: Option<Key>,
@@ -66,6 +68,7 @@ fn key_of(machine: Option<&str>, word: &str) -> Option<Key>
         "--jobs" => Some(Key::Jobs),
         "--expect" => Some(Key::Expect),
         "--pass" => Some(Key::Pass),
+        "--until" => Some(Key::Until),
         _ => plain_key(machine, word),
     }
 }
@@ -86,6 +89,7 @@ impl<'a> Heard<'a> {
             jobs: None,
             expect: None,
             pass: None,
+            until: None,
             json: false,
             awaited: None,
         }
@@ -110,6 +114,10 @@ impl<'a> Heard<'a> {
                 ..old
             }),
             Key::Pass if old.pass.is_none() => Some(Heard { pass: value, ..old }),
+            Key::Until if old.until.is_none() => Some(Heard {
+                until: value,
+                ..old
+            }),
             _ => None,
         }
     }

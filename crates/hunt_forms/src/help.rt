@@ -15,6 +15,7 @@ race, or whether it is settled. `record` prints run K as `cell run` does.
   --jobs N       on so many threads, 1 to 256 (as many as there are cores)
   --expect FILE  each line of FILE has to be a line of the states of every run
   --pass FILE    the races that FILE has, as hunt prints them, are left out
+  --until FILE   once FILE is there the hunt ends, and tells the runs that were made
   --json         one JSON object a line
   --help         this text
 

@@ -14,9 +14,12 @@ mod passes;
 mod program;
 mod progress;
 mod quarry;
+mod runs;
+mod team;
+mod threads;
 mod words;
 
 pub use fault::{Fault, FileId, Status};
-pub use program::hunt;
+pub use program::{hunt, hunt_quiet};
 pub use progress::Progress;
 pub use words::{Form, Hunt, form_of};

@@ -1,12 +1,11 @@
 //! All that the program does.
 
-ghost use Rattle.std.specs.Prelude.{◌≡◌, ◌≢◌, ◌≤◌, ◌<◌, ◌↔◌, length, map, string_bytes, IfOk, ℕ, List};
-ghost use Rattle.std.specs.Option.{ForSome};
-ghost use Rattle.cell_io.specs.Store.{NoneFell};
+ghost use Rattle.std.specs.Prelude.{[], ◌≡◌, ◌≢◌, ◌≤◌, ◌<◌, Bool, length, map, string_bytes, IfOk};
+ghost use Rattle.hunt_tally.specs.Reports.{hunted};
 ghost use Rattle.hunt_forms.specs.declared.fault.Fault.{Fault as AFault};
 ghost use Rattle.hunt_forms.specs.Words.{spoken, asked, AreRuns, hunt, each, record_of};
-ghost use Rattle.hunt_forms.specs.Hunts.{status_of, TellsHunt, TellsRuns};
-ghost use Rattle.hunt_forms.specs.Answers.{Promises, EndsText, EndsRun};
+ghost use Rattle.hunt_forms.specs.Hunts.{status_of, text_by, TellsHunt, TellsEach, IsNext, MakesRounds};
+ghost use Rattle.hunt_forms.specs.Answers.{Promises, TellsRun, EndsText, EndsBy};
 
 use crate::each::tell_each;
 use crate::fault::{Fault, Status};
@@ -15,11 +14,14 @@ use crate::hunting::hunt_runs;
 use crate::input::Quarry;
 use crate::progress::Progress;
 use crate::quarry::read_quarry;
+use crate::team::{Round, Team, make_alone};
+use crate::threads::{cores_of, make_on_threads};
 use crate::words::{Form, Hunt, form_of};
 use cell_forms::{Fault as InputFault, Status as InputStatus, write_run};
 use cell_hunt::run_of_seed;
 use cell_io::{Sink, SinkFault, Store};
 use cell_machine::Setup;
+use hunt_tally::Hunted;
 use hunt_texts::{hunt_json, hunt_text};
 use std::alloc::{AllocError, Global};
 use std::thread::Threads;
@@ -47,53 +49,133 @@ fn write_text<K: Sink>(text: &[u8], status: Status, out: &mut K) -> Status
     }
 }
 
+/// The text of what was found, in the form that is asked for.
+fn text_of(alloc: Global, hunted: &Hunted, hunt: &Hunt) -> Result<Vec<u8>, AllocError>
+    ensures { IfOk result (λ text. text.items ≡ text_by (asked hunt.now) hunted.now) }
+{
+    let expects = hunt.expect.is_some();
+    if hunt.json {
+        hunt_json(alloc, hunted, hunt.seed, hunt.from, expects)
+    } else {
+        hunt_text(alloc, hunted, hunt.seed, hunt.from, expects)
+    }
+}
+
+/// Makes the runs of a hunt, and takes their reports in: its text, and whether something was found.
+fn tell_runs<F, P>(
+    team: &Team<F>,
+    alloc: Global,
+    quarry: &Quarry,
+    hunt: &Hunt,
+    progress: &mut P,
+    sums: &mut Hunted,
+) -> Result<(Vec<u8>, bool), AllocError>
+where
+    F: Fn(&Quarry, &Hunt, u32, Round, &mut Hunted) -> Result<(), AllocError>,
+    P: Progress,
+    requires makes { MakesRounds (F.pre team.now.make) (F.post team.now.make) }
+    requires some { 0 < length quarry.now.setup.entries }
+    requires within { AreRuns hunt.now.from hunt.now.runs }
+    requires none { sums.old ≡ hunted [] }
+    ensures { IfOk result (λ told. TellsHunt quarry.now.setup quarry.now.asked (asked hunt.now) (P.stopped progress.new) (status_of told.1) told.0.items) }
+{
+    hunt_runs(team, quarry, hunt, progress, sums)?;
+    let text = text_of(alloc, sums, hunt)?;
+    Ok((text, sums.has_flaw()))
+}
+
 /// The text of a hunt, and whether something was found.
-fn hunt_quarry<R: Threads + Sync, P: Progress>(
-    rt: &R,
+fn tell_hunt<F, P>(
+    team: &Team<F>,
     alloc: Global,
     quarry: &Quarry,
     hunt: &Hunt,
     progress: &mut P,
 ) -> Result<(Vec<u8>, bool), AllocError>
+where
+    F: Fn(&Quarry, &Hunt, u32, Round, &mut Hunted) -> Result<(), AllocError>,
+    P: Progress,
+    requires makes { MakesRounds (F.pre team.now.make) (F.post team.now.make) }
     requires some { 0 < length quarry.now.setup.entries }
     requires within { AreRuns hunt.now.from hunt.now.runs }
-    ensures { IfOk result (λ told. TellsHunt quarry.now.setup quarry.now.asked (asked hunt.now) (status_of told.1) told.0.items) }
+    ensures { IfOk result (λ told. TellsHunt quarry.now.setup quarry.now.asked (asked hunt.now) (P.stopped progress.new) (status_of told.1) told.0.items) }
 {
-    let hunted = hunt_runs(rt, alloc, quarry, hunt, progress)?;
-    let expects = hunt.expect.is_some();
-    let text = if hunt.json {
-        hunt_json(alloc, &hunted, hunt.seed, hunt.from, expects)?
-    } else {
-        hunt_text(alloc, &hunted, hunt.seed, hunt.from, expects)?
-    };
-    Ok((text, hunted.has_flaw()))
+    let mut sums = Hunted::new(alloc);
+    tell_runs(team, alloc, quarry, hunt, progress, &mut sums)
 }
 
-/// Makes the runs of a hunt, and tells what was found.
-fn hunt_form<R: Threads + Sync, T: Store, K: Sink, P: Progress>(
-    rt: &R,
+/// Makes the runs of a hunt, and writes what was found.
+fn write_hunt<F, K, P>(
+    team: &Team<F>,
+    alloc: Global,
+    quarry: &Quarry,
+    hunt: &Hunt,
+    out: &mut K,
+    progress: &mut P,
+) -> Status
+where
+    F: Fn(&Quarry, &Hunt, u32, Round, &mut Hunted) -> Result<(), AllocError>,
+    K: Sink,
+    P: Progress,
+    requires makes { MakesRounds (F.pre team.now.make) (F.post team.now.make) }
+    requires some { 0 < length quarry.now.setup.entries }
+    requires within { AreRuns hunt.now.from hunt.now.runs }
+    ensures sink_count { K.faults out.old ≤ K.faults out.new }
+    ensures ends { EndsBy (TellsHunt quarry.now.setup quarry.now.asked (asked hunt.now) (P.stopped progress.new)) (record { taken = K.taken out.old; faults = K.faults out.old }) (record { taken = K.taken out.new; faults = K.faults out.new }) result }
+{
+    match tell_hunt(team, alloc, quarry, hunt, progress) {
+        Ok((text, is_found)) => write_text(text.as_slice(), status_of(is_found), out),
+        Err(_) => Status::Refused(Fault::Memory),
+    }
+}
+
+/// A hunt: its files are read, its runs are made, and what was found is written.
+fn hunt_form<F, T, K, P>(
+    team: &Team<F>,
     alloc: Global,
     wanted: &Hunt,
     files: &mut T,
     out: &mut K,
     progress: &mut P,
 ) -> Status
+where
+    F: Fn(&Quarry, &Hunt, u32, Round, &mut Hunted) -> Result<(), AllocError>,
+    T: Store,
+    K: Sink,
+    P: Progress,
+    requires makes { MakesRounds (F.pre team.now.make) (F.post team.now.make) }
     requires within { AreRuns wanted.now.from wanted.now.runs }
-    ensures { Promises (hunt (asked wanted.now))
+    ensures { Promises (hunt (asked wanted.now)) (P.stopped progress.new)
         (record { files = T.files files.old; ledger = T.ledger files.old }) (record { files = T.files files.new; ledger = T.ledger files.new })
         (record { taken = K.taken out.old; faults = K.faults out.old }) (record { taken = K.taken out.new; faults = K.faults out.new }) result }
 {
-    let quarry = match read_quarry(alloc, files, wanted.machine, wanted.expect, wanted.pass) {
-        Ok(quarry) => quarry,
-        Err(fault) => return Status::Refused(fault),
-    };
-    match hunt_quarry(rt, alloc, &quarry, wanted, progress) {
-        Ok((text, is_found)) => write_text(text.as_slice(), status_of(is_found), out),
+    match read_quarry(alloc, files, wanted.machine, wanted.expect, wanted.pass) {
+        Ok(quarry) => write_hunt(team, alloc, &quarry, wanted, out, progress),
+        Err(fault) => Status::Refused(fault),
+    }
+}
+
+/// Makes runs, and writes of each how it ends and its race, or whether it is settled.
+fn write_each<K: Sink>(
+    alloc: Global,
+    setup: &Setup,
+    from: u32,
+    runs: u32,
+    seed: u64,
+    out: &mut K,
+) -> Status
+    requires some { 0 < length setup.now.entries }
+    requires within { AreRuns from runs }
+    ensures sink_count { K.faults out.old ≤ K.faults out.new }
+    ensures ends { EndsBy (TellsEach setup.now from runs seed) (record { taken = K.taken out.old; faults = K.faults out.old }) (record { taken = K.taken out.new; faults = K.faults out.new }) result }
+{
+    match tell_each(alloc, setup, seed, from, runs) {
+        Ok((text, is_racy)) => write_text(text.as_slice(), status_of(is_racy), out),
         Err(_) => Status::Refused(Fault::Memory),
     }
 }
 
-/// Makes runs, and tells of each how it ends and its race, or whether it is settled.
+/// Runs of which each is told: the files are read, and the lines are written.
 fn each_form<T: Store, K: Sink>(
     alloc: Global,
     machine: &str,
@@ -104,17 +186,13 @@ fn each_form<T: Store, K: Sink>(
     out: &mut K,
 ) -> Status
     requires within { AreRuns from runs }
-    ensures { Promises (each machine.now from runs seed)
+    ensures { (stopped : Bool) → Promises (each machine.now from runs seed) stopped
         (record { files = T.files files.old; ledger = T.ledger files.old }) (record { files = T.files files.new; ledger = T.ledger files.new })
         (record { taken = K.taken out.old; faults = K.faults out.old }) (record { taken = K.taken out.new; faults = K.faults out.new }) result }
 {
-    let quarry = match read_quarry(alloc, files, machine, None, None) {
-        Ok(quarry) => quarry,
-        Err(fault) => return Status::Refused(fault),
-    };
-    match tell_each(alloc, &quarry.setup, seed, from, runs) {
-        Ok((text, is_racy)) => write_text(text.as_slice(), status_of(is_racy), out),
-        Err(_) => Status::Refused(Fault::Memory),
+    match read_quarry(alloc, files, machine, None, None) {
+        Ok(quarry) => write_each(alloc, &quarry.setup, from, runs, seed, out),
+        Err(fault) => Status::Refused(fault),
     }
 }
 
@@ -122,7 +200,7 @@ fn each_form<T: Store, K: Sink>(
 fn write_record<K: Sink>(alloc: Global, setup: &Setup, run: u32, seed: u64, out: &mut K) -> Status
     requires some { 0 < length setup.now.entries }
     ensures sink_count { K.faults out.old ≤ K.faults out.new }
-    ensures ends { EndsRun setup.now run seed (record { taken = K.taken out.old; faults = K.faults out.old }) (record { taken = K.taken out.new; faults = K.faults out.new }) result }
+    ensures ends { EndsBy (TellsRun setup.now run seed) (record { taken = K.taken out.old; faults = K.faults out.old }) (record { taken = K.taken out.new; faults = K.faults out.new }) result }
 {
     let Ok(made) = run_of_seed(alloc, setup, seed, run) else {
         return Status::Refused(Fault::Memory);
@@ -134,7 +212,7 @@ fn write_record<K: Sink>(alloc: Global, setup: &Setup, run: u32, seed: u64, out:
     }
 }
 
-/// Writes what `cell run` would print of a run.
+/// A run that is printed: the files are read, and the run is written.
 fn record_form<T: Store, K: Sink>(
     alloc: Global,
     machine: &str,
@@ -143,13 +221,46 @@ fn record_form<T: Store, K: Sink>(
     files: &mut T,
     out: &mut K,
 ) -> Status
-    ensures { Promises (record_of machine.now run seed)
+    ensures { (stopped : Bool) → Promises (record_of machine.now run seed) stopped
         (record { files = T.files files.old; ledger = T.ledger files.old }) (record { files = T.files files.new; ledger = T.ledger files.new })
         (record { taken = K.taken out.old; faults = K.faults out.old }) (record { taken = K.taken out.new; faults = K.faults out.new }) result }
 {
     match read_quarry(alloc, files, machine, None, None) {
         Ok(quarry) => write_record(alloc, &quarry.setup, run, seed, out),
         Err(fault) => Status::Refused(fault),
+    }
+}
+
+/// Does what the words ask for, with a team that makes the runs of a hunt.
+fn hunt_with<F, T, K, P>(
+    team: &Team<F>,
+    alloc: Global,
+    words: &[String],
+    files: &mut T,
+    out: &mut K,
+    progress: &mut P,
+) -> Status
+where
+    F: Fn(&Quarry, &Hunt, u32, Round, &mut Hunted) -> Result<(), AllocError>,
+    T: Store,
+    K: Sink,
+    P: Progress,
+    requires makes { MakesRounds (F.pre team.now.make) (F.post team.now.make) }
+    ensures { Promises (spoken (map string_bytes words.now)) (P.stopped progress.new)
+        (record { files = T.files files.old; ledger = T.ledger files.old }) (record { files = T.files files.new; ledger = T.ledger files.new })
+        (record { taken = K.taken out.old; faults = K.faults out.old }) (record { taken = K.taken out.new; faults = K.faults out.new }) result }
+{
+    match form_of(words) {
+        Form::Hunt(hunt) => hunt_form(team, alloc, &hunt, files, out, progress),
+        Form::Each {
+            machine,
+            from,
+            runs,
+            seed,
+        } => each_form(alloc, machine, from, runs, seed, files, out),
+        Form::Record { machine, run, seed } => record_form(alloc, machine, run, seed, files, out),
+        Form::Help => write_text(HELP, Status::Clean, out),
+        Form::NoForm => Status::Refused(Fault::Usage),
     }
 }
 
@@ -163,20 +274,36 @@ pub fn hunt<R: Threads + Sync, T: Store, K: Sink, P: Progress>(
     out: &mut K,
     progress: &mut P,
 ) -> Status
-    ensures { Promises (spoken (map string_bytes words.now))
+    ensures { Promises (spoken (map string_bytes words.now)) (P.stopped progress.new)
         (record { files = T.files files.old; ledger = T.ledger files.old }) (record { files = T.files files.new; ledger = T.ledger files.new })
         (record { taken = K.taken out.old; faults = K.faults out.old }) (record { taken = K.taken out.new; faults = K.faults out.new }) result }
 {
-    match form_of(words) {
-        Form::Hunt(hunt) => hunt_form(rt, alloc, &hunt, files, out, progress),
-        Form::Each {
-            machine,
-            from,
-            runs,
-            seed,
-        } => each_form(alloc, machine, from, runs, seed, files, out),
-        Form::Record { machine, run, seed } => record_form(alloc, machine, run, seed, files, out),
-        Form::Help => write_text(HELP, Status::Clean, out),
-        Form::NoForm => Status::Refused(Fault::Usage),
-    }
+    let team = Team {
+        cores: cores_of(rt),
+        make: |quarry: &Quarry, hunt: &Hunt, made: u32, round: Round, sums: &mut Hunted|
+            requires { IsNext quarry.now hunt.now made round sums.old }
+        { make_on_threads(rt, alloc, quarry, hunt, made, round, sums) },
+    };
+    hunt_with(&team, alloc, words, files, out, progress)
+}
+
+/// The same without threads: the caller makes all runs, whatever `--jobs` says.
+pub fn hunt_quiet<T: Store, K: Sink, P: Progress>(
+    alloc: Global,
+    words: &[String],
+    files: &mut T,
+    out: &mut K,
+    progress: &mut P,
+) -> Status
+    ensures { Promises (spoken (map string_bytes words.now)) (P.stopped progress.new)
+        (record { files = T.files files.old; ledger = T.ledger files.old }) (record { files = T.files files.new; ledger = T.ledger files.new })
+        (record { taken = K.taken out.old; faults = K.faults out.old }) (record { taken = K.taken out.new; faults = K.faults out.new }) result }
+{
+    let team = Team {
+        cores: 1,
+        make: |quarry: &Quarry, hunt: &Hunt, made: u32, round: Round, sums: &mut Hunted|
+            requires { IsNext quarry.now hunt.now made round sums.old }
+        { make_alone(alloc, quarry, hunt, made, round, sums) },
+    };
+    hunt_with(&team, alloc, words, files, out, progress)
 }

@@ -29,6 +29,8 @@ pub struct Hunt<'a> {
     /// The expectation file and the pass file.
     pub expect: Option<&'a str>,
     pub pass: Option<&'a str>,
+    /// The file that ends the hunt once it is there.
+    pub until: Option<&'a str>,
     pub json: bool,
 }
 
@@ -131,7 +133,11 @@ fn jobs_of(word: Option<&str>) -> Option<Option<u32>>
 fn is_plain(words: &Heard) -> bool
     ensures { result ≡ is_plain (heard words.now) }
 {
-    words.jobs.is_none() && words.expect.is_none() && words.pass.is_none() && !words.json
+    words.jobs.is_none()
+        && words.expect.is_none()
+        && words.pass.is_none()
+        && words.until.is_none()
+        && !words.json
 }
 
 fn hunt_form<'a>(
@@ -155,6 +161,7 @@ fn hunt_form<'a>(
         jobs,
         expect: words.expect,
         pass: words.pass,
+        until: words.until,
         json: words.json,
     }))
 }

@@ -7,6 +7,7 @@ use Rattle.cell_machine.specs.State.{State}
 use Rattle.cell_machine.specs.Run.{Ran, state_of, IsEnd}
 use Rattle.cell_report.specs.States.{states_of, result_of}
 use Rattle.cell_hunt.specs.declared.racing.Racing.{Racing}
+use Rattle.cell_hunt.specs.Kinds.{kind_of}
 use Rattle.cell_hunt.specs.Racings.{AreAllRaces}
 use Rattle.hunt_tally.specs.Tallies.{Tells}
 use Rattle.hunt_tally.specs.Reports.{Reported}
@@ -20,9 +21,9 @@ use Rattle.hunt_reports.specs.Lists.{bytes_in}
 abbrev pub is_some : {X : Type 0} → List X → Bool
 is_some xs = not (length xs == 0)
 
--- by how the processors ended, the end word, what is left, the races that it tells, whether one was left out, and the lines that it misses
-abbrev pub report_by : List Ended → End → List ℕ → List Tells → Bool → List (List ℕ) → Reported
-report_by spes end left races leaves missed = record {
+-- by how the processors ended, the end word, what is left, the races that it tells, whether one was left out, the lines that it misses, and its kind
+abbrev pub report_by : List Ended → End → List ℕ → List Tells → Bool → List (List ℕ) → ℕ → Reported
+report_by spes end left races leaves missed kind = record {
   flaws = record {
     race = is_some races;
     stuck = is_stuck end;
@@ -36,13 +37,14 @@ report_by spes end left races leaves missed = record {
   races = races;
   missed = missed;
   leaves_out = leaves;
+  kind = kind;
 }
 
--- the report of a run that ends so in state M, shows these ranges, and has these races
-abbrev pub report_in : State → List Show → End → List Racing → Asked → Reported
-report_in M shows end races asked =
+-- the report of a run that ends so in state M, shows these ranges, has these races, and is of this kind
+abbrev pub report_in : State → List Show → End → List Racing → ℕ → Asked → Reported
+report_in M shows end races kind asked =
     report_by (map ended_in M.spes) end (result_of M shows) (races_told asked.programs.items (bytes_in asked.passed.items) races)
-    (leaves_out asked.programs.items (bytes_in asked.passed.items) races) (missed_in (states_of M shows (Some end)) (bytes_in asked.expected.items))
+    (leaves_out asked.programs.items (bytes_in asked.passed.items) races) (missed_in (states_of M shows (Some end)) (bytes_in asked.expected.items)) kind
 
 -- this is the report of the run
 pub record IsReport (run : Ran) (asked : Asked) (r : Reported) : Type 0 where
@@ -52,4 +54,4 @@ pub record IsReport (run : Ran) (asked : Asked) (r : Reported) : Type 0 where
   pub ended : IsEnd state run.setup.budget (Some end)
   pub races : List Racing
   pub all : AreAllRaces run races
-  pub told : r ≡ report_in state run.setup.shows end races asked
+  pub told : r ≡ report_in state run.setup.shows end races (kind_of run) asked

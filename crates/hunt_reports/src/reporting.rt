@@ -57,9 +57,10 @@ fn report_by(
     left: Vec<u8>,
     races: Races,
     missed: Vec<Vec<u8>>,
+    kind: u64,
 ) -> Report
     requires { ending.items ≡ ending_text end spes.now }
-    ensures { result ≡ report_by spes.now end left.items races.told.items races.leaves_out (bytes_in missed.items) }
+    ensures { result ≡ report_by spes.now end left.items races.told.items races.leaves_out (bytes_in missed.items) kind }
 {
     let flaws = Flaws {
         race: !races.told.is_empty(),
@@ -77,6 +78,7 @@ fn report_by(
         races: told,
         missed,
         leaves_out,
+        kind,
     }
 }
 
@@ -96,5 +98,13 @@ pub fn report_of(alloc: Global, run: &SeedRun, asked: &Asked) -> Result<Report, 
         asked.programs.as_slice(),
         asked.passed.as_slice(),
     )?;
-    Ok(report_by(spes.as_slice(), end, ending, left, races, missed))
+    Ok(report_by(
+        spes.as_slice(),
+        end,
+        ending,
+        left,
+        races,
+        missed,
+        run.kind(),
+    ))
 }

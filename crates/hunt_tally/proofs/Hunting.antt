@@ -4,9 +4,10 @@ use Rattle.std.specs.Prelude.{nat_lt}
 use Rattle.std.specs.List.{list_any, count_by, position_or_len}
 use Rattle.std.proofs.lemmas.List.{map_push, length_push}
 use Rattle.std.proofs.lemmas.List.Folds.{position_or_len_push}
-use Rattle.std.proofs.lemmas.List.Sums.{sum_by_push, sum_by-cons}
+use Rattle.std.proofs.lemmas.List.Sums.{fold_push, sum_by_push, sum_by-cons}
 use Rattle.hunt_tally.specs.Tallies.{Took, tallied}
 use Rattle.hunt_tally.specs.Counting.{first_of, count_of, noted}
+use Rattle.hunt_tally.specs.Kinds.{kinds_of, with_run}
 use Rattle.hunt_tally.specs.Reports.{Reported, is_flawed, all_stopped, ending_told, result_told, missed_told, flaws_of, Sums, hunted, has_flaw}
 use Rattle.hunt_tally.proofs.Taking.{none_counted, first_within}
 
@@ -83,6 +84,9 @@ module _ {X : Type 0} (test : X → Bool) where
           let f : first_of test (xs ++ x ∷ []) ≡ first_of test xs = rw (at, long, there, zero.1, here) refl in
           λ i. record { runs = n i; first = f i }
 
+kinds_more : (reports : List Reported) (r : Reported) → kinds_of (map (λ (x : Reported). x.kind) (reports ++ r ∷ [])) ≡ with_run (kinds_of (map (λ (x : Reported). x.kind) reports)) r.kind
+kinds_more reports r = ap kinds_of (map_push (λ (x : Reported). x.kind) reports r) ∙ fold_push with_run [] (map (λ (x : Reported). x.kind) reports) r.kind
+
 -- one report more
 pub more : (reports : List Reported) (r : Reported) → hunted (reports ++ r ∷ []) ≡ record {
   runs = length reports + 1;
@@ -96,6 +100,7 @@ pub more : (reports : List Reported) (r : Reported) → hunted (reports ++ r ∷
     halt = noted (length reports) r.flaws.halt (flaws_of reports).halt;
     missed = noted (length reports) r.flaws.missed (flaws_of reports).missed;
   };
+  kinds = with_run (kinds_of (map (λ (x : Reported). x.kind) reports)) r.kind;
   endings = tallied (map ending_told reports ++ ending_told r ∷ []);
   results = tallied (map result_told reports ++ result_told r ∷ []);
   races = tallied (map (λ (x : Reported). x.races) reports ++ r.races ∷ []);
@@ -114,6 +119,7 @@ more reports r = λ i. record {
     halt = noted_is (λ (x : Reported). x.flaws.halt) reports r i;
     missed = noted_is (λ (x : Reported). x.flaws.missed) reports r i;
   };
+  kinds = kinds_more reports r i;
   endings = tallied (map_push ending_told reports r i);
   results = tallied (map_push result_told reports r i);
   races = tallied (map_push (λ (x : Reported). x.races) reports r i);
@@ -131,6 +137,7 @@ pub record IsMore (r : Reported) (old new : Sums) : Type 0 where
   pub fault : new.flaws.fault ≡ noted old.runs r.flaws.fault old.flaws.fault
   pub halt : new.flaws.halt ≡ noted old.runs r.flaws.halt old.flaws.halt
   pub missed : new.flaws.missed ≡ noted old.runs r.flaws.missed old.flaws.missed
+  pub kinds : new.kinds ≡ with_run old.kinds r.kind
   pub endings : Took (ending_told r) old.endings new.endings
   pub results : Took (result_told r) old.results new.results
   pub races : Took r.races old.races new.races
@@ -150,6 +157,7 @@ took_report r old new is reports e = (λ i. record {
     halt = (is.halt ∙ ap (λ (s : Sums). noted s.runs r.flaws.halt s.flaws.halt) e) i;
     missed = (is.missed ∙ ap (λ (s : Sums). noted s.runs r.flaws.missed s.flaws.missed) e) i;
   };
+  kinds = (is.kinds ∙ ap (λ (s : Sums). with_run s.kinds r.kind) e) i;
   endings = is.endings (map ending_told reports) (ap (λ (s : Sums). s.endings) e) i;
   results = is.results (map result_told reports) (ap (λ (s : Sums). s.results) e) i;
   races = is.races (map (λ (x : Reported). x.races) reports) (ap (λ (s : Sums). s.races) e) i;
@@ -161,7 +169,7 @@ pub no_flaws : record { race = record { runs = 0; first = 0 }; stuck = record { 
 unfolding flaws_of count_of
 no_flaws = refl
 
-pub no_runs : record { runs = 0; all_stopped = 0; left_out = 0; flaws = flaws_of []; endings = tallied []; results = tallied []; races = tallied []; missed = tallied [] } ≡ hunted []
+pub no_runs : record { runs = 0; all_stopped = 0; left_out = 0; flaws = flaws_of []; kinds = []; endings = tallied []; results = tallied []; races = tallied []; missed = tallied [] } ≡ hunted []
 unfolding hunted
 no_runs = refl
 

@@ -2,3 +2,4 @@ pub mod Entries
 pub mod Taking
 pub mod Told
 pub mod Hunting
+mod KindLemmas

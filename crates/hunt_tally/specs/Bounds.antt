@@ -1,6 +1,7 @@
 -- The counts are those of runs that were taken in.
 use Rattle.std.specs.Prelude.{ℕ, ◌≤◌}
 use Rattle.hunt_tally.specs.declared.flaws.FlawCounts.{FlawCounts}
+use Rattle.hunt_tally.specs.Kinds.{runs_of}
 use Rattle.hunt_tally.specs.Reports.{Sums}
 
 pub record AreWithin (runs : ℕ) (c : FlawCounts) : Type 0 where
@@ -15,6 +16,7 @@ pub record IsWithin (s : Sums) : Type 0 where
   pub all_stopped : s.all_stopped ≤ s.runs
   pub left_out : s.left_out ≤ s.runs
   pub flaws : AreWithin s.runs s.flaws
+  pub kinds : runs_of s.kinds ≤ s.runs
   pub endings : s.endings.runs ≤ s.runs
   pub results : s.results.runs ≤ s.runs
   pub races : s.races.runs ≤ s.runs

@@ -6,6 +6,8 @@ use Rattle.hunt_tally.specs.declared.flaws.Flaws.{Flaws}
 use Rattle.hunt_tally.specs.declared.flaws.FlawCounts.{FlawCounts}
 use Rattle.hunt_tally.specs.Tallies.{Tells, Told, Tallied, tallied}
 use Rattle.hunt_tally.specs.Counting.{count_of}
+use Rattle.hunt_tally.specs.declared.kinds.Kind.{Kind}
+use Rattle.hunt_tally.specs.Kinds.{kinds_of}
 
 -- what one run tells
 pub record Reported : Type 0 where
@@ -15,6 +17,7 @@ pub record Reported : Type 0 where
   pub races : List Tells
   pub missed : List (List ℕ)
   pub leaves_out : Bool
+  pub kind : ℕ  -- its digest
 
 -- whether something went wrong in it
 abbrev pub is_flawed : Reported → Bool
@@ -62,6 +65,7 @@ pub record Sums : Type 0 where
   pub all_stopped : ℕ
   pub left_out : ℕ
   pub flaws : FlawCounts
+  pub kinds : List Kind
   pub endings : Tallied
   pub results : Tallied
   pub races : Tallied
@@ -74,6 +78,7 @@ hunted reports = record {
   all_stopped = count_by all_stopped reports;
   left_out = count_by (λ (r : Reported). r.leaves_out) reports;
   flaws = flaws_of reports;
+  kinds = kinds_of (map (λ (r : Reported). r.kind) reports);
   endings = tallied (map ending_told reports);
   results = tallied (map result_told reports);
   races = tallied (map (λ (r : Reported). r.races) reports);

@@ -7,6 +7,7 @@ ghost use Rattle.hunt_tally.specs.Tallies.{Took};
 ghost use Rattle.hunt_tally.specs.Reports.{Reported, is_flawed, line_told, hunted};
 
 use crate::flaws::FlawCounts;
+use crate::kinds::Kinds;
 use crate::report::Report;
 use crate::tally::Tally;
 use crate::tellings::{ending_told, missed_told, result_told};
@@ -21,6 +22,7 @@ pub struct Hunted {
     all_stopped: u32,
     left_out: u32,
     flaws: FlawCounts,
+    kinds: Kinds,
     /// The different endings, results within an ending, races, and expected lines that aren't there.
     endings: Tally,
     results: Tally,
@@ -34,9 +36,9 @@ impl Model for Hunted {
 
     ghost Value = { Sums };
 
-    ghost view = { λ h. record { runs = h.runs; all_stopped = h.all_stopped; left_out = h.left_out; flaws = h.flaws; endings = h.endings; results = h.results; races = h.races; missed = h.missed } };
+    ghost view = { λ h. record { runs = h.runs; all_stopped = h.all_stopped; left_out = h.left_out; flaws = h.flaws; kinds = h.kinds; endings = h.endings; results = h.results; races = h.races; missed = h.missed } };
 
-    ghost invariant = { λ h. IsWithin (record { runs = h.runs; all_stopped = h.all_stopped; left_out = h.left_out; flaws = h.flaws; endings = h.endings; results = h.results; races = h.races; missed = h.missed }) };
+    ghost invariant = { λ h. IsWithin (record { runs = h.runs; all_stopped = h.all_stopped; left_out = h.left_out; flaws = h.flaws; kinds = h.kinds; endings = h.endings; results = h.results; races = h.races; missed = h.missed }) };
 }
 
 /// One more, where it is so.
@@ -85,6 +87,7 @@ impl Hunted {
             all_stopped: 0,
             left_out: 0,
             flaws: FlawCounts::new(),
+            kinds: Kinds::new(alloc),
             endings: Tally::new(alloc),
             results: Tally::new(alloc),
             races: Tally::new(alloc),
@@ -104,12 +107,14 @@ impl Hunted {
             races,
             missed,
             leaves_out,
+            kind,
         } = report;
         let run = self.runs;
         self.runs = run + 1;
         self.flaws.note(run, flaws);
         self.all_stopped = counted(self.all_stopped, flaws.all_stopped());
         self.left_out = counted(self.left_out, leaves_out);
+        self.kinds.take(kind)?;
         take_ending(&mut self.endings, &mut self.results, alloc, ending, result)?;
         self.races.take(races)?;
         take_missed(&mut self.missed, alloc, missed)
@@ -148,6 +153,13 @@ impl Hunted {
         ensures { (reports : List Reported) → self.now ≡ hunted reports → result ≡ list_any is_flawed reports }
     {
         self.flaws.is_some()
+    }
+
+    /// Of which kinds they are.
+    pub fn kinds(&self) -> &Kinds
+        ensures { result.now ≡ self.now.kinds }
+    {
+        &self.kinds
     }
 
     /// The different endings.

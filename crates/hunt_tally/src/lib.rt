@@ -1,11 +1,12 @@
 //! What many runs tell together: the different texts that they tell, each with how many runs tell it and the first of these, and what went
-//! wrong in how many of them.
+//! wrong in how many of them, and of how many kinds they are.
 #![tactic(auto)]
 
 mod count;
 mod counted;
 mod flaws;
 mod hunted;
+mod kinds;
 mod report;
 mod tally;
 mod telling;
@@ -14,6 +15,7 @@ mod tellings;
 pub use count::Count;
 pub use flaws::{FlawCounts, Flaws};
 pub use hunted::Hunted;
+pub use kinds::{Kind, Kinds};
 pub use report::Report;
 pub use tally::{Line, Tally};
 pub use telling::Telling;

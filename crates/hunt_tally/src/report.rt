@@ -19,6 +19,8 @@ pub struct Report {
     pub missed: Vec<Vec<u8>>,
     /// Whether a race was left out that was passed.
     pub leaves_out: bool,
+    /// The digest of its kind.
+    pub kind: u64,
 }
 
 impl Model for Report {
@@ -27,5 +29,5 @@ impl Model for Report {
 
     ghost Value = { Reported };
 
-    ghost view = { λ r. record { flaws = r.flaws; ending = r.ending.items; result = r.result.items; races = r.races.items; missed = map (λ line. line.items) r.missed.items; leaves_out = r.leaves_out } };
+    ghost view = { λ r. record { flaws = r.flaws; ending = r.ending.items; result = r.result.items; races = r.races.items; missed = map (λ line. line.items) r.missed.items; leaves_out = r.leaves_out; kind = r.kind } };
 }

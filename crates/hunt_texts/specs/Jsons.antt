@@ -1,13 +1,15 @@
 -- The same as JSON, one object a line.
-use Rattle.std.specs.Prelude.{ℕ, ◌+◌, ◌==◌, ◌||◌, nat_lt, Bool, List, ◌∷◌, [], ◌++◌, codes, if◌then◌else◌}
+use Rattle.std.specs.Prelude.{ℕ, suc, ◌+◌, ◌==◌, ◌||◌, nat_lt, Bool, List, ◌∷◌, [], ◌++◌, codes, if◌then◌else◌}
 use Rattle.std.specs.List.{flat_map}
 use Rattle.std.specs.Fmt.{decimal}
 use Rattle.cell_base.specs.Hex.{hex}
 use Rattle.cell_base.specs.Records.{line_feed}
 use Rattle.hunt_tally.specs.declared.count.Count.{Count}
 use Rattle.hunt_tally.specs.declared.flaws.FlawCounts.{FlawCounts}
+use Rattle.hunt_tally.specs.declared.kinds.Kind.{Kind}
 use Rattle.hunt_tally.specs.Tallies.{Told, told_in}
 use Rattle.hunt_tally.specs.Reports.{Sums, result_in}
+use Rattle.hunt_texts.specs.Numbers.{word_text}
 
 -- a byte of a string: as it is, or as a code point of two digits where it is a quotation mark, a backslash, or no printed ASCII
 unfoldable pub byte_json : ℕ → List ℕ
@@ -65,7 +67,23 @@ result_json from t = codes "{\"result\":" ++ string_json (result_in t) ++ codes 
 abbrev pub missed_json : ℕ → Told → List ℕ
 missed_json from t = codes "{\"missed\":" ++ string_json t.key ++ runs_json from t.runs t.first
 
+abbrev pub comma_json : ℕ → List ℕ
+comma_json i = if i == 0 then [] else codes ","
+
+-- a kind by its digest, with how many runs are of it
+unfoldable pub kind_json : Kind → List ℕ
+kind_json k = codes "\"" ++ word_text k.digest (codes "\":") ++ decimal k.runs
+
+-- the kinds from place i on, with commas between them
+unfoldable pub kinds_from : ℕ → List Kind → List ℕ
+kinds_from i [] = []
+kinds_from i (k ∷ kinds) = comma_json i ++ kind_json k ++ kinds_from (suc i) kinds
+
+unfoldable pub kinds_json : List Kind → List ℕ
+kinds_json kinds = codes "{\"kinds\":{" ++ kinds_from 0 kinds ++ codes "}}" ++ line_feed
+
 abbrev pub hunt_json : Sums → ℕ → ℕ → Bool → List ℕ
 hunt_json sums seed from expects =
     head_json sums seed from expects ++ flat_map (race_json from) (told_in sums.races) ++ flat_map (ending_json from) (told_in sums.endings)
     ++ flat_map (result_json from) (told_in sums.results) ++ flat_map (missed_json from) (told_in sums.missed)
+    ++ kinds_json sums.kinds

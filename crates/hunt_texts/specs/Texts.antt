@@ -7,6 +7,8 @@ use Rattle.cell_base.specs.Records.{line_feed}
 use Rattle.cell_base.specs.Words.{lines_of}
 use Rattle.hunt_tally.specs.declared.count.Count.{Count}
 use Rattle.hunt_tally.specs.declared.flaws.FlawCounts.{FlawCounts}
+use Rattle.hunt_tally.specs.declared.kinds.Kind.{Kind}
+use Rattle.hunt_tally.specs.Kinds.{seen_once}
 use Rattle.hunt_tally.specs.Tallies.{Told, told_in}
 use Rattle.hunt_tally.specs.Reports.{Sums, result_in, has_flaw}
 use Rattle.hunt_texts.specs.Numbers.{counted_text, word_text}
@@ -61,6 +63,19 @@ found_text c from expects = if has_flaw c then flaw_texts from false (worded c) 
 
 unfoldable pub found_line : FlawCounts → ℕ → Bool → List ℕ
 found_line c from expects = found_text c from expects ++ line_feed
+
+-- ---- of how many kinds they are
+
+unfoldable pub seen_text : ℕ → ℕ → List ℕ
+seen_text kinds once = codes "kinds " ++ word_text kinds (codes ", seen once ") ++ word_text once (codes ": some ")
+
+unfoldable pub new_text : ℕ → ℕ → List ℕ
+new_text once runs = word_text once (codes " in ") ++ word_text runs (codes " further runs would be of a new kind" ++ line_feed)
+
+-- How many kinds there are, and how many of them one run alone is of. That many in so many runs as there are is the estimate of Good and Turing
+-- of how many further runs would be of kinds that none of these is of.
+unfoldable pub kinds_line : List Kind → ℕ → List ℕ
+kinds_line kinds runs = seen_text (length kinds) (seen_once kinds) ++ new_text (seen_once kinds) runs
 
 -- ---- the lines of what runs tell
 
@@ -126,6 +141,6 @@ left_text n = if n == 0 then [] else codes "left out " ++ decimal n ++ line_feed
 -- what a hunt of this seed prints whose first run has this number, where lines were expected or weren't
 abbrev pub hunt_text : Sums → ℕ → ℕ → Bool → List ℕ
 hunt_text sums seed from expects =
-    head_line sums seed from ++ found_line sums.flaws from expects ++ flat_map (race_line from) (told_in sums.races)
+    head_line sums seed from ++ found_line sums.flaws from expects ++ kinds_line sums.kinds sums.runs ++ flat_map (race_line from) (told_in sums.races)
     ++ endings_from from (told_in sums.endings) (told_in sums.results) 0 (told_in sums.endings)
     ++ flat_map (missed_line from) (told_in sums.missed) ++ left_text sums.left_out

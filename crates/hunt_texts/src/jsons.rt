@@ -3,6 +3,7 @@
 ghost use Rattle.std.specs.Prelude.{◌≡◌, ◌++◌, IfOk, OnOk};
 ghost use Rattle.hunt_texts.specs.Jsons.{bool_json, first_json, field_json, flaw_json, ended_json, faulted_json, runs_of_json, sums_json, head_json, hunt_json};
 
+use crate::kinds::put_kinds_json;
 use crate::numbers::put_number;
 use crate::rows::{Row, put_rows};
 use hunt_tally::{Count, FlawCounts, Hunted};
@@ -109,8 +110,8 @@ fn put_head(
     out.extend_from_slice(b"}\n")
 }
 
-/// What runs of a seed tell together, as JSON, one object a line: of the hunt, and of each race, ending, result and missed line. `from` is
-/// the number of the first run, and `expects` whether lines were expected.
+/// What runs of a seed tell together, as JSON, one object a line: of the hunt, of each race, ending, result and missed line, and of all kinds.
+/// `from` is the number of the first run, and `expects` whether lines were expected.
 pub fn hunt_json(
     alloc: Global,
     hunted: &Hunted,
@@ -126,5 +127,6 @@ pub fn hunt_json(
     put_rows(&mut out, Row::EndingJson, from, hunted.endings())?;
     put_rows(&mut out, Row::ResultJson, from, hunted.results())?;
     put_rows(&mut out, Row::MissedJson, from, hunted.missed())?;
+    put_kinds_json(&mut out, hunted.kinds())?;
     Ok(out)
 }

@@ -5,6 +5,7 @@ mod endings;
 mod groups;
 mod head;
 mod jsons;
+mod kinds;
 mod numbers;
 mod results;
 mod rows;

@@ -5,6 +5,7 @@ ghost use Rattle.hunt_texts.specs.Texts.{hunt_text};
 
 use crate::endings::put_endings;
 use crate::head::{put_found, put_head, put_left};
+use crate::kinds::put_kinds;
 use crate::rows::{Row, put_rows};
 use hunt_tally::Hunted;
 use std::alloc::{AllocError, Global};
@@ -22,6 +23,7 @@ pub fn hunt_text(
     let mut out = Vec::new(alloc);
     put_head(&mut out, hunted, seed, from)?;
     put_found(&mut out, hunted.flaws(), from, expects)?;
+    put_kinds(&mut out, hunted.kinds(), hunted.runs())?;
     put_rows(&mut out, Row::Race, from, hunted.races())?;
     put_endings(&mut out, alloc, from, hunted.endings(), hunted.results())?;
     put_rows(&mut out, Row::Missed, from, hunted.missed())?;

@@ -15,17 +15,19 @@ use Rattle.cell_machine.specs.Effects.{effect_in}
 use Rattle.cell_machine.proofs.Same.{some_same}
 use Rattle.race_order.specs.Rules.{Rule, Ordered}
 use Rattle.race_order.specs.Told.{trace_in}
-use Rattle.race_order.proofs.OrderedRuns.{follows, run-told as told-by}
+use Rattle.race_order.proofs.OrderedRuns.{follows}
+use Rattle.run_walk.specs.declared.walk.Walk.{Walk}
+use Rattle.run_walk.specs.Walks.{IsLast, Stands, walked}
+use Rattle.run_walk.proofs.Walking.{walk-few, walk-told}
 use Rattle.race_check.specs.declared.check.Verdict.TheVariants.{Accepted, Race as Racing}
 use Rattle.race_check.specs.Races.{access_of, IsFirst, IsLeast, IsVerdict, Race, RaceBy, TellsLatest}
-use Rattle.race_check.specs.Walks.{IsAt, IsOrdered, accesses_in, RaceIn, Stands}
+use Rattle.race_check.specs.Walks.{IsOrdered, accesses_in, RaceIn}
 use Rattle.race_check.specs.Reorderings.{EveryReorderingAgrees, KeepsOrder}
 use Rattle.race_check.proofs.Agree.{agrees}
-use Rattle.race_check.proofs.Prefixes.{access-within, accesses-long, first_of, on_trace, run-acted, run-told, trace-first, trace_in-first}
+use Rattle.race_check.proofs.Prefixes.{access-within, accesses-long, first_of, run-acted, run-told, trace-first, trace_in-first}
 use Rattle.race_check.proofs.Checks.{least_next, least_whole, none_next, shows_none, shows_whole}
 use Rattle.race_check.specs.declared.access.Access.{Access}
 use Rattle.race_check.specs.declared.search.Search.{Search}
-use Rattle.race_check.specs.declared.walk.Walk.{Walk}
 use Rattle.race_check.specs.Shows.{Shows, TakesStep}
 use Rattle.race_check.specs.Searches.{IsClear, Keeps, run_of, with_step}
 
@@ -35,39 +37,23 @@ IsTold m = trace_of m ≡ Some (trace_in m)
 
 module _ (m : Ran) (is : trace_of m ≡ Some (trace_in m)) where
   -- the races of the run are those of its trace
-  race_of : (i j : ℕ) → Race (trace_in m) i j → RaceIn m i j
-  race_of i j race = record { below = race.below; unordered = λ o. race.unordered (on_trace m i j (trace_in m) is o); conflict = race.conflict }
-
-  race_on : (i j : ℕ) → RaceIn m i j → Race (trace_in m) i j
-  unfolding IsOrdered
-  race_on i j race = record { below = race.below; unordered = λ o. race.unordered record { trace = trace_in m; is = is; so = o }; conflict = race.conflict }
-
   pub accepted : ((i j : ℕ) → RaceIn m i j → ⊥) → IsVerdict m Accepted
-  accepted none = record { trace = trace_in m; is = is; so = λ i j race. none i j (race_of i j race) }
+  accepted none = record { trace = trace_in m; is = is; so = none }
 
   pub raced : (i j : ℕ) → IsLeast (RaceIn m) i j → IsVerdict m (Racing i j)
-  raced i j least = record {
-    trace = trace_in m;
-    is = is;
-    so = record {
-      holds = race_on i j least.holds;
-      least_second = λ k n race. least.least_second k n (race_of k n race);
-      least_first = λ k race. least.least_first k (race_of k j race);
-    };
-  }
+  raced i j least = record { trace = trace_in m; is = is; so = least }
 
   pub every-reordering-agrees : ((i j : ℕ) → RaceIn m i j → ⊥) → EveryReorderingAgrees m
   every-reordering-agrees none =
       let r = run-acted m is in
       let many : length r.0 ≡ length (trace_in m) = sym (length-map r.0 (λ a. access_of a.effect)) ∙ ap length r.2 ∙ length-map (trace_in m) (λ e. access_of e.effect) in
-      let free : (i j : ℕ) → RaceBy (Ordered Rule (trace_in m)) (accesses_in m) i j → ⊥ = λ i j race. none i j (race_of i j race) in
       record {
         trace = trace_in m;
         is = is;
         made = r.0;
         are = r.1;
         agree = λ order keeps.
-            agrees (Ordered Rule (trace_in m)) (byte_of (opening m.setup)) r.0 (subst (λ accesses. (i j : ℕ) → RaceBy (Ordered Rule (trace_in m)) accesses i j → ⊥) (sym r.2) free) order
+            agrees (Ordered Rule (trace_in m)) (byte_of (opening m.setup)) r.0 (subst (λ accesses. (i j : ℕ) → RaceBy (Ordered Rule (trace_in m)) accesses i j → ⊥) (sym r.2) none) order
             (subst (λ n. KeepsOrder (Ordered Rule (trace_in m)) n order) (sym many) keeps);
       }
 
@@ -84,13 +70,7 @@ length-take-most (suc n) (x ∷ xs) = let rest = length-take-most n xs in omega 
 
 -- a verdict is on the run's trace
 least_of : (m : Ran) (i j : ℕ) → (is : trace_of m ≡ Some (trace_in m)) → IsVerdict m (Racing i j) → IsLeast (RaceIn m) i j
-least_of m i j is v =
-    let least : IsLeast (Race (trace_in m)) i j = subst (λ trace. IsLeast (Race trace) i j) (some_same v.trace (trace_in m) (sym v.is ∙ is)) v.so in
-    record {
-      holds = race_of m is i j least.holds;
-      least_second = λ k n race. least.least_second k n (race_on m is k n race);
-      least_first = λ k race. least.least_first k (race_on m is k j race);
-    }
+least_of m i j is v = subst (λ trace. IsLeast (Race trace) i j) (some_same v.trace (trace_in m) (sym v.is ∙ is)) v.so
 
 -- a race of the first steps is the least of all
 pub raced-whole : (m w : Ran) (n i j : ℕ) → IsRun m.setup m.steps → w ≡ first_of m n → IsVerdict w (Racing i j) → IsVerdict m (Racing i j)
@@ -105,8 +85,7 @@ raced-whole m w n i j run made v =
 
 -- its run has a trace
 pub search-told : (s : Search) → Keeps s → IsTold (run_of s)
-unfolding Stands
-search-told s keeps = told-by s.walk.orderer (run_of s) keeps.stands
+search-told s keeps = walk-told s.walk keeps.stands
 
 -- its run has no race
 pub clear : (s : Search) → Keeps s → ((i j : ℕ) → RaceIn (run_of s) i j → ⊥) → IsClear s
@@ -116,10 +95,9 @@ clear s keeps none =
 
 -- before the first step
 pub clear-none : (s : Search) (setup : Opening) → run_of s ≡ record { setup = setup; steps = [] } → Stands s.walk → s.shadow.lists.items ≡ [] → s.accesses.items ≡ [] → IsClear s
-unfolding Stands
 clear-none s setup start stands empty none =
     let m : Ran = run_of s in
-    let is = told-by s.walk.orderer m stands in
+    let is = walk-told s.walk stands in
     let steps : m.steps ≡ [] = ap (λ (r : Ran). r.steps) start in
     let long : length (accesses_in m) ≡ 0 = accesses-long m is ∙ ap length steps in
     let zero : 0 ≡ length m.steps = sym (ap length steps) in
@@ -135,22 +113,20 @@ clear-none s setup start stands empty none =
 
 -- it has an access for each step
 pub counted : (s : Search) → Keeps s → length s.accesses.items ≡ length (run_of s).steps
-unfolding Stands
-counted s keeps = ap length keeps.accesses ∙ accesses-long (run_of s) (told-by s.walk.orderer (run_of s) keeps.stands)
+counted s keeps = ap length keeps.accesses ∙ accesses-long (run_of s) (search-told s keeps)
 
 -- fewer than the budget, where one more is allowed
 pub counted-few : (s : Search) (step : Step) (e : Effect) → Keeps s → effect_in (run_of s) step ≡ Some e → length s.accesses.items < 2 ^ 32
-unfolding Stands
 counted-few s step e keeps effect =
     let low = (follows (run_of s) step e effect).within in
-    let budget = keeps.stands.budget in
+    let budget = walk-few s.walk keeps.stands in
     let long = counted s keeps in
     omega (arith, low, budget, long)
 
 -- the place of the step
-pub step-at : (s : Search) (walk : Walk) (step : Step) (last : ℕ) → last ≡ length (run_of s).steps → walk.machine ≡ record (run_of s) { steps = (run_of s).steps ++ step ∷ [] } → Stands walk → IsAt walk last
+pub step-at : (s : Search) (walk : Walk) (step : Step) (last : ℕ) → last ≡ length (run_of s).steps → walked walk ≡ record (run_of s) { steps = (run_of s).steps ++ step ∷ [] } → Stands walk → IsLast walk last
 step-at s walk step last is made stands =
-    let long : length walk.machine.steps ≡ length (run_of s).steps + 1 = ap (λ (r : Ran). length r.steps) made ∙ length_push (run_of s).steps step in
+    let long : length (walked walk).steps ≡ length (run_of s).steps + 1 = ap (λ (r : Ran). length r.steps) made ∙ length_push (run_of s).steps step in
     record { stands = stands; last = omega (arith, is, long) }
 
 -- without the last step a run is the one before it
@@ -169,8 +145,7 @@ pub record Advanced (old new : Search) (step : Step) (access : Access) : Type 0 
 
 module _ (old new : Search) (step : Step) (access : Access) (a : Advanced old new step access) where
   is : trace_of (run_of new) ≡ Some (trace_in (run_of new))
-  unfolding Stands
-  is = told-by new.walk.orderer (run_of new) a.stands
+  is = walk-told new.walk a.stands
 
   first : run_of old ≡ first_of (run_of new) (length (run_of old).steps)
   first = first_steps (run_of old) (run_of new) step a.made
@@ -179,9 +154,8 @@ module _ (old new : Search) (step : Step) (access : Access) (a : Advanced old ne
   long = ap (λ (r : Ran). length r.steps) a.made ∙ length_push (run_of old).steps step
 
   at : slice_get (accesses_in (run_of new)) (length (run_of old).steps) ≡ Some access
-  unfolding Stands
   at =
-      let many : length (run_of old).steps ≡ length (accesses_in (run_of old)) = sym (accesses-long (run_of old) (told-by old.walk.orderer (run_of old) a.keeps.stands)) in
+      let many : length (run_of old).steps ≡ length (accesses_in (run_of old)) = sym (accesses-long (run_of old) (search-told old a.keeps)) in
       ap (λ xs. slice_get xs (length (run_of old).steps)) a.more ∙ ap (slice_get (accesses_in (run_of old) ++ access ∷ [])) many ∙ get-last (accesses_in (run_of old)) access
 
   shown : Shows (IsOrdered (run_of new)) (accesses_in (run_of new)) old.shadow (length (run_of old).steps)

@@ -1,8 +1,8 @@
 -- The latest of steps that may be unsafe.
-use Rattle.std.proofs.Common.{◌≡◌, ℕ, ◌+◌, ◌≤◌, ◌<◌, false, Option, Some, None, List, [], ◌∷◌, ◌++◌, length, get_or, take, ◌⊎◌, inl, inr, refl, sym, ap, ◌∙◌, subst, arith}
+use Rattle.std.proofs.Common.{◌≡◌, ℕ, suc, ◌+◌, ◌-◌, ◌≤◌, ◌<◌, false, Option, Some, None, List, [], ◌∷◌, length, get_or, drop, ◌⊎◌, inl, inr, refl, sym, ap, ◌∙◌, subst, arith}
 use Rattle.std.specs.Prelude.{Contains, IfSome, is_some}
-use Rattle.std.proofs.lemmas.List.{take_all, take_more}
-use Rattle.std.proofs.lemmas.List.Elements.{Contains-append_left, Contains-push, Contains-push_cases}
+use Rattle.std.proofs.Math.Seq.{drop-cons}
+use Rattle.std.proofs.lemmas.List.Elements.{Contains-append_cases, Contains-append_left, Contains-append_right, Contains-push, Contains-push_cases}
 use Rattle.race_check.specs.Crowds.{IsLater, IsSafe, IsUnsafeOne, StepsTell, UpTo}
 
 pub none_of : (o : Option ℕ) → is_some o ≡ false → o ≡ None
@@ -61,25 +61,44 @@ module _ (Before : ℕ → ℕ → Type 0) (last : ℕ) where
   pub steps_none : StepsTell Before last (Contains []) None
   steps_none = record { clash = tt; rest = λ s has. absurd (let low : has.0 < 0 = has.1 in omega arith) }
 
-  -- one more step of a list
-  pub steps_more : (steps : List ℕ) (i d : ℕ) → i < length steps → d ≡ get_or steps i d → (a b later : Option ℕ) → IsLater a b later
-      → StepsTell Before last (Contains (take i steps)) a → StepsTell Before last (λ s. s ≡ d) b → StepsTell Before last (Contains (take (i + 1) steps)) later
-  steps_more steps i d low at a b later is before here =
-      steps_same (λ s. Contains (take i steps) s ⊎ (s ≡ d)) (Contains (take (i + 1) steps)) later to from (steps_both (Contains (take i steps)) (λ s. s ≡ d) a b later is before here)
+  -- a step in front of others, and in which of them it is up to the known one
+  module _ (step : ℕ) (others : List ℕ) where
+    only : (s : ℕ) → Contains [] s ⊎ (step ≡ s) → s ≡ step
+    only s (inl c) = absurd (let low : c.0 < 0 = c.1 in omega arith)
+    only s (inr e) = sym e
+
+    either : (s : ℕ) → Contains (step ∷ []) s ⊎ Contains others s → (s ≡ step) ⊎ Contains others s
+    either s (inl c) = inl (only s (Contains-push_cases [] step s c))
+    either s (inr c) = inr c
+
+    one_of : (s : ℕ) → Contains (step ∷ others) s → (s ≡ step) ⊎ Contains others s
+    one_of s c = either s (Contains-append_cases (step ∷ []) others s c)
+
+    there : (s : ℕ) → (s ≡ step) ⊎ Contains others s → Contains (step ∷ others) s
+    there s (inl e) = subst (Contains (step ∷ others)) (sym e) (Contains-append_left (step ∷ []) others step (Contains-push [] step))
+    there s (inr c) = Contains-append_right (step ∷ []) others s c
+
+    pub steps_up : (known : Option ℕ) → UpTo known step → StepsTell Before last (Contains others) known → StepsTell Before last (Contains (step ∷ others)) known
+    steps_up known up tells = record {
+      clash = if_then known (IsUnsafeOne Before last (Contains others)) (IsUnsafeOne Before last (Contains (step ∷ others))) tells.clash (λ s u. record { is = there s (inr u.is); unsafe = u.unsafe });
+      rest = λ s c. by s (one_of s c);
+    }
+      where
+        by : (s : ℕ) → (s ≡ step) ⊎ Contains others s → IsSafe Before s last ⊎ UpTo known s
+        by s (inl e) = inr (subst (UpTo known) (sym e) up)
+        by s (inr c) = tells.rest s c
+
+    pub steps_with : (a known later : Option ℕ) → IsLater a known later → StepsTell Before last (λ s. s ≡ step) a → StepsTell Before last (Contains others) known
+        → StepsTell Before last (Contains (step ∷ others)) later
+    steps_with a known later is here tells =
+        steps_same (λ s. (s ≡ step) ⊎ Contains others s) (Contains (step ∷ others)) later there one_of (steps_both (λ s. s ≡ step) (Contains others) a known later is here tells)
+
+  -- of the steps from a place on, and of those from the place before it on
+  pub steps_from : (steps : List ℕ) (left d : ℕ) (latest : Option ℕ) → 0 < left → left ≤ length steps
+      → StepsTell Before last (Contains (get_or steps (left - 1) d ∷ drop left steps)) latest → StepsTell Before last (Contains (drop (left - 1) steps)) latest
+  steps_from steps left d latest some within tells = subst (λ xs. StepsTell Before last (Contains xs) latest) (sym same) tells
     where
-      all : take (i + 1) steps ≡ take i steps ++ d ∷ []
-      all = take_more steps i d low ∙ ap (λ c. take i steps ++ c ∷ []) (sym at)
-
-      to : (s : ℕ) → Contains (take i steps) s ⊎ (s ≡ d) → Contains (take (i + 1) steps) s
-      to s (inl c) = subst (λ xs. Contains xs s) (sym all) (Contains-append_left (take i steps) (d ∷ []) s c)
-      to s (inr e) = subst (λ xs. Contains xs s) (sym all) (subst (Contains (take i steps ++ d ∷ [])) (sym e) (Contains-push (take i steps) d))
-
-      by : (s : ℕ) → Contains (take i steps) s ⊎ (d ≡ s) → Contains (take i steps) s ⊎ (s ≡ d)
-      by s (inl c) = inl c
-      by s (inr e) = inr (sym e)
-
-      from : (s : ℕ) → Contains (take (i + 1) steps) s → Contains (take i steps) s ⊎ (s ≡ d)
-      from s c = by s (Contains-push_cases (take i steps) d s (subst (λ xs. Contains xs s) all c))
-
-  pub steps_all : (steps : List ℕ) (i : ℕ) (latest : Option ℕ) → length steps ≤ i → StepsTell Before last (Contains (take i steps)) latest → StepsTell Before last (Contains steps) latest
-  steps_all steps i latest far tells = subst (λ xs. StepsTell Before last (Contains xs) latest) (take_all i steps far) tells
+      same : drop (left - 1) steps ≡ get_or steps (left - 1) d ∷ drop left steps
+      same =
+          let one : suc (left - 1) ≡ left = omega arith in
+          drop-cons steps (left - 1) d (omega arith) ∙ ap (λ k. get_or steps (left - 1) d ∷ drop k steps) one

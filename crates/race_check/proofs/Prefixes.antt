@@ -1,6 +1,6 @@
 -- A run and its first steps: their traces, their order, and the actions that they are.
-use Rattle.std.proofs.Common.{◌≡◌, ℕ, zero, suc, ◌+◌, ◌<◌, ◌≤◌, List, [], ◌∷◌, ◌++◌, length, map, take, Bool, true, refl, sym, ap, ◌∙◌, subst, arith, Option, Some, None}
-use Rattle.std.specs.Prelude.{◌↔◌, IsTrue, nat_lt, slice_get, is_some, IsSome, option_map, option_and_then}
+use Rattle.std.proofs.Common.{◌≡◌, ℕ, zero, suc, ◌+◌, ◌<◌, ◌≤◌, List, [], ◌∷◌, ◌++◌, length, map, take, true, refl, sym, ap, ◌∙◌, subst, arith, Option, Some, None}
+use Rattle.std.specs.Prelude.{◌↔◌, nat_lt, slice_get, is_some, IsSome, option_map, option_and_then}
 use Rattle.std.proofs.lemmas.Bool.{lt-ltb}
 use Rattle.std.proofs.lemmas.List.{length-map, length-take-le, map-append, take-map, take-take, take_all, take_more}
 use Rattle.std.proofs.lemmas.Option.{get_or_from_slice_get, slice_get_within}
@@ -18,7 +18,6 @@ use Rattle.cell_machine.proofs.Same.{some_same}
 use Rattle.cell_machine.proofs.StepBytes.{of_map, of_then}
 use Rattle.race_order.specs.Trace.{Trace}
 use Rattle.race_order.specs.Rules.{Rule, Edge, Ordered, One, Then}
-use Rattle.race_order.specs.OrderedRuns.{OnTrace}
 use Rattle.race_order.specs.Told.{trace_in}
 use Rattle.race_order.proofs.Holding.{ordered_up}
 use Rattle.race_order.proofs.OrderedRuns.{follows, trace-is, trace-long, trace-snoc}
@@ -114,23 +113,11 @@ ordered_trans : (trace : Trace) (i m j : ℕ) → Ordered Rule trace i m → Ord
 ordered_trans trace i m j o (One e) = Then o e
 ordered_trans trace i m j o (Then {k = k} p e) = Then (ordered_trans trace i m k o p) e
 
--- a run has one trace
-pub on_trace : (m : Ran) (i j : ℕ) (trace : Trace) → trace_of m ≡ Some trace → IsOrdered m i j → Ordered Rule trace i j
-unfolding IsOrdered
-on_trace m i j trace is o = subst (λ t. Ordered Rule t i j) (some_same o.trace trace (sym o.is ∙ is)) o.so
-
 pub is_ordered-trans : (m : Ran) (i k j : ℕ) → IsOrdered m i k → IsOrdered m k j → IsOrdered m i j
-unfolding IsOrdered
-is_ordered-trans m i k j a b = record { trace = b.trace; is = b.is; so = ordered_trans b.trace i k j (on_trace m i k b.trace b.is a) b.so }
+is_ordered-trans m i k j a b = ordered_trans (trace_in m) i k j a b
 
 pub is_ordered-up : (m : Ran) (i j : ℕ) → IsOrdered m i j → i < j
-unfolding IsOrdered
-is_ordered-up m i j a = ordered_up Rule a.trace i j a.so
-
--- what a test says of the trace it says of the run
-pub says-ordered : (m : Ran) (i j : ℕ) (b : Bool) → OnTrace m (λ trace. IsTrue b ↔ Ordered Rule trace i j) → IsTrue b ↔ IsOrdered m i j
-unfolding IsOrdered
-says-ordered m i j b o = (λ t. record { trace = o.trace; is = o.is; so = o.so.0 t }, λ x. o.so.1 (on_trace m i j o.trace o.is x))
+is_ordered-up m i j a = ordered_up Rule (trace_in m) i j a
 
 -- the run of its first n steps
 abbrev pub first_of : Ran → ℕ → Ran
@@ -146,11 +133,11 @@ pub accesses_in-first : (m : Ran) (n : ℕ) → trace_of m ≡ Some (trace_in m)
 accesses_in-first m n is = ap (map (λ e. access_of e.effect)) (trace_in-first m n is) ∙ sym (take-map (λ e. access_of e.effect) n (trace_in m))
 
 pub ordered-first : (m : Ran) (n i j : ℕ) → trace_of m ≡ Some (trace_in m) → j < n → IsOrdered (first_of m n) i j ↔ IsOrdered m i j
-unfolding IsOrdered
-ordered-first m n i j is low = (
-  λ o. record { trace = trace_in m; is = is; so = whole (trace_in m) n i j low (on_trace (first_of m n) i j (take n (trace_in m)) (trace-first m n is) o) },
-  λ o. record { trace = take n (trace_in m); is = trace-first m n is; so = front (trace_in m) n i j low (on_trace m i j (trace_in m) is o) },
-)
+ordered-first m n i j is low =
+    let same = trace_in-first m n is in (
+      λ o. whole (trace_in m) n i j low (subst (λ trace. Ordered Rule trace i j) same o),
+      λ o. subst (λ trace. Ordered Rule trace i j) (sym same) (front (trace_in m) n i j low o),
+    )
 
 -- a step more is an access more
 pub accesses-next : (m : Ran) (s : Step) (e : Effect) → trace_of m ≡ Some (trace_in m) → effect_in m s ≡ Some e → accesses_in (record m { steps = m.steps ++ s ∷ [] }) ≡ accesses_in m ++ (access_of e ∷ [])

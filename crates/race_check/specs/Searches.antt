@@ -2,16 +2,17 @@
 use Rattle.std.specs.Prelude.{◌≡◌, ℕ, ◌⊎◌, [], ◌∷◌, ◌++◌, length}
 use Rattle.cell_base.specs.declared.steps.Step.{Step}
 use Rattle.cell_machine.specs.Run.{Ran}
+use Rattle.run_walk.specs.Walks.{Stands, walked}
 use Rattle.race_check.specs.declared.search.Search.{Search}
 use Rattle.race_check.specs.declared.check.Verdict.TheVariants.{Accepted}
 use Rattle.race_check.specs.Races.{IsVerdict}
 use Rattle.race_check.specs.Reorderings.{EveryReorderingAgrees}
 use Rattle.race_check.specs.Shows.{Shows}
-use Rattle.race_check.specs.Walks.{IsOrdered, accesses_in, RaceIn, Stands}
+use Rattle.race_check.specs.Walks.{IsOrdered, accesses_in, RaceIn}
 
 -- the run that its machine made
 abbrev pub run_of : Search → Ran
-run_of s = s.walk.machine
+run_of s = walked s.walk
 
 -- the run with one more step
 abbrev pub with_step : Ran → Step → Ran

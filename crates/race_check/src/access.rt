@@ -2,9 +2,9 @@
 
 ghost use Rattle.std.specs.Prelude.{◌≡◌, ◌↔◌, IsTrue};
 ghost use Rattle.cell_machine.specs.EffectLaws.{same_place};
-ghost use Rattle.race_check.specs.Races.{Conflict, Meet, WritesInto};
+ghost use Rattle.race_check.specs.Races.{Conflict, Meet, WritesInto, access_of};
 
-use cell_machine::{Place, Span};
+use cell_machine::{Effect, Place, Span};
 
 /// The spans of one step.
 #[derive(Clone, Copy)]
@@ -12,6 +12,17 @@ pub struct Access {
     pub fetch: Span,
     pub reads: Span,
     pub writes: Span,
+}
+
+/// Those of a step that has this effect.
+pub fn access_of(effect: &Effect) -> Access
+    ensures { result ≡ access_of effect.now }
+{
+    Access {
+        fetch: effect.fetch,
+        reads: effect.reads,
+        writes: effect.writes,
+    }
 }
 
 /// Whether the two are one place.

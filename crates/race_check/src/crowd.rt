@@ -1,14 +1,15 @@
 //! The steps that touched the same bytes.
 
-ghost use Rattle.std.specs.Prelude.{◌≡◌, ℕ, ◌≤◌, ◌↔◌, ◌⊎◌, [], IsTrue, OnOk, Contains};
-ghost use Rattle.race_check.specs.Walks.{IsOrdered, IsAt};
+ghost use Rattle.std.specs.Prelude.{◌≡◌, ℕ, ◌≤◌, ◌↔◌, ◌⊎◌, List, [], ◌∷◌, IsTrue, OnOk, Contains};
+ghost use Rattle.run_walk.specs.Ordered.{IsOrdered};
+ghost use Rattle.run_walk.specs.Walks.{IsLast, walked};
 ghost use Rattle.race_check.specs.Entries.{HasSameBytes};
-ghost use Rattle.race_check.specs.Crowds.{HasStep, IsSafe, IsTaken, Replaces, StepsTell};
+ghost use Rattle.race_check.specs.Crowds.{HasStep, IsSafe, IsTaken, Replaces, StepsTell, UpTo};
 
 use crate::entry::Entry;
 use crate::error::RaceError;
 use crate::later::later;
-use crate::walk::Walk;
+use run_walk::Walk;
 use std::alloc::Global;
 
 /// Of so many other steps a new one looks for one that it can stand for.
@@ -23,17 +24,17 @@ pub struct Crowd {
 
 /// Whether the step is the last one that was made, or ordered before it.
 fn is_safe(step: u32, last: u32, walk: &Walk) -> bool
-    requires { IsAt walk.now last }
-    ensures safe { IsTrue result → IsSafe (IsOrdered walk.now.machine) step last }
-    ensures only { step ≤ last → IsSafe (IsOrdered walk.now.machine) step last → IsTrue result }
+    requires { IsLast walk.now last }
+    ensures safe { IsTrue result → IsSafe (IsOrdered (walked walk.now)) step last }
+    ensures only { step ≤ last → IsSafe (IsOrdered (walked walk.now)) step last → IsTrue result }
 {
     step == last || step < last && walk.before(step)
 }
 
 /// The step, where it is neither the last one that was made nor ordered before it.
 fn if_unsafe(step: u32, last: u32, walk: &Walk) -> Option<u32>
-    requires { IsAt walk.now last }
-    ensures { StepsTell (IsOrdered walk.now.machine) last (λ s. s ≡ step) result }
+    requires { IsLast walk.now last }
+    ensures { StepsTell (IsOrdered (walked walk.now)) last (λ s. s ≡ step) result }
 {
     if is_safe(step, last, walk) {
         None
@@ -42,22 +43,47 @@ fn if_unsafe(step: u32, last: u32, walk: &Walk) -> Option<u32>
     }
 }
 
-/// The latest of the steps that is neither the last one that was made nor ordered before it.
+/// Whether the step is at most that one, where there is one.
+fn is_up_to(latest: Option<u32>, step: u32) -> bool
+    ensures { IsTrue result ↔ UpTo latest step }
+{
+    match latest {
+        Some(known) => step <= known,
+        None => false,
+    }
+}
+
+/// The latest step that is neither the last one that was made nor ordered before it, of this step and of others of which the latest such is
+/// known. Of an earlier step than that one it isn't asked.
+fn latest_with(step: u32, known: Option<u32>, last: u32, walk: &Walk) -> Option<u32>
+    requires { IsLast walk.now last }
+    ensures { (others : List ℕ) → StepsTell (IsOrdered (walked walk.now)) last (Contains others) known → StepsTell (IsOrdered (walked walk.now)) last (Contains (step ∷ others)) result }
+{
+    if is_up_to(known, step) {
+        return known;
+    }
+    later(if_unsafe(step, last, walk), known)
+}
+
+/// The latest of the steps that is neither the last one that was made nor ordered before it. The later ones mostly stand behind the earlier
+/// ones, so it begins at the end.
 fn latest_unsafe(steps: &[u32], last: u32, walk: &Walk) -> Option<u32>
-    requires { IsAt walk.now last }
-    ensures { StepsTell (IsOrdered walk.now.machine) last (Contains steps.now) result }
+    requires { IsLast walk.now last }
+    ensures { StepsTell (IsOrdered (walked walk.now)) last (Contains steps.now) result }
 {
     let mut latest = None;
-    for step in steps {
-        latest = later(latest, if_unsafe(*step, last, walk));
+    let mut left = steps.len();
+    while 0 < left {
+        left -= 1;
+        latest = latest_with(steps[left], latest, last, walk);
     }
     latest
 }
 
 /// Puts the last step that was made in the place of one that is ordered before it, and says whether there is one.
 fn replace(steps: &mut [u32], last: u32, walk: &Walk) -> bool
-    requires { IsAt walk.now last }
-    ensures { Replaces (IsOrdered walk.now.machine) last steps.old steps.new result }
+    requires { IsLast walk.now last }
+    ensures { Replaces (IsOrdered (walked walk.now)) last steps.old steps.new result }
 {
     for k in 0..steps.len() {
         if is_safe(steps[k], last, walk) {
@@ -82,8 +108,8 @@ impl Crowd {
 
     /// The latest of its steps that is neither the last one that was made nor ordered before it.
     pub fn latest_unsafe(&self, last: u32, walk: &Walk) -> Option<u32>
-        requires { IsAt walk.now last }
-        ensures { StepsTell (IsOrdered walk.now.machine) last (HasStep self.now) result }
+        requires { IsLast walk.now last }
+        ensures { StepsTell (IsOrdered (walked walk.now)) last (HasStep self.now) result }
     {
         let own = if_unsafe(self.entry.step, last, walk);
         later(own, latest_unsafe(self.others.as_slice(), last, walk))
@@ -91,8 +117,8 @@ impl Crowd {
 
     /// Takes the last step that was made into the crowd, in the place of one that is ordered before it where one is found.
     pub fn take(&mut self, last: u32, walk: &Walk) -> Result<(), RaceError>
-        requires { IsAt walk.now last }
-        ensures taken { OnOk result (IsTaken (IsOrdered walk.now.machine) last self.old self.new) }
+        requires { IsLast walk.now last }
+        ensures taken { OnOk result (IsTaken (IsOrdered (walked walk.now)) last self.old self.new) }
         ensures same { OnOk result (HasSameBytes self.new.entry self.old.entry) }
     {
         if is_safe(self.entry.step, last, walk) {
@@ -108,8 +134,8 @@ impl Crowd {
 
     /// Puts the last step that was made in the place of another that is ordered before it, and says whether it found one among few.
     fn replace_other(&mut self, last: u32, walk: &Walk) -> bool
-        requires { IsAt walk.now last }
-        ensures others { Replaces (IsOrdered walk.now.machine) last self.old.others.items self.new.others.items result }
+        requires { IsLast walk.now last }
+        ensures others { Replaces (IsOrdered (walked walk.now)) last self.old.others.items self.new.others.items result }
         ensures entry { self.new.entry ≡ self.old.entry }
     {
         if self.others.len() < FEW {

@@ -2,7 +2,8 @@
 
 ghost use Rattle.std.specs.Prelude.{◌<◌, ◌≤◌, Option, Some, None, length, IfSome, OnOk, slice_index_or};
 ghost use Rattle.race_check.specs.declared.crowd.Crowd.{Crowd as ACrowd};
-ghost use Rattle.race_check.specs.Walks.{IsOrdered, IsAt};
+ghost use Rattle.run_walk.specs.Ordered.{IsOrdered};
+ghost use Rattle.run_walk.specs.Walks.{IsLast, walked};
 ghost use Rattle.race_check.specs.Entries.{HasSameBytes};
 ghost use Rattle.race_check.specs.Crowds.{CrowdTells, IsCutPut, IsJoined, IsPut, IsTrimmed, Tells};
 
@@ -10,13 +11,13 @@ use crate::crowd::Crowd;
 use crate::entry::{Entry, back, front, has_same_bytes, meet};
 use crate::error::RaceError;
 use crate::later::later;
-use crate::walk::Walk;
+use run_walk::Walk;
 use std::alloc::Global;
 
 /// The latest step of the crowd that has a byte of the new entry, and is neither its step nor ordered before it.
 fn clash(crowd: &Crowd, new: &Entry, walk: &Walk) -> Option<u32>
-    requires { IsAt walk.now new.now.step }
-    ensures { CrowdTells (IsOrdered walk.now.machine) new.now crowd.now result }
+    requires { IsLast walk.now new.now.step }
+    ensures { CrowdTells (IsOrdered (walked walk.now)) new.now crowd.now result }
 {
     if meet(&crowd.entry, new) {
         crowd.latest_unsafe(new.step, walk)
@@ -27,8 +28,8 @@ fn clash(crowd: &Crowd, new: &Entry, walk: &Walk) -> Option<u32>
 
 /// The latest step of the list with which the new entry clashes.
 pub fn latest_clash(crowds: &[Crowd], new: &Entry, walk: &Walk) -> Option<u32>
-    requires { IsAt walk.now new.now.step }
-    ensures { Tells (IsOrdered walk.now.machine) new.now crowds.now result }
+    requires { IsLast walk.now new.now.step }
+    ensures { Tells (IsOrdered (walked walk.now)) new.now crowds.now result }
 {
     let mut latest = None;
     for crowd in crowds {
@@ -138,8 +139,8 @@ pub fn join(
     near: usize,
     walk: &Walk,
 ) -> Result<usize, RaceError>
-    requires { IsAt walk.now new.now.step }
-    ensures { OnOk result (IsJoined (IsOrdered walk.now.machine) new.now crowds.old.items crowds.new.items) }
+    requires { IsLast walk.now new.now.step }
+    ensures { OnOk result (IsJoined (IsOrdered (walked walk.now)) new.now crowds.old.items crowds.new.items) }
 {
     if let Some(i) = find_near(crowds.as_slice(), new, near) {
         let crowds = crowds.as_mut_slice();

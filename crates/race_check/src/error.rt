@@ -1,7 +1,5 @@
 //! What can go wrong.
 
-use cell_machine::{MachineError, SetupError};
-use race_order::OrderError;
 use std::alloc::{AllocError, AllocFailed};
 use thiserror::Error;
 
@@ -10,24 +8,6 @@ use thiserror::Error;
 pub enum RaceError {
     #[error("out of memory")]
     Memory,
-}
-
-impl From<OrderError> for RaceError {
-    fn from(_: OrderError) -> RaceError {
-        RaceError::Memory
-    }
-}
-
-impl From<MachineError> for RaceError {
-    fn from(_: MachineError) -> RaceError {
-        RaceError::Memory
-    }
-}
-
-impl From<SetupError> for RaceError {
-    fn from(_: SetupError) -> RaceError {
-        RaceError::Memory
-    }
 }
 
 impl From<AllocError> for RaceError {

@@ -14,7 +14,6 @@ mod later;
 mod line;
 mod search;
 mod shadow;
-mod walk;
 
 pub use check::{Verdict, check_races};
 pub use error::RaceError;

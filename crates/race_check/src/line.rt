@@ -1,7 +1,8 @@
 //! What is kept of the accesses to one line of bytes.
 
 ghost use Rattle.std.specs.Prelude.{◌≡◌, [], true, false, IfOk};
-ghost use Rattle.race_check.specs.Walks.{IsOrdered, IsAt};
+ghost use Rattle.run_walk.specs.Ordered.{IsOrdered};
+ghost use Rattle.run_walk.specs.Walks.{IsLast, walked};
 ghost use Rattle.race_check.specs.Lines.{IsVisited};
 
 use crate::crowd::Crowd;
@@ -9,7 +10,7 @@ use crate::crowds::{join, latest_clash, trim};
 use crate::entry::Entry;
 use crate::error::RaceError;
 use crate::later::later;
-use crate::walk::Walk;
+use run_walk::Walk;
 use std::alloc::Global;
 
 /// The crowds that wrote to a line, and those that fetched or read it.
@@ -42,8 +43,8 @@ impl Line {
         writes: bool,
         walk: &Walk,
     ) -> Result<Option<u32>, RaceError>
-        requires { IsAt walk.now new.now.step }
-        ensures { IfOk result (IsVisited (IsOrdered walk.now.machine) new.now writes self.old self.new) }
+        requires { IsLast walk.now new.now.step }
+        ensures { IfOk result (IsVisited (IsOrdered (walked walk.now)) new.now writes self.old self.new) }
     {
         if writes {
             self.write(alloc, new, walk)
@@ -54,8 +55,8 @@ impl Line {
 
     /// Takes a writing entry into the line, in the place of all that had its bytes, or beside them where it clashes with one.
     fn write(&mut self, alloc: Global, new: &Entry, walk: &Walk) -> Result<Option<u32>, RaceError>
-        requires { IsAt walk.now new.now.step }
-        ensures { IfOk result (IsVisited (IsOrdered walk.now.machine) new.now true self.old self.new) }
+        requires { IsLast walk.now new.now.step }
+        ensures { IfOk result (IsVisited (IsOrdered (walked walk.now)) new.now true self.old self.new) }
     {
         let written = latest_clash(self.writes.as_slice(), new, walk);
         let clash = later(written, latest_clash(self.reads.as_slice(), new, walk));
@@ -71,8 +72,8 @@ impl Line {
 
     /// Takes a reading entry into the line.
     fn read(&mut self, alloc: Global, new: &Entry, walk: &Walk) -> Result<Option<u32>, RaceError>
-        requires { IsAt walk.now new.now.step }
-        ensures { IfOk result (IsVisited (IsOrdered walk.now.machine) new.now false self.old self.new) }
+        requires { IsLast walk.now new.now.step }
+        ensures { IfOk result (IsVisited (IsOrdered (walked walk.now)) new.now false self.old self.new) }
     {
         let clash = latest_clash(self.writes.as_slice(), new, walk);
         self.near = join(alloc, &mut self.reads, new, self.near, walk)?;

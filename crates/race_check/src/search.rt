@@ -3,24 +3,26 @@
 ghost use Rattle.std.specs.Prelude.{◌≡◌, ℕ, ◌+◌, ◌<◌, ◌↔◌, [], ◌∷◌, ◌++◌, IsTrue, IfOk, OnErr, Some, None, length};
 ghost use Rattle.cell_machine.specs.Effects.{effect_in};
 ghost use Rattle.race_check.specs.Races.{IsFirst, IsVerdict, RaceBy, TellsLatest};
-ghost use Rattle.race_check.specs.Walks.{IsOrdered, IsAt, RaceIn};
+ghost use Rattle.run_walk.specs.Ordered.{IsOrdered};
+ghost use Rattle.run_walk.specs.Walks.{IsLast, Stands, walked};
+ghost use Rattle.race_check.specs.Walks.{RaceIn};
 ghost use Rattle.race_check.specs.Searches.{HasMadeAtMost, IsClear, Keeps, run_of};
 
-use crate::access::{Access, conflicts};
+use crate::access::{Access, access_of, conflicts};
 use crate::check::Verdict;
 use crate::error::RaceError;
 use crate::shadow::Shadow;
-use crate::walk::Walk;
 use cell_base::Step;
 use cell_machine::{Effect, Machine, Setup};
+use run_walk::Walk;
 use std::alloc::Global;
 
 /// Whether the step at i races with the last one that was made.
 fn is_race(accesses: &[Access], i: u32, last: u32, walk: &Walk) -> bool
     requires below { i < last }
     requires inside { last < length accesses.now }
-    requires last { IsAt walk.now last }
-    ensures { IsTrue result ↔ RaceBy (IsOrdered walk.now.machine) accesses.now i last }
+    requires last { IsLast walk.now last }
+    ensures { IsTrue result ↔ RaceBy (IsOrdered (walked walk.now)) accesses.now i last }
 {
     conflicts(&accesses[i as usize], &accesses[last as usize]) && !walk.before(i)
 }
@@ -28,9 +30,9 @@ fn is_race(accesses: &[Access], i: u32, last: u32, walk: &Walk) -> bool
 /// The first step that races with the last one that was made.
 fn first_race(accesses: &[Access], last: u32, walk: &Walk) -> u32
     requires inside { last < length accesses.now }
-    requires last { IsAt walk.now last }
-    requires some { (i : ℕ) × RaceBy (IsOrdered walk.now.machine) accesses.now i last }
-    ensures { IsFirst (RaceBy (IsOrdered walk.now.machine) accesses.now) result last }
+    requires last { IsLast walk.now last }
+    requires some { (i : ℕ) × RaceBy (IsOrdered (walked walk.now)) accesses.now i last }
+    ensures { IsFirst (RaceBy (IsOrdered (walked walk.now)) accesses.now) result last }
 {
     for i in 0..last {
         if is_race(accesses, i, last, walk) {
@@ -70,7 +72,15 @@ impl Search {
     pub fn machine(&self) -> &Machine
         ensures { result.now ≡ run_of self.now }
     {
-        &self.walk.machine
+        self.walk.machine()
+    }
+
+    /// The run so far, with the order of its steps.
+    pub fn walk(&self) -> &Walk
+        ensures run { walked result.now ≡ run_of self.now }
+        ensures stands { Keeps self.now → Stands result.now }
+    {
+        &self.walk
     }
 
     /// Makes the next step, of which the machine tells this effect, and answers the latest step that races with it, None exactly where
@@ -85,7 +95,8 @@ impl Search {
         ensures failed { OnErr result (HasMadeAtMost (run_of self.old) step (run_of self.new)) }
     {
         let last = self.accesses.len() as u32;
-        let access = self.walk.advance(step, effect)?;
+        self.walk.advance(step, effect)?;
+        let access = access_of(&effect);
         self.accesses.push(access)?;
         let latest = self.shadow.visit(&access, last, &self.walk)?;
         Ok(latest)
@@ -127,6 +138,6 @@ impl Search {
     pub fn into_machine(self) -> Machine
         ensures { result ≡ run_of self }
     {
-        self.walk.machine
+        self.walk.into_machine()
     }
 }

@@ -11,8 +11,8 @@ use crate::entry::Entry;
 use crate::error::RaceError;
 use crate::later::later;
 use crate::line::Line;
-use crate::walk::Walk;
 use cell_machine::{Place, Span};
+use run_walk::Walk;
 use std::alloc::Global;
 
 /// The number that no list has.
@@ -62,7 +62,8 @@ pub struct Shadow {
 }
 
 impl Shadow {
-    ghost use Rattle.race_check.specs.Walks.{IsOrdered, IsAt};
+    ghost use Rattle.run_walk.specs.Ordered.{IsOrdered};
+    ghost use Rattle.run_walk.specs.Walks.{IsLast, walked};
     ghost use Rattle.race_check.specs.Shows.{IsLengthened, TakesEntry, TakesSpan, TakesStep, list_of};
 
     /// The shadow of no step, of so many processors, with main memory of `memory` lines: a slot for each line, and one more.
@@ -105,8 +106,8 @@ impl Shadow {
         walk: &Walk,
     ) -> Result<Option<u32>, RaceError>
         requires line { line < 2 ^ 40 }
-        requires last { IsAt walk.now entry.now.step }
-        ensures { IfOk result (TakesEntry (IsOrdered walk.now.machine) self.old self.new entry.now writes line) }
+        requires last { IsLast walk.now entry.now.step }
+        ensures { IfOk result (TakesEntry (IsOrdered (walked walk.now)) self.old self.new entry.now writes line) }
     {
         let number = self.list(entry.place, line)?;
         let alloc = self.alloc;
@@ -123,8 +124,8 @@ impl Shadow {
         step: u32,
         walk: &Walk,
     ) -> Result<Option<u32>, RaceError>
-        requires { IsAt walk.now step }
-        ensures { IfOk result (TakesSpan (IsOrdered walk.now.machine) self.old self.new span.now step writes) }
+        requires { IsLast walk.now step }
+        ensures { IfOk result (TakesSpan (IsOrdered (walked walk.now)) self.old self.new span.now step writes) }
     {
         // a span of no byte is at 0, and so in no line
         let first = u64::from(span.at) / 128;
@@ -144,8 +145,8 @@ impl Shadow {
         step: u32,
         walk: &Walk,
     ) -> Result<Option<u32>, RaceError>
-        requires { IsAt walk.now step }
-        ensures { IfOk result (TakesStep (IsOrdered walk.now.machine) self.old self.new access.now step) }
+        requires { IsLast walk.now step }
+        ensures { IfOk result (TakesStep (IsOrdered (walked walk.now)) self.old self.new access.now step) }
     {
         let fetched = self.visit_span(&access.fetch, false, step, walk)?;
         let read = self.visit_span(&access.reads, false, step, walk)?;

@@ -11,5 +11,6 @@ pub mod Stages
 pub mod Ends
 pub mod Added
 pub mod Needing
+pub mod Gathering
 pub mod Zeros
 pub mod Making

@@ -4,18 +4,9 @@ use Rattle.std.specs.Prelude.{Vec}
 use Rattle.std.specs.declared.alloc.Global.{Global}
 use Rattle.std.proofs.lemmas.Bool.{cases_lt}
 use Rattle.std.proofs.lemmas.List.{length_push}
-use Rattle.cell_machine.specs.Opening.{Opening}
-use Rattle.cell_machine.specs.Run.{Ran, IsRun}
 use Rattle.reorder.specs.Lists.{list_at}
 use Rattle.reorder.specs.Needs.{AreNeedsOf, AreNeeds}
-use Rattle.settled.specs.Walks.{IsAt}
-use Rattle.settled.specs.declared.walk.Walk.{Walk}
 use Rattle.reorder.proofs.Entries.{list-push, list-front}
-
-pub begun-walk : (m : Ran) (setup : Opening) (w : Walk) → setup ≡ m.setup → IsRun m.setup m.steps → IsAt w (record { setup = setup; steps = [] }) 0 → IsAt w m 0
-begun-walk m setup w same run at =
-    let begun = λ (s : Opening). let r : Ran = record { setup = s; steps = [] } in r in
-    record { run = run; stands = at.stands; made = at.made ∙ ap begun same; within = omega arith }
 
 pub needs-none : (Before : ℕ → ℕ → Type 0) → AreNeeds Before 0 []
 needs-none Before = record { all = refl; each = λ j low. absurd (omega arith) }

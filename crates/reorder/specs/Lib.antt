@@ -4,3 +4,4 @@ pub mod Laws
 pub mod Needs
 pub mod Choices
 pub mod Tracks
+pub mod Gathered

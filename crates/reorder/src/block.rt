@@ -6,11 +6,12 @@ ghost use Rattle.settled.specs.Lists.{IsIn, Each, AreChanged};
 ghost use Rattle.settled.specs.Walks.{Here, IsAt};
 ghost use Rattle.reorder.specs.Tracks.{IsBelow, IsBeside, IsBlockClosed, IsBlockFound, IsBounded, IsClosed, IsFound, IsNotAbove};
 
-use settled::{PermuteError, Walk};
-use std::alloc::Global;
+use run_walk::Walk;
+use settled::is_before;
+use std::alloc::{AllocError, Global};
 
 /// How many steps a block takes. A step looks at the bounds of all blocks, and at all steps of few of them.
-const ROOM: usize = 256;
+const ROOM: usize = 64;
 
 /// A step that isn't on its actor's chain: the steps of the chain below `from` are ordered before it, and it is ordered before the
 /// one at `until`, where one is known.
@@ -57,12 +58,7 @@ fn is_beside(from: u32, until: Option<u32>, end: usize) -> bool
 }
 
 /// Adds the step where it is ordered before the last one, and not before one of the chain's steps below the end.
-fn gather_one(
-    loose: Loose,
-    walk: &Walk,
-    end: usize,
-    needs: &mut Vec<u32>,
-) -> Result<(), PermuteError>
+fn gather_one(loose: Loose, walk: &Walk, end: usize, needs: &mut Vec<u32>) -> Result<(), AllocError>
     ghost here: { Here }
     requires at { IsAt walk.now here.run (here.place + 1) }
     requires below { loose.place < here.place }
@@ -70,7 +66,7 @@ fn gather_one(
     ensures sound { IfOk result (λ _. (k : ℕ) → IsIn k needs.new.items → IsIn k needs.old.items ⊎ IsOrdered here.run k here.place) }
     ensures found { IfOk result (λ _. IsFound here.run here.place end needs.new.items loose) }
 {
-    if is_beside(loose.from, loose.until, end) && walk.before(loose.place) {
+    if is_beside(loose.from, loose.until, end) && is_before(walk, loose.place) {
         needs.push(loose.place)?;
     }
     Ok(())
@@ -82,7 +78,7 @@ fn gather_loose(
     walk: &Walk,
     end: usize,
     needs: &mut Vec<u32>,
-) -> Result<(), PermuteError>
+) -> Result<(), AllocError>
     ghost here: { Here }
     requires at { IsAt walk.now here.run (here.place + 1) }
     requires below { Each (λ l. l.place < here.place) loose.now }
@@ -103,7 +99,7 @@ fn closed(loose: Loose, walk: &Walk, index: u32) -> Loose
     requires below { loose.place < here.place }
     ensures { IsClosed here.run here.place index loose result }
 {
-    if loose.until.is_some() || !walk.before(loose.place) {
+    if loose.until.is_some() || !is_before(walk, loose.place) {
         return loose;
     }
     Loose {
@@ -141,7 +137,7 @@ fn high_of(loose: &[Loose]) -> Option<u32>
 
 impl Block {
     /// The block of a step.
-    pub fn of(alloc: Global, loose: Loose) -> Result<Block, PermuteError>
+    pub fn of(alloc: Global, loose: Loose) -> Result<Block, AllocError>
         ensures steps { IfOk result (λ block. block.steps.items ≡ loose ∷ []) }
         ensures bounded { IfOk result IsBounded }
     {
@@ -160,7 +156,7 @@ impl Block {
     }
 
     /// Adds a step.
-    pub fn push(&mut self, loose: Loose) -> Result<(), PermuteError>
+    pub fn push(&mut self, loose: Loose) -> Result<(), AllocError>
         ensures steps { IfOk result (λ _. self.new.steps.items ≡ self.old.steps.items ++ loose ∷ []) }
         ensures bounded { IfOk result (λ _. IsBounded self.old → IsBounded self.new) }
     {
@@ -171,7 +167,7 @@ impl Block {
     }
 
     /// Adds the steps that are ordered before the last step, and not before one of the chain's steps below the end.
-    pub fn gather(&self, walk: &Walk, end: usize, needs: &mut Vec<u32>) -> Result<(), PermuteError>
+    pub fn gather(&self, walk: &Walk, end: usize, needs: &mut Vec<u32>) -> Result<(), AllocError>
         ghost here: { Here }
         requires at { IsAt walk.now here.run (here.place + 1) }
         requires below { IsBelow here.place self.now }

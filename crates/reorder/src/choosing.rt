@@ -7,8 +7,7 @@ ghost use Rattle.reorder.specs.Needs.{AreNeeds};
 
 use crate::order::Order;
 use cell_machine::Machine;
-use settled::PermuteError;
-use std::alloc::Global;
+use std::alloc::{AllocError, Global};
 
 /// The position, of so many free steps, of the one that the number chooses where so many are taken.
 fn position(number: u32, taken: u32, free: usize) -> usize
@@ -26,7 +25,7 @@ pub fn order_of_number(
     whole: &Machine,
     needs: &[Vec<u32>],
     number: u32,
-) -> Result<Vec<u32>, PermuteError>
+) -> Result<Vec<u32>, AllocError>
     requires few { length needs.now ≤ 1000000 }
     requires needs { AreNeeds (IsOrdered whole.now) (length whole.now.steps) needs.now }
     ensures { IfOk result (λ order. IsNth whole.now number order.items) }

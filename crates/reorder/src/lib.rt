@@ -15,4 +15,5 @@ mod tracks;
 mod waiting;
 
 pub use laws::numbers_name_reorderings;
-pub use permuting::permute;
+pub use needs::Needs;
+pub use permuting::permute_by_needs;

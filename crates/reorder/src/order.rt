@@ -6,8 +6,7 @@ ghost use Rattle.reorder.specs.Lists.{IsRising};
 ghost use Rattle.reorder.specs.Choices.{IsTaken, IsSound, IsSeen, IsStage, IsOneMore, AreInside};
 
 use crate::waiting::{add_waiter, no_waiters, take_waiters};
-use settled::PermuteError;
-use std::alloc::Global;
+use std::alloc::{AllocError, Global};
 
 /// The steps that were taken, in their order; of each step whether it is one of them, and which wait for it; and the free steps, by
 /// their places. A step that isn't free waits for one that it needs, so that not all who need a step are looked at when it is taken.
@@ -36,7 +35,7 @@ fn last_left(steps: &[u32], taken: &[bool]) -> Option<u32>
 }
 
 /// Puts a place among those that rise.
-fn put(places: &mut Vec<u32>, place: u32) -> Result<(), PermuteError>
+fn put(places: &mut Vec<u32>, place: u32) -> Result<(), AllocError>
     requires { IsRising places.old.items }
     ensures rising { IfOk result (λ _. IsRising places.new.items) }
     ensures put { IfOk result (λ _. (k : ℕ) → IsIn k places.new.items ↔ (IsIn k places.old.items ⊎ (k ≡ place))) }
@@ -52,7 +51,7 @@ fn put(places: &mut Vec<u32>, place: u32) -> Result<(), PermuteError>
 
 impl Order {
     /// Puts the step among the free ones where it is ready, and else with those that wait for a step that it needs.
-    fn look_at(&mut self, needs: &[Vec<u32>], step: u32) -> Result<(), PermuteError>
+    fn look_at(&mut self, needs: &[Vec<u32>], step: u32) -> Result<(), AllocError>
         requires inside { AreInside needs.now }
         requires within { step < length needs.now }
         requires sound { IsSound needs.now self.old }
@@ -76,7 +75,7 @@ impl Order {
     }
 
     /// Does so with each of the steps.
-    fn look_at_all(&mut self, needs: &[Vec<u32>], steps: &[u32]) -> Result<(), PermuteError>
+    fn look_at_all(&mut self, needs: &[Vec<u32>], steps: &[u32]) -> Result<(), AllocError>
         requires inside { AreInside needs.now }
         requires within { (k : ℕ) → IsIn k steps.now → k < length needs.now }
         requires sound { IsSound needs.now self.old }
@@ -91,7 +90,7 @@ impl Order {
     }
 
     /// Before any step is taken.
-    pub fn new(alloc: Global, needs: &[Vec<u32>]) -> Result<Order, PermuteError>
+    pub fn new(alloc: Global, needs: &[Vec<u32>]) -> Result<Order, AllocError>
         requires inside { AreInside needs.now }
         requires few { length needs.now ≤ 1000000 }
         ensures none { IfOk result (λ order. order.steps.items ≡ []) }
@@ -117,7 +116,7 @@ impl Order {
     }
 
     /// Takes the free step at the position.
-    pub fn take(&mut self, alloc: Global, needs: &[Vec<u32>], at: usize) -> Result<(), PermuteError>
+    pub fn take(&mut self, alloc: Global, needs: &[Vec<u32>], at: usize) -> Result<(), AllocError>
         requires stage { IsStage needs.now self.old }
         requires inside { AreInside needs.now }
         requires within { at < length self.old.free.items }

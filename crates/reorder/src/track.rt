@@ -7,8 +7,9 @@ ghost use Rattle.settled.specs.Walks.{Here, IsAt};
 ghost use Rattle.reorder.specs.Tracks.{CoversTrack, IsBelow, IsBlockClosed, IsBlockFound, IsBounded, IsChain, IsEnd, IsOn, IsPut, IsTrack};
 
 use crate::block::{Block, Loose};
-use settled::{PermuteError, Walk};
-use std::alloc::Global;
+use run_walk::Walk;
+use settled::is_before;
+use std::alloc::{AllocError, Global};
 
 /// The steps of an actor so far: a chain, each ordered before the next, and the others.
 #[derive(Drop)]
@@ -27,7 +28,7 @@ fn is_above(chain: &[u32], walk: &Walk, index: usize) -> bool
     if index >= chain.len() {
         return true;
     }
-    !walk.before(chain[index])
+    !is_before(walk, chain[index])
 }
 
 /// Whether the step before the index, if there is one, is ordered before the last step.
@@ -41,7 +42,7 @@ fn is_below(chain: &[u32], walk: &Walk, index: usize) -> bool
     if index == 0 {
         return true;
     }
-    walk.before(chain[index - 1])
+    is_before(walk, chain[index - 1])
 }
 
 /// Whether the steps of a chain below this index, and no others, are ordered before the last step.
@@ -66,7 +67,7 @@ fn search_end(chain: &[u32], walk: &Walk) -> usize
     let mut high = chain.len();
     while low < high {
         let middle = low + (high - low) / 2;
-        if walk.before(chain[middle]) {
+        if is_before(walk, chain[middle]) {
             low = middle + 1;
         } else {
             high = middle;
@@ -92,7 +93,7 @@ fn end_of(chain: &[u32], walk: &Walk) -> usize
 }
 
 /// Adds the last step of a chain that is ordered before the last step of the walk, and answers how many are.
-fn gather_chain(chain: &[u32], walk: &Walk, needs: &mut Vec<u32>) -> Result<usize, PermuteError>
+fn gather_chain(chain: &[u32], walk: &Walk, needs: &mut Vec<u32>) -> Result<usize, AllocError>
     ghost here: { Here }
     requires at { IsAt walk.now here.run (here.place + 1) }
     requires chain { IsChain here.run here.place chain.now }
@@ -114,7 +115,7 @@ fn gather_blocks(
     walk: &Walk,
     end: usize,
     needs: &mut Vec<u32>,
-) -> Result<(), PermuteError>
+) -> Result<(), AllocError>
     ghost here: { Here }
     requires at { IsAt walk.now here.run (here.place + 1) }
     requires below { Each (IsBelow here.place) blocks.now }
@@ -153,7 +154,7 @@ fn has_room(blocks: &[Block]) -> bool
 }
 
 /// Adds a loose step to the last block.
-fn put_last(blocks: &mut [Block], loose: Loose) -> Result<(), PermuteError>
+fn put_last(blocks: &mut [Block], loose: Loose) -> Result<(), AllocError>
     requires { 0 < length blocks.old }
     ensures long { length blocks.new ≡ length blocks.old }
     ensures put { IfOk result (λ _. IsPut loose blocks.old blocks.new) }
@@ -164,7 +165,7 @@ fn put_last(blocks: &mut [Block], loose: Loose) -> Result<(), PermuteError>
 }
 
 /// Adds a loose step to the last block, or to a new one where that has no room.
-fn put_loose(alloc: Global, blocks: &mut Vec<Block>, loose: Loose) -> Result<(), PermuteError>
+fn put_loose(alloc: Global, blocks: &mut Vec<Block>, loose: Loose) -> Result<(), AllocError>
     ensures { IfOk result (λ _. IsPut loose blocks.old.items blocks.new.items) }
 {
     if has_room(blocks) {
@@ -188,7 +189,7 @@ impl Track {
     }
 
     /// Adds steps that are ordered before the last step and cover each of the track that is.
-    pub fn gather(&self, walk: &Walk, needs: &mut Vec<u32>) -> Result<(), PermuteError>
+    pub fn gather(&self, walk: &Walk, needs: &mut Vec<u32>) -> Result<(), AllocError>
         ghost here: { Here }
         requires at { IsAt walk.now here.run (here.place + 1) }
         requires track { IsTrack here.run here.place self.now }
@@ -202,7 +203,7 @@ impl Track {
     }
 
     /// Adds the last step to the chain, all of which is ordered before it.
-    fn link(&mut self, walk: &Walk, place: u32) -> Result<(), PermuteError>
+    fn link(&mut self, walk: &Walk, place: u32) -> Result<(), AllocError>
         ghost here: { Here }
         requires at { IsAt walk.now here.run (here.place + 1) }
         requires place { place ≡ here.place }
@@ -219,7 +220,7 @@ impl Track {
     }
 
     /// Adds the last step to the loose ones, where so many of the chain are ordered before it.
-    fn loosen(&mut self, alloc: Global, place: u32, end: usize) -> Result<(), PermuteError>
+    fn loosen(&mut self, alloc: Global, place: u32, end: usize) -> Result<(), AllocError>
         ghost here: { Here }
         requires place { place ≡ here.place }
         requires track { IsTrack here.run here.place self.old }
@@ -240,7 +241,7 @@ impl Track {
         walk: &Walk,
         place: u32,
         links: bool,
-    ) -> Result<(), PermuteError>
+    ) -> Result<(), AllocError>
         ghost here: { Here }
         requires at { IsAt walk.now here.run (here.place + 1) }
         requires place { place ≡ here.place }

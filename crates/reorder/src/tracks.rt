@@ -9,8 +9,8 @@ ghost use Rattle.reorder.specs.Tracks.{AreTracks};
 
 use crate::track::Track;
 use cell_base::Step;
-use settled::{PermuteError, Walk};
-use std::alloc::Global;
+use run_walk::Walk;
+use std::alloc::{AllocError, Global};
 
 /// The number of the track to which a step goes.
 fn track_of(step: Step, spes: u8) -> usize
@@ -27,7 +27,8 @@ fn track_of(step: Step, spes: u8) -> usize
     }
 }
 
-/// Whether the step may go to the chain of its track, as instructions and actions of the host do.
+/// Whether the step may go to the chain of its track: an instruction, an action of the host, or an atomic command, which mostly comes right
+/// behind its issue.
 fn links(step: Step) -> bool {
     match step {
         Step::Exec { .. } => true,
@@ -35,12 +36,12 @@ fn links(step: Step) -> bool {
         Step::Piece { .. } => false,
         Step::Elem { .. } => false,
         Step::Retire { .. } => false,
-        Step::Atomic { .. } => false,
+        Step::Atomic { .. } => true,
     }
 }
 
 /// The tracks of so many processors and the host before the first step.
-pub fn no_tracks(alloc: Global, spes: u8) -> Result<Vec<Track>, PermuteError>
+pub fn no_tracks(alloc: Global, spes: u8) -> Result<Vec<Track>, AllocError>
     ensures long { IfOk result (λ tracks. length tracks.items ≡ spes + 1) }
     ensures tracks { IfOk result (λ tracks. (h : Here) → AreTracks h.run 0 tracks.items) }
 {
@@ -52,7 +53,7 @@ pub fn no_tracks(alloc: Global, spes: u8) -> Result<Vec<Track>, PermuteError>
 }
 
 /// What the last step of the walk needs.
-pub fn gather(alloc: Global, tracks: &[Track], walk: &Walk) -> Result<Vec<u32>, PermuteError>
+pub fn gather(alloc: Global, tracks: &[Track], walk: &Walk) -> Result<Vec<u32>, AllocError>
     ghost here: { Here }
     requires at { IsAt walk.now here.run (here.place + 1) }
     requires tracks { AreTracks here.run here.place tracks.now }
@@ -73,7 +74,7 @@ pub fn add(
     place: u32,
     step: Step,
     spes: u8,
-) -> Result<(), PermuteError>
+) -> Result<(), AllocError>
     ghost here: { Here }
     requires at { IsAt walk.now here.run (here.place + 1) }
     requires place { place ≡ here.place }

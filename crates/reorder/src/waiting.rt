@@ -4,12 +4,11 @@ ghost use Rattle.std.specs.Prelude.{◌≡◌, ℕ, ◌<◌, ◌⊎◌, ◌↔�
 ghost use Rattle.settled.specs.Lists.{IsIn};
 ghost use Rattle.reorder.specs.Lists.{list_at};
 
-use settled::PermuteError;
-use std::alloc::Global;
+use std::alloc::{AllocError, Global};
 use std::mem::replace;
 
 /// An empty list for each of so many steps.
-pub fn no_waiters(alloc: Global, count: usize) -> Result<Vec<Vec<u32>>, PermuteError>
+pub fn no_waiters(alloc: Global, count: usize) -> Result<Vec<Vec<u32>>, AllocError>
     ensures long { IfOk result (λ waiting. length waiting.items ≡ count) }
     ensures none { IfOk result (λ waiting. (i j : ℕ) → IsIn j (list_at waiting.items i) → ⊥) }
 {
@@ -21,7 +20,7 @@ pub fn no_waiters(alloc: Global, count: usize) -> Result<Vec<Vec<u32>>, PermuteE
 }
 
 /// Adds step `j` to those that wait for step `i`.
-pub fn add_waiter(waiting: &mut [Vec<u32>], i: u32, j: u32) -> Result<(), PermuteError>
+pub fn add_waiter(waiting: &mut [Vec<u32>], i: u32, j: u32) -> Result<(), AllocError>
     requires { i < length waiting.old }
     ensures long { length waiting.new ≡ length waiting.old }
     ensures here { IfOk result (λ _. (k : ℕ) → IsIn k (list_at waiting.new i) ↔ (IsIn k (list_at waiting.old i) ⊎ (k ≡ j))) }

@@ -7,16 +7,12 @@ use Rattle.cell_machine.specs.Spe.{Moves}
 use Rattle.cell_machine.specs.Moves.{is_stalled}
 use Rattle.cell_machine.specs.Opening.{opening}
 use Rattle.cell_machine.specs.Run.{Ran, replay}
-use Rattle.race_order.specs.Rules.{Rule, Ordered}
+pub use Rattle.run_walk.specs.Ordered.{IsOrdered}
 use Rattle.race_order.specs.Told.{trace_in}
 use Rattle.cell_machine.specs.Traces.{trace_of}
 use Rattle.run_places.specs.Recorded.{Recorded, IsRecorded, stalled_groups, is_stalled_number, spe_before, count_of, is_atomic_step, is_put_note, is_take_note, taken_values}
 use Rattle.run_places.specs.Frames.{IsFaultless}
 use Rattle.run_places.specs.OrderLaws.{Orders, OrdersElements, puts_before}
-
--- step i of the run is ordered before step j
-abbrev pub IsOrdered : Ran → ℕ → ℕ → Type 0
-IsOrdered m = Ordered Rule (trace_in m)
 
 -- r has the steps of the run m, with their effects and the states before them
 pub record IsRecordOf (m : Ran) (r : Recorded) : Type 0 where

@@ -1,6 +1,6 @@
 -- A part of a run is a run, and the first step that ends one.
 use Rattle.std.proofs.Common.{◌≡◌, ℕ, ◌+◌, ◌<◌, ◌≤◌, Bool, true, false, cond, ltb, List, [], ◌∷◌, ◌++◌, length, take, drop, get_or, Option, Some, None, Result, Ok, Err, refl, sym, ap, subst, ◌∙◌, append_assoc, arith, length-append}
-use Rattle.std.specs.Prelude.{IsOk, IsSome, option_and_then}
+use Rattle.std.specs.Prelude.{IfOk, IsOk, IsSome, option_and_then}
 use Rattle.std.specs.Result.{is_err}
 use Rattle.std.proofs.lemmas.Bool.{ltb-true, lt-ltb}
 use Rattle.std.proofs.lemmas.List.{take-append-drop, take_more, take-append-le}
@@ -97,3 +97,31 @@ refused_at setup steps i m d at r stands run lt made refused counted =
 -- all steps were made
 pub whole_run : (setup : Opening) (steps : List Step) (i : ℕ) → i ≡ length steps → IsRun setup (take i steps) → IsRun setup steps
 whole_run setup steps i all run = subst (IsRun setup) (ap (λ (k : ℕ). take k steps) all ∙ take-length steps) run
+
+-- ---- behind steps that were made before
+
+cut_at : (steps : List Step) (i : ℕ) (d : Step) → i < length steps → steps ≡ take i steps ++ get_or steps i d ∷ drop (i + 1) steps
+cut_at steps i d lt =
+    sym (take-append-drop (i + 1) steps) ∙ ap (λ (t : List Step). t ++ drop (i + 1) steps) (take_more steps i d lt) ∙ append_assoc (take i steps) (get_or steps i d ∷ []) (drop (i + 1) steps)
+
+-- where a machine that made the first i of them refuses the next
+pub refused_behind : {A E : Type 0} (setup : Opening) (front steps : List Step) (i : ℕ) (m : Ran) (d : Step) (at : ℕ) (r : Result A E) → m ≡ record { setup = setup; steps = front ++ take i steps } → IsRun setup (front ++ take i steps) → i < length steps
+    → (IsSome (next_of m (get_or steps i d)) → IsOk r) → is_err r ≡ true → at ≡ length m.steps → IsRefusedAt setup (front ++ steps) at
+refused_behind setup front steps i m d at r stands run lt made refused counted =
+    record {
+      before = front ++ take i steps;
+      step = get_or steps i d;
+      after = drop (i + 1) steps;
+      parts = ap (λ (t : List Step). front ++ t) (cut_at steps i d lt) ∙ sym (append_assoc front (take i steps) (get_or steps i d ∷ drop (i + 1) steps));
+      counted = counted ∙ ap (λ (n : Ran). length n.steps) stands;
+      run = run;
+      no_run = λ on. is_no_ok r refused (made (subst (λ (n : Ran). IsSome (next_of n (get_or steps i d))) (sym stands) (run_went_on setup (front ++ take i steps) (get_or steps i d) on)));
+    }
+
+pub more_behind : (front steps : List Step) (i : ℕ) (d : Step) → i < length steps → (front ++ take i steps) ++ get_or steps i d ∷ [] ≡ front ++ take (i + 1) steps
+more_behind front steps i d lt = append_assoc front (take i steps) (get_or steps i d ∷ []) ∙ ap (λ (t : List Step). front ++ t) (sym (take_more steps i d lt))
+
+-- what was answered where it was no refusal
+pub ok_there : {A E : Type 0} (P : A → Type 0) (r : Result A E) → is_err r ≡ false → IfOk r P → (x : A) × P x × IsOk r
+ok_there P (Ok x) e p = (x, p, refl)
+ok_there P (Err x) e p = absurd (cc)

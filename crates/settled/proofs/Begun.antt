@@ -2,16 +2,13 @@
 use Rattle.std.proofs.Common.{◌≡◌, ℕ, zero, suc, ◌+◌, ◌<◌, ◌≤◌, Bool, true, false, List, [], ◌∷◌, length, take, sym, ap, ◌∙◌, subst, arith, ◌⊎◌, inl, inr, Some, None}
 use Rattle.std.specs.Prelude.{◌↔◌, slice_get}
 use Rattle.std.proofs.lemmas.Bool.{cases_lt}
-use Rattle.cell_machine.specs.Opening.{Opening}
 use Rattle.cell_machine.specs.Run.{Ran, IsRun}
 use Rattle.race_order.specs.Told.{trace_in}
 use Rattle.race_order.specs.Queue.{Has}
 use Rattle.race_order.specs.declared.progress.Progress.{Progress as Come}
-use Rattle.settled.specs.declared.walk.Walk.{Walk}
 use Rattle.settled.specs.declared.watch.Watch.{Watch}
 use Rattle.settled.specs.Lists.{Each}
 use Rattle.settled.specs.Online.{Pends, IsSettledAt}
-use Rattle.settled.specs.Walks.{IsAt}
 use Rattle.settled.specs.Watches.{AreKept, Watches, IsFresh, AreWatches}
 use Rattle.settled.proofs.Here.{settled-beyond}
 
@@ -49,11 +46,6 @@ each-get P (y ∷ ys) (suc k) x h e = each-get P ys k x h.1 e
 
 pub begun-watches : (m : Ran) (ws : List Watch) → length ws ≡ length m.setup.entries → Each IsFresh ws → AreWatches m 0 ws
 begun-watches m ws many fresh = record { many = many; each = λ p w e. fresh-watches m p w (each-get IsFresh ws p w fresh e) }
-
-pub begun-walk : (m : Ran) (setup : Opening) (w : Walk) → setup ≡ m.setup → IsRun m.setup m.steps → IsAt w (record { setup = setup; steps = [] }) 0 → IsAt w m 0
-begun-walk m setup w same run at =
-    let begun = λ (s : Opening). let r : Ran = record { setup = s; steps = [] } in r in
-    record { run = run; stands = at.stands; made = at.made ∙ ap begun same; within = omega arith }
 
 -- what holds below j and at it holds below j + 1
 pub settled-more : (m : Ran) (j : ℕ) → ((p k : ℕ) → k < j → IsSettledAt m p k) → ((p : ℕ) → IsSettledAt m p j) → (p k : ℕ) → k < j + 1 → IsSettledAt m p k

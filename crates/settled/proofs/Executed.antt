@@ -15,7 +15,7 @@ use Rattle.race_order.specs.Told.{trace_in}
 use Rattle.race_order.proofs.Histories.{later_at}
 use Rattle.race_order.proofs.LivesNext.{read_low}
 use Rattle.settled.specs.declared.kept.Kept.{Kept}
-use Rattle.settled.specs.declared.walk.Made.{Made}
+use Rattle.settled.specs.declared.made.Made.{Made}
 use Rattle.settled.specs.declared.watch.Watch.{Watch}
 use Rattle.settled.specs.Lists.{Each, IsIn}
 use Rattle.settled.specs.Online.{IsSettledAt, is_read_of}

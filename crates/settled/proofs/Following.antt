@@ -13,13 +13,12 @@ use Rattle.race_order.specs.Orderly.{IsWithin}
 use Rattle.race_order.specs.Told.{trace_in}
 use Rattle.race_order.proofs.Runs.{is-orderly}
 use Rattle.race_check.proofs.Prefixes.{run-told}
-use Rattle.settled.specs.declared.walk.Made.{Made}
+use Rattle.settled.specs.declared.made.Made.{Made}
 use Rattle.settled.specs.declared.watch.Watch.{Watch}
 use Rattle.settled.specs.Online.{IsSettledAt}
-use Rattle.settled.specs.Walks.{IsAt, IsMade}
-use Rattle.settled.specs.declared.walk.Walk.{Walk}
+use Rattle.settled.specs.Walks.{IsMade}
 use Rattle.settled.specs.Watches.{Watches, AreWatches, may_act}
-use Rattle.settled.proofs.Here.{walked, queued-run, host-noted, noted-host, settled-other, idled}
+use Rattle.settled.proofs.Here.{queued-run, host-noted, noted-host, settled-other, idled}
 use Rattle.settled.proofs.Takes.{IsIdle}
 
 -- the step's processor is one of the machine's
@@ -162,18 +161,8 @@ pub record Ready (m : Ran) (j : ℕ) (step : Step) (made : Made) : Type 0 where
   pub at : slice_get m.steps j ≡ Some step
   pub is : IsMade m j step made
 
-pub step-at : (m whole : Ran) (steps : List Step) (j : ℕ) → whole ≡ m → steps ≡ whole.steps → j < length m.steps → slice_get m.steps j ≡ Some (get_or steps j (Exec 0))
-step-at m whole steps j same is low =
-    let e : steps ≡ m.steps = is ∙ ap (λ (r : Ran). r.steps) same in
-    ap (λ s. slice_get s j) (sym e) ∙ slice_get-get_or steps j (Exec 0) (subst (λ s. j < length s) (sym e) low)
-
-pub ready : (m whole : Ran) (steps : List Step) (j : ℕ) (w : Walk) (made : Made) (step : Step) → whole ≡ m → steps ≡ whole.steps → j < length m.steps → IsAt w m j → IsMade m (length w.machine.steps) (get_or steps j (Exec 0)) made → get_or steps j (Exec 0) ≡ step
-    → Ready m j step made
-ready m whole steps j w made step same is low at there e = record {
-  run = at.run;
-  at = step-at m whole steps j same is low ∙ ap Some e;
-  is = subst (λ s. IsMade m j s made) e (subst (λ k. IsMade m k (get_or steps j (Exec 0)) made) (walked w m j at) there);
-}
+pub ready : (m : Ran) (j : ℕ) (s step : Step) (made : Made) → IsRun m.setup m.steps → slice_get m.steps j ≡ Some s → IsMade m j s made → s ≡ step → Ready m j step made
+ready m j s step made run at is e = record { run = run; at = at ∙ ap Some e; is = subst (λ t. IsMade m j t made) e is }
 
 pub watch-at : (m : Ran) (j n p : ℕ) (ws : List Watch) (d : Watch) → AreWatches m j ws → n ≡ p → n < length ws → Watches m p j j (get_or ws n d)
 watch-at m j n p ws d w e low = w.each p (get_or ws n d) (ap (slice_get ws) (sym e) ∙ slice_get-get_or ws n d low)

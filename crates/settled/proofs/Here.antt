@@ -23,8 +23,9 @@ use Rattle.race_order.proofs.OrderedRuns.{trace-long}
 use Rattle.race_order.proofs.Runs.{is-orderly}
 use Rattle.race_check.proofs.Prefixes.{run-told}
 use Rattle.settled.specs.declared.kept.Kept.{Kept}
-use Rattle.settled.specs.declared.walk.Walk.{Walk}
-use Rattle.settled.specs.declared.walk.Made.{Made}
+use Rattle.run_walk.specs.declared.walk.Walk.{Walk}
+use Rattle.run_walk.specs.Walks.{walked}
+use Rattle.settled.specs.declared.made.Made.{Made}
 use Rattle.settled.specs.declared.watch.Watch.{Watch}
 use Rattle.settled.specs.Lists.{AreChanged}
 use Rattle.run_permute.specs.Places.{Asks, IssuesAtomic}
@@ -43,11 +44,11 @@ queued-run m run = (is-orderly m (trace_in m) (run-told m run)).1
 pub trace-size : (m : Ran) → IsRun m.setup m.steps → length (trace_in m) ≡ length m.steps
 trace-size m run = trace-long (opening m.setup) m.steps (trace_in m) (run-told m run)
 
-pub walked : (w : Walk) (m : Ran) (j : ℕ) → IsAt w m j → length w.machine.steps ≡ j
-walked w m j at = let in_steps : j ≤ length m.steps = at.within in ap (λ (r : Ran). length r.steps) at.made ∙ length-take-le j m.steps in_steps
+pub has-made : (w : Walk) (m : Ran) (j : ℕ) → IsAt w m j → length (walked w).steps ≡ j
+has-made w m j at = let in_steps : j ≤ length m.steps = at.within in ap (λ (r : Ran). length r.steps) at.made ∙ length-take-le j m.steps in_steps
 
-pub at-last : (w : Walk) (m : Ran) (j : ℕ) → IsAt w m (j + 1) → length w.machine.steps - 1 ≡ j
-at-last w m j at = let e : length w.machine.steps ≡ j + 1 = walked w m (j + 1) at in omega arith
+pub at-last : (w : Walk) (m : Ran) (j : ℕ) → IsAt w m (j + 1) → length (walked w).steps - 1 ≡ j
+at-last w m j at = let e : length (walked w).steps ≡ j + 1 = has-made w m (j + 1) at in omega arith
 
 -- ---- the step at a place
 

@@ -8,6 +8,8 @@ pub mod Stalls
 pub mod Judges
 pub mod Here
 pub mod Walking
+pub mod Alike
+pub mod Settlings
 pub mod Executed
 pub mod Begun
 pub mod Following

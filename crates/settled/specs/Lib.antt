@@ -2,3 +2,4 @@ pub mod Online
 pub mod Lists
 pub mod Walks
 pub mod Watches
+pub mod Settlings

@@ -10,13 +10,13 @@ ghost use Rattle.settled.specs.Lists.{IsIn};
 ghost use Rattle.settled.specs.Walks.{Here, IsAt};
 ghost use Rattle.settled.specs.Watches.{IsSwept, IsTaken, is_closed, is_listed};
 
-use crate::error::PermuteError;
-use crate::walk::Walk;
+use crate::before::is_before;
 use cell_base::Step;
 use cell_machine::Note;
 use mfc_command::{Command, Kind};
 use race_order::{Progress, begin, step_on};
-use std::alloc::Global;
+use run_walk::Walk;
+use std::alloc::{AllocError, Global};
 
 #[derive(Drop)]
 pub struct Kept {
@@ -36,7 +36,7 @@ fn unknown(steps: &[u32], walk: &Walk) -> usize
 {
     let mut left = steps.len();
     while 0 < left {
-        if !walk.before(steps[left - 1]) {
+        if !is_before(walk, steps[left - 1]) {
             return left;
         }
         left -= 1;
@@ -101,7 +101,7 @@ impl Kept {
     }
 
     /// Takes the step at a place.
-    pub fn take(&mut self, spe: u8, place: u32, step: Step, note: Note) -> Result<(), PermuteError>
+    pub fn take(&mut self, spe: u8, place: u32, step: Step, note: Note) -> Result<(), AllocError>
         requires { self.old.progress.read + 1 < 2 ^ 32 }
         ensures { OnOk result (IsTaken spe place step note self.old self.new) }
     {

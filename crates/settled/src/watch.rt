@@ -11,10 +11,9 @@ ghost use Rattle.settled.specs.Online.{IsSettledAt};
 ghost use Rattle.settled.specs.Walks.{Here, IsAt, IsMade};
 ghost use Rattle.settled.specs.Watches.{IsSwept, IsTaken, AreSwept, AreLeft, Watches, is_looked_at, stalled_from, tag_of, may_operate, may_tell, marked, is_atomic_issue, IsAdded, IsTransferOf};
 
-use crate::error::PermuteError;
 use crate::kept::{Kept, is_list, is_signal};
+use crate::made::Made;
 use crate::operation::{may_ask, reads, writes};
-use crate::walk::{Made, Walk};
 use cell_base::{ChannelOp, Step};
 use cell_channels::{
     MFC_RD_ATOMIC_STAT, MFC_RD_LIST_STALL_STAT, MFC_RD_TAG_STAT, MFC_WR_LIST_STALL_ACK,
@@ -22,7 +21,8 @@ use cell_channels::{
 };
 use cell_machine::Note;
 use mfc_command::Command;
-use std::alloc::Global;
+use run_walk::Walk;
+use std::alloc::{AllocError, Global};
 
 /// How many commands may not be closed where another one is queued.
 const FEW: usize = 15;
@@ -75,7 +75,7 @@ fn take_all(
     place: u32,
     step: Step,
     note: Note,
-) -> Result<(), PermuteError>
+) -> Result<(), AllocError>
     requires { Each (λ (k : AKept). k.progress.read + 1 < 2 ^ 32) kept.old }
     ensures { OnOk result (AreChanged (IsTaken spe place step note) (length kept.old) kept.old kept.new) }
 {
@@ -201,7 +201,7 @@ impl Watch {
     }
 
     /// Adds the command that is queued.
-    fn add(&mut self, alloc: Global, note: Note) -> Result<(), PermuteError>
+    fn add(&mut self, alloc: Global, note: Note) -> Result<(), AllocError>
         ensures kept { OnOk result (IsAdded note self.old.kept.items self.new.kept.items) }
         ensures rest { self.new ≡ record self.old { kept = self.new.kept } }
     {
@@ -220,7 +220,7 @@ impl Watch {
         spe: u8,
         place: u32,
         made: &Made,
-    ) -> Result<bool, PermuteError>
+    ) -> Result<bool, AllocError>
         ghost m: { Ran }
         requires at { IsAt walk.now m (place + 1) }
         requires step { slice_get m.steps place ≡ Some (Exec spe) }
@@ -252,7 +252,7 @@ impl Watch {
         place: u32,
         step: Step,
         made: &Made,
-    ) -> Result<(), PermuteError>
+    ) -> Result<(), AllocError>
         ghost m: { Ran }
         requires run { IsRun m.setup m.steps }
         requires step { slice_get m.steps place ≡ Some step }

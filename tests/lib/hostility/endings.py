@@ -10,7 +10,8 @@ import tempfile
 import time
 from typing import Iterator, List, NamedTuple, Sequence
 
-from lib.hostility.rows import ROOT, TRACEBACK, Row
+from celltools.common.repository import ROOT
+from lib.hostility.rows import TRACEBACK, Row
 
 RACY, RACY_RECORD = "examples/races/reuse_race.cell", "examples/races/reuse_race.out"
 CALM, CALM_RECORD = "examples/first.cell", "examples/first.out"  # which has no sources: these would be named from a folder that isn't there
@@ -41,7 +42,7 @@ TYPED = b"step\nwhere\n"
 NOTHING = r"\A\Z"
 STARTS = 40  # that are interrupted
 LATEST = 0.2  # seconds from a start to its interrupt
-SECONDS = 20
+SECONDS = 120  # a bound for what never ends, also on a busy machine
 
 
 def redirected(name, how, words, status, said="", printed=None):

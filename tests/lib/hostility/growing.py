@@ -6,9 +6,10 @@ import sys
 import tempfile
 from typing import Iterator, List, Tuple
 
-ROOT = pathlib.Path(__file__).resolve().parents[3]
-CELL = ROOT / "crates" / "cell_cli" / "out" / "cell_cli"
-TRACER = ROOT / "crates" / "run_trace" / "out" / "run_trace"
+from celltools.common.repository import ROOT, built
+
+CELL = built("cell_cli")
+TRACER = built("run_trace")
 # the sources of a machine's processors, each with the address at which it begins
 MACHINES: List[Tuple[Tuple[str, int], ...]] = [
     (("bench/pingpong.s", 0), ("bench/pingpong.s", 0x80)),
@@ -74,7 +75,7 @@ if __name__ == "__main__":  # a process of its own, whose children are these che
 
 def grows_with_the_record() -> Iterator[str]:
     """The times of other calls of this test are not to be among those that are compared."""
-    done = subprocess.run([sys.executable, __file__], capture_output=True, text=True)
+    done = subprocess.run([sys.executable, "-m", "lib.hostility.growing"], cwd=ROOT / "tests", capture_output=True, text=True)
     yield from (done.stdout + done.stderr).splitlines()
 
 

@@ -9,7 +9,8 @@ import tempfile
 import time
 from typing import Iterator
 
-from lib.hostility.rows import ROOT, Ended, Row, ended, shown
+from celltools.common.repository import ROOT
+from lib.hostility.rows import Ended, Row, ended, shown
 
 SECONDS = 20
 MEGABYTES = 2048
@@ -17,7 +18,7 @@ PATH_WITHOUT_KIT = "/usr/bin:/bin"
 MACHINE = b"cell-machine 1\nlines 1\nbudget 1\nspe\n"
 PROGRAM = """#!/bin/sh
 [ "$1 $3" = "check /dev/null" ] && { echo "cell: record file, line 1" >&2; exit 5; }
-echo "ran ${0##*/} $*"
+echo "ran ${0##*/} ${*%% --until *}"
 """
 # What `rt all check` and `rt run` print and leave, as far as the launcher looks at it. With the file `slow` it never ends, and says where it is.
 RT = f"""#!/bin/sh

@@ -9,7 +9,8 @@ import subprocess
 import tempfile
 from typing import Callable, Iterator, List, Mapping, Optional, Sequence, Tuple, Union
 
-ROOT = pathlib.Path(__file__).resolve().parents[3]
+from celltools.common.repository import ROOT
+
 SHOWN = 2000  # bytes of what a failing row wrote
 TRACEBACK = b"Traceback (most recent call last)"
 # sets the limit of memory in a process of its own: a hook between fork and exec may hang where there are threads

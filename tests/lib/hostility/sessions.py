@@ -7,10 +7,10 @@ import tempfile
 import threading
 from typing import Iterator, List, Mapping, Optional, Sequence
 
-from lib.hostility.rows import ROOT, Row, ended
+from celltools.common.repository import ROOT
+from celltools.common.texts import lines_in, number_of, shown
+from lib.hostility.rows import Row, ended
 
-sys.path.insert(0, str(ROOT / "tools"))
-from celltools.common.texts import lines_in, number_of, shown  # noqa: E402  (the path comes first)
 
 RACES = ROOT / "examples" / "races"
 SOURCE, RECORD = ((RACES / name).read_bytes() for name in ("reuse_race.s", "reuse_race.out"))

@@ -5,7 +5,8 @@ import stat
 import tempfile
 from typing import Iterator, Optional, Sequence
 
-from lib.hostility.rows import ROOT, Row, ended
+from celltools.common.repository import ROOT
+from lib.hostility.rows import Row, ended
 
 UNREADABLE = "/proc/self/mem"  # opens, and has no byte at its beginning that may be read
 DIGITS = "9" * 5000
@@ -189,7 +190,7 @@ def a_pipe_is_written_through() -> Iterator[str]:
         (folder / "a.s").write_bytes(b" stop\n")
         os.mkfifo(folder / "pipe")
         reader = os.open(folder / "pipe", os.O_RDWR | os.O_NONBLOCK)
-        found = ended([str(ROOT / "tools" / "from_gas"), "-o", "pipe", "a.s"], folder, 10, 2048)
+        found = ended([str(ROOT / "tools" / "from_gas"), "-o", "pipe", "a.s"], folder, 120, 2048)
         if found is None or found.status or not stat.S_ISFIFO(os.stat(folder / "pipe").st_mode) or os.read(reader, 100) != WHOLE:
             yield f"the pipe wasn't written: {found}"
         os.close(reader)

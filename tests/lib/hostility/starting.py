@@ -6,7 +6,8 @@ import re
 import subprocess
 from typing import Dict, Iterator, List, Optional, Set, Tuple
 
-from lib.hostility.rows import ROOT, TRACEBACK, Row, ended, shown
+from celltools.common.repository import ROOT
+from lib.hostility.rows import TRACEBACK, Row, ended, shown
 
 TOOLS = ("debug", "explain", "from_gas", "hunts", "listing", "picture", "race", "site_lines", "states", "witness")
 OLDEST = (3, 9)
@@ -15,14 +16,14 @@ FOLDERS = ["/usr/bin", "/usr/local/bin", *glob.glob(os.path.expanduser("~/.pyenv
 # Options of Python, and what is set: each start takes one of these.
 PLAIN = {"PYTHONSAFEPATH": "1", "LC_ALL": "C", "PYTHONIOENCODING": "ascii"}
 SETTINGS: List[Tuple[List[str], Dict[str, str]]] = [(["-I", "-S"], {"LC_ALL": "C"}), ([], PLAIN)]
-# Loads programs, as `import` does with a module.
+# Loads programs, as `import` does with a module, each with its own folder in front, where Python looks first.
 LOAD = """
-import runpy, sys
+import os, runpy, sys
 for path in sys.argv[1:]:
-    sys.argv[0] = path
+    sys.argv[0], sys.path[0] = path, os.path.dirname(path)
     runpy.run_path(path)
 """
-SECONDS = 20
+SECONDS = 120
 MEGABYTES = 2048
 CYRILLIC = "\u0436.s"
 
@@ -71,7 +72,7 @@ def each_test_loads() -> Iterator[str]:
     """The programs of tests/ and their modules load under the oldest and the newest Python."""
     programs = [str(path) for path in sorted((ROOT / "tests").iterdir()) if path.is_file() and os.access(path, os.X_OK)]
     for python in {pythons()[0], pythons()[-1]}:
-        found = ended([python, "-I", "-S", "-B", "-c", LOAD, *programs], ROOT, SECONDS, MEGABYTES)
+        found = ended([python, "-S", "-B", "-c", LOAD, *programs], ROOT, SECONDS, MEGABYTES)
         if found is None or found.status:
             yield "\n".join([f"{python} loads not all programs of tests/", *(shown(found) if found else [])])
 

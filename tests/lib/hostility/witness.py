@@ -2,7 +2,8 @@
 import pathlib
 from typing import Optional
 
-from lib.hostility.rows import ROOT, Row
+from celltools.common.repository import ROOT
+from lib.hostility.rows import Row
 
 RACES = ROOT / "examples" / "races"
 SOURCE, RECORD = ((RACES / name).read_bytes() for name in ("reuse_race.s", "reuse_race.out"))

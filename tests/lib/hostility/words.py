@@ -3,14 +3,15 @@ import pathlib
 import subprocess
 from typing import Dict, Iterator, Sequence, Tuple, Union
 
-from lib.hostility.rows import ROOT, Row
+from celltools.common.repository import ROOT, built
+from lib.hostility.rows import Row
 
-CELL, TRACER, HUNT = "crates/cell_cli/out/cell_cli", "crates/run_trace/out/run_trace", "crates/hunt/out/hunt"
+CELL, TRACER, HUNT = (str(built(program)) for program in ("cell_cli", "run_trace", "hunt"))
 ODD = "\udcff"  # stands for the byte FF, which is nowhere in UTF-8
 MACHINE, RECORD = "first.cell", "first.out"
 BOTH = (MACHINE, RECORD)
 NOT_UTF8 = "its name is not UTF-8$"
-FORMS, HUNT_FORMS, TRACER_FORMS = "^cell: usage: cell run", "^hunt: usage: hunt MACHINE", "words: alone M"
+FORMS, HUNT_FORMS, TRACER_FORMS = "^cell: usage: cell run", "^hunt: usage: hunt MACHINE", "^run_trace: words: alone M"
 Status = Union[int, Tuple[int, ...]]
 
 
@@ -28,7 +29,7 @@ NAMES = [
     refused("a source", ["cell", "asm", f"a{ODD}"], 3, f"^cell: cannot read source 0: {NOT_UTF8}"),
     refused("a hunt's machine file", ["hunt", ODD, "3"], 3, "^hunt: cannot read machine file: the name of a file is not UTF-8$"),
     refused("a machine file of hunt itself", [HUNT, ODD, "3"], 3, "^hunt: cannot read machine file: the name of a file is not UTF-8$"),
-    refused("a record of run_trace", [TRACER, "effects", MACHINE, ODD], 1, f"cannot read a file: {NOT_UTF8}"),
+    refused("a record of run_trace", [TRACER, "effects", MACHINE, ODD], 3, "^run_trace: cannot read machine file: the name of a file is not UTF-8$"),
 ]
 
 NO_FORMS = [
@@ -37,7 +38,7 @@ NO_FORMS = [
     refused("the number of gen", ["cell", "gen", f"1{ODD}"], 2, FORMS),
     refused("the number of permute", ["cell", "permute", *BOTH, ODD], 2, FORMS),
     refused("a number of runs that isn't UTF-8", [HUNT, MACHINE, ODD], 2, HUNT_FORMS),
-    refused("a form of run_trace", [TRACER, ODD, *BOTH], 1, TRACER_FORMS),
+    refused("a form of run_trace", [TRACER, ODD, *BOTH], 2, TRACER_FORMS),
 ]
 
 NUMBERS = [
@@ -45,22 +46,22 @@ NUMBERS = [
     *(refused("a spelling of a seed", ["hunt", MACHINE, "1", word], 2, HUNT_FORMS) for word in ("01", "+1", "", "18446744073709551616")),
     *(refused("a spelling of each", ["hunt", MACHINE, "each", word], 2, HUNT_FORMS) for word in ("01", "+1")),
     *(refused("a spelling of a run", ["hunt", MACHINE, "record", word], 2, HUNT_FORMS) for word in ("00", "+0")),
-    *(refused("a spelling of a place", [TRACER, "before", *BOTH, word], 1, TRACER_FORMS) for word in ("00", "+0", "")),
-    *(refused("a spelling of steps", [TRACER, "states", *BOTH, word], 1, TRACER_FORMS) for word in ("03", "+3")),
-    *(refused("steps to go on from", [TRACER, "go", *BOTH, word, "c"], 1, TRACER_FORMS, {"c": b""}) for word in ("03", "+3")),
+    *(refused("a spelling of a place", [TRACER, "before", *BOTH, word], 2, TRACER_FORMS) for word in ("00", "+0", "")),
+    *(refused("a spelling of steps", [TRACER, "states", *BOTH, word], 2, TRACER_FORMS) for word in ("03", "+3")),
+    *(refused("steps to go on from", [TRACER, "go", *BOTH, word, "c"], 2, TRACER_FORMS, {"c": b""}) for word in ("03", "+3")),
     Row("the greatest seed", ["hunt", MACHINE, "1", "18446744073709551615"], 0, printed="^1 runs of seed 18446744073709551615:", examples=BOTH),
     Row("run 0", ["hunt", MACHINE, "record", "0"], 0, printed="^cell-record 2$", examples=BOTH),
     Row("place 0", [TRACER, "before", *BOTH, "0"], 0, examples=BOTH),
 ]
 
 ENDLESS = [
-    refused("a machine file without an end", [TRACER, "alone", "/dev/zero"], 1, "machine file is too long"),
-    refused("a record without an end", [TRACER, "effects", MACHINE, "/dev/zero"], 1, "record file is too long"),
-    refused("choices without an end", [TRACER, "choose", MACHINE, "/dev/zero"], 1, "choice file is too long"),
-    refused("a source without an end", [TRACER, "alone", "zero.cell"], 1, "source 0 is too long",
+    refused("a machine file without an end", [TRACER, "alone", "/dev/zero"], 5, "^run_trace: machine file is too long"),
+    refused("a record without an end", [TRACER, "effects", MACHINE, "/dev/zero"], 5, "^run_trace: record file is too long"),
+    refused("choices without an end", [TRACER, "choose", MACHINE, "/dev/zero"], 5, "^run_trace: choice file is too long"),
+    refused("a source without an end", [TRACER, "alone", "zero.cell"], 5, "^run_trace: source 0 is too long",
             {"zero.cell": b"cell-machine 1\nlines 1\nbudget 1\nspe\nsource /dev/zero\n"}),
     refused("a machine file of hunt without an end", [HUNT, "/dev/zero", "1"], 5, "^hunt: machine file is too long"),
-    refused("a missing machine file of run_trace", [TRACER, "alone", "missing.cell"], 1, "cannot read machine file"),
+    refused("a missing machine file of run_trace", [TRACER, "alone", "missing.cell"], 3, "^run_trace: cannot read machine file"),
 ]
 
 ROWS = [*NAMES, *NO_FORMS, *NUMBERS, *ENDLESS]
@@ -74,7 +75,7 @@ def status_of(program: str, words: Sequence[str]) -> int:
 
 def a_program_of_any_name() -> Iterator[str]:
     """The name of the program is no word of its."""
-    for program, words, wanted in ((CELL, ["asm", "/dev/null"], 0), (HUNT, [], 2), (TRACER, ["alone", "missing.cell"], 1)):
+    for program, words, wanted in ((CELL, ["asm", "/dev/null"], 0), (HUNT, [], 2), (TRACER, ["alone", "missing.cell"], 3)):
         found = status_of(program, words)
         if found != wanted:
             yield f"{program} {' '.join(words)}: the status is {found}, not {wanted}"

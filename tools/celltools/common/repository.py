@@ -5,8 +5,9 @@ ROOT = pathlib.Path(__file__).resolve().parents[3]
 LAUNCH = ROOT / "tools" / "launch"
 CELL = ROOT / "cell"
 HUNT = ROOT / "hunt"
+PROGRAMS = ("cell_cli", "hunt", "run_trace")  # the proved ones
 
 
-def built(program):
-    """Where a proved program is, once it is built: cell_cli, hunt or run_trace."""
+def built(program: str) -> pathlib.Path:
+    """Where one of PROGRAMS is, once it is built."""
     return ROOT / "crates" / program / "out" / program

@@ -2,10 +2,10 @@
 takes over; its modules are found; and its texts are UTF-8 under every locale.
 
 Python tells an interrupt of its own start by a traceback. So the first lines of a tool are for sh, and strings for Python: they start Python with interrupts
-ignored, up to here.
+ignored, up to here; and without what is installed beside its own library, which no tool uses and which may take longer to load than the tool.
 """
 # the built-in part of the module `signal`, which is loaded at once
-from _signal import SIG_DFL, SIGINT, signal
+from _signal import SIG_DFL, SIGINT, signal  # type: ignore[import]
 
 signal(SIGINT, SIG_DFL)
 
@@ -13,6 +13,10 @@ import errno  # noqa: E402
 import io  # noqa: E402
 import os  # noqa: E402
 import sys  # noqa: E402
+
+TYPE_CHECKING = False  # but for a checker of types
+if TYPE_CHECKING:
+    import typing
 
 OLDEST = (3, 9)  # of the Pythons that the programs are written for
 MISUSED = 2
@@ -22,14 +26,14 @@ CLOSED = (os.O_WRONLY, os.O_RDONLY, os.O_WRONLY)  # how a standard file is opene
 class StandardInput(io.FileIO):
     """Standard input, whose faults name it."""
 
-    def readinto(self, buffer):
+    def readinto(self, buffer: "typing.Any") -> "typing.Any":
         return named(super().readinto, buffer)
 
-    def readall(self):
+    def readall(self) -> "typing.Any":
         return named(super().readall)
 
 
-def named(read, *buffer):
+def named(read: "typing.Callable[..., typing.Any]", *buffer: "typing.Any") -> "typing.Any":
     """What a function reads of standard input."""
     try:
         return read(*buffer)
@@ -37,21 +41,21 @@ def named(read, *buffer):
         raise OSError(why.errno, why.strerror, "standard input") from None
 
 
-def refuse_old():
+def refuse_old() -> None:
     """Ends the program where Python is too old for it."""
     if sys.version_info < OLDEST:
         print("%s: it wants Python 3.9 or later, and this is %d.%d" % (os.path.basename(sys.argv[0]), *sys.version_info[:2]), file=sys.stderr)
         sys.exit(MISUSED)
 
 
-def find_modules():
+def find_modules() -> None:
     """Has the modules found that lie beside the program. With -I and PYTHONSAFEPATH its folder isn't among those where Python looks."""
     folder = os.path.dirname(os.path.realpath(sys.argv[0]))
     if folder not in sys.path:
         sys.path.insert(1, folder)
 
 
-def open_closed():
+def open_closed() -> None:
     """Opens what is closed of the three standard files, each so that its use fails: else the next file that is opened would be taken for it."""
     for number, how in enumerate(CLOSED):
         try:
@@ -61,14 +65,15 @@ def open_closed():
                 os.set_inheritable(os.open(os.devnull, how), True)
 
 
-def name_encodings():
+def name_encodings() -> None:
     """Has all texts in UTF-8. What isn't is shown as `\\xff`, and what can't be written, as it is escaped in Python."""
-    how = {"encoding": "utf-8", "errors": "backslashreplace"}
+    how: "typing.Any" = {"encoding": "utf-8", "errors": "backslashreplace"}
     sys.stdin = io.TextIOWrapper(io.BufferedReader(StandardInput(0, closefd=False)), **how)
     sys.stdout = sys.stdout or open(1, "w", closefd=False)
     sys.stderr = sys.stderr or open(2, "w", closefd=False)
-    sys.stdout.reconfigure(**how)
-    sys.stderr.reconfigure(**how)
+    for stream in sys.stdout, sys.stderr:
+        if isinstance(stream, io.TextIOWrapper):
+            stream.reconfigure(**how)
 
 
 refuse_old()

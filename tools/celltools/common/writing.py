@@ -9,6 +9,7 @@ import select
 import stat
 import tempfile
 import time
+from typing import Optional
 
 PATIENCE = 2.0  # seconds in which nobody reads a pipe
 NEW_MODE = 0o666  # of a file, without what the mask of the process takes away
@@ -46,7 +47,7 @@ def refuse_read_only(found: os.stat_result) -> None:
         raise PermissionError(errno.EACCES, "it is read-only")
 
 
-def write_beside(target: str, data: bytes, found) -> None:
+def write_beside(target: str, data: bytes, found: Optional[os.stat_result]) -> None:
     """Writes a file beside another, or where none is, and gives it its name."""
     if found:
         refuse_read_only(found)
@@ -64,7 +65,7 @@ def write_beside(target: str, data: bytes, found) -> None:
         raise
 
 
-def keep_owner(descriptor: int, found) -> None:
+def keep_owner(descriptor: int, found: Optional[os.stat_result]) -> None:
     """Gives a file the owner and the group of another, as far as that is allowed."""
     if found and (found.st_uid, found.st_gid) != (os.geteuid(), os.getegid()):
         try:

@@ -7,7 +7,7 @@ from celltools.run.runs import Refused, verdict
 from celltools.run.stepping import Run
 from celltools.telling.words import counted
 
-FAULTS = ("dmafault", "badword", "badchannel")
+FAULTS = ("dmafault", "badword", "badchannel", "halted")
 ENDS = {"Stuck": "where the run is stuck", "Budget": "where its budget is spent"}
 
 
@@ -45,7 +45,7 @@ def chosen(run: Run, record) -> Tuple[int, str]:
 
 
 def faulty(state: State) -> Optional[str]:
-    """What there is to say of the processors that have a fault; None where none has."""
+    """What there is to say of the processors that have a fault or a halt; None where none has."""
     told = [f"processor {spe.number} {spe.status}" for spe in state.spes if spe.status.startswith(FAULTS)]
     return f"with {', '.join(told)}" if told else None
 

@@ -1,7 +1,8 @@
 """What `./hunt MACHINE --json` prints: one object a line, read, added up to what one hunt of all the runs would print, and written again.
 
 The first line names the machine file and has a checksum of it and its sources, the second is the hunt's head, and behind it each line is a race, an ending, a
-result, or an expected line that a run misses. Run numbers are those of the seed.
+result, or an expected line that a run misses. The last line has the digests of the kinds of runs, each with how many runs are of it. Run numbers are those of
+the seed.
 """
 import dataclasses
 import json
@@ -14,8 +15,12 @@ from celltools.run.runs import Refused
 FLAWS = ("race", "stuck", "budget", "fault", "halt", "missed")
 ADDED = ("places", "words")  # what ./hunt adds to a line of its program
 # The lines behind the head: the member that says what a line is, and those that tell two of them apart.
-KINDS = {"race": ("key",), "end": ("end",), "result": ("end", "result"), "missed": ("missed",)}
+TELLING = {"race": ("key",), "end": ("end",), "result": ("end", "result"), "missed": ("missed",)}
+KINDS = "kinds"  # the member of the last line
 ODD = re.compile(r'[^ !#-\[\]-~]')
+FAULTS = ("badword", "badchannel", "dmafault")
+MOST_SPENT = 3  # ends of runs that spent the budget of which it is told what the processors did
+MOST_EXPLAINED = 8  # other ends of which that is told
 
 
 @dataclasses.dataclass
@@ -36,13 +41,13 @@ class Told:
     count: Count
 
     @property
-    def kind(self) -> str:
-        return next(kind for kind in KINDS if kind in self.members and (kind != "end" or "result" not in self.members))
+    def what(self) -> str:
+        return next(what for what in TELLING if what in self.members and (what != "end" or "result" not in self.members))
 
     @property
     def same(self) -> Tuple[Any, ...]:
         """What two lines have in common that tell the same."""
-        return (self.kind, *(self.members[name] for name in KINDS[self.kind]))
+        return (self.what, *(self.members[name] for name in TELLING[self.what]))
 
 
 @dataclasses.dataclass
@@ -58,14 +63,33 @@ class Hunt:
     left_out: int
     flaws: Dict[str, Count]
     told: List[Told]
+    kinds: Dict[str, int]  # the digests of the kinds of runs, each with how many runs are of it, in the order of the first runs
 
     @property
     def stop(self) -> int:
         """The number behind the last run."""
         return self.start + self.runs
 
-    def of_kind(self, kind: str) -> Iterator[Told]:
-        return (told for told in self.told if told.kind == kind)
+    def telling(self, what: str) -> Iterator[Told]:
+        return (told for told in self.told if told.what == what)
+
+
+class Explained:
+    """Which ends get words: each costs a run, so it is the first few that aren't as they should be."""
+
+    def __init__(self) -> None:
+        self.left = {True: MOST_SPENT, False: MOST_EXPLAINED}
+
+    def takes(self, ending: str) -> bool:
+        is_spent = ending.startswith("Budget")
+        if ending.startswith("AllStopped") and not has_fault(ending) or not self.left[is_spent]:
+            return False
+        self.left[is_spent] -= 1
+        return True
+
+
+def has_fault(ending: str) -> bool:
+    return any(word in ending for word in FAULTS)
 
 
 # ---- reading
@@ -88,6 +112,11 @@ def told_of(members: Dict[str, Any]) -> Told:
     return told
 
 
+def kinds_of(members: Dict[str, Any]) -> Dict[str, int]:
+    """The kinds of the last line. KeyError and TypeError where it is another."""
+    return {digest: runs + 0 for digest, runs in dict(members[KINDS]).items()}
+
+
 def hunt_of(file: str, start: int, objects: List[Dict[str, Any]]) -> Hunt:
     """The hunt that the objects of a file tell, of which the first stands on line `start`."""
     number = start
@@ -95,9 +124,11 @@ def hunt_of(file: str, start: int, objects: List[Dict[str, Any]]) -> Hunt:
         machine, head = objects[0], objects[1]
         number = start + 1
         flaws = {name: Count(head[name]["runs"], head[name]["first"]) for name in FLAWS}
-        hunt = Hunt(file, machine, head["seed"], head["from"], head["runs"], head["expects"], head["all_stopped"], head["left_out"], flaws, [])
-        for number, members in enumerate(objects[2:], start + 2):
+        hunt = Hunt(file, machine, head["seed"], head["from"], head["runs"], head["expects"], head["all_stopped"], head["left_out"], flaws, [], {})
+        for number, members in enumerate(objects[2:-1], start + 2):
             hunt.told.append(told_of(members))
+        number = start + len(objects) - 1
+        hunt.kinds.update(kinds_of(objects[-1]))
     except (IndexError, KeyError, TypeError, StopIteration):
         raise Refused(f"{file}:{number}: no line of what `./hunt MACHINE --json` prints: keep all that it prints in a file") from None
     return hunt
@@ -145,18 +176,33 @@ def joined(told: Iterable[Told]) -> List[Told]:
     return list(found.values())
 
 
+def with_few_words(told: List[Told]) -> List[Told]:
+    """The lines, with words of those ends alone of which one hunt of all the runs tells them."""
+    explained = Explained()
+    return [line if line.what != "end" or explained.takes(line.members["end"]) else Told({**line.members, "words": []}, line.count) for line in told]
+
+
+def kinds_together(hunts: List[Hunt]) -> Dict[str, int]:
+    """The kinds of all runs."""
+    kinds: Dict[str, int] = {}
+    for hunt in hunts:
+        for digest, runs in hunt.kinds.items():
+            kinds[digest] = kinds.get(digest, 0) + runs
+    return kinds
+
+
 def sum_of(hunts: List[Hunt]) -> Hunt:
-    """The hunt of all runs, in the order of kinds and then of the first runs."""
+    """The hunt of all runs, in the order of what lines tell and then of the first runs."""
     refuse_others(hunts)
     hunts = sorted(hunts, key=lambda hunt: hunt.start)
     refuse_gaps(hunts)
     flaws = hunts[0].flaws
     for hunt in hunts[1:]:
         flaws = {name: flaws[name].added(hunt.flaws[name]) for name in FLAWS}
-    told = [line for kind in KINDS for line in joined(line for hunt in hunts for line in hunt.of_kind(kind))]
+    told = with_few_words([line for what in TELLING for line in joined(line for hunt in hunts for line in hunt.telling(what))])
     return dataclasses.replace(
         hunts[0], runs=sum(hunt.runs for hunt in hunts), all_stopped=sum(hunt.all_stopped for hunt in hunts),
-        left_out=sum(hunt.left_out for hunt in hunts), flaws=flaws, told=told,
+        left_out=sum(hunt.left_out for hunt in hunts), flaws=flaws, told=told, kinds=kinds_together(hunts),
     )
 
 
@@ -171,6 +217,7 @@ def json_lines(hunt: Hunt) -> Iterator[str]:
     for told in hunt.told:
         added = {name: value for name, value in told.members.items() if name in ADDED}
         yield json_line({**{name: value for name, value in told.members.items() if name not in ADDED}, **dataclasses.asdict(told.count), **added})
+    yield json_line({KINDS: hunt.kinds})
 
 
 def json_line(value: Any) -> str:

@@ -1,6 +1,6 @@
 """What a hunt found as SARIF 2.1.0, the OASIS standard's form for the results of tools that look for faults."""
 import re
-from typing import Any, Dict, Iterator, List, Optional
+from typing import Any, Dict, Iterator, List, Optional, Tuple
 
 from celltools.hunt.outputs import Count, Hunt, Told
 
@@ -39,20 +39,20 @@ def often(count: Count, runs: int) -> str:
     return f"in {count.runs} of {runs} runs, the first is run {count.first}"
 
 
-def parts_of(told: Told, member: str) -> List[tuple]:
+def parts_of(told: Told, member: str) -> List[Tuple[str, Any]]:
     """The parts of a line, each with its place or None."""
     parts = told.members[member].split(" | ")[1:]
     return list(zip(parts, told.members.get("places") or [None] * len(parts)))
 
 
 def race_results(hunt: Hunt) -> Iterator[Dict[str, Any]]:
-    for race in hunt.of_kind("race"):
+    for race in hunt.telling("race"):
         parts = parts_of(race, "race")
         text = f"race of {' and '.join(part for part, _ in parts)}: {often(race.count, hunt.runs)}"
         yield result("race", text, [place for _, place in parts], hunt.machine["machine"])
 
 
-def rules_of(ending: str) -> Iterator[tuple]:
+def rules_of(ending: str) -> Iterator[Tuple[str, "re.Pattern[str]"]]:
     """The rules that an ending breaks, each with the processors' words that tell it."""
     word = ending.split(" | ")[0]
     if word != "AllStopped":
@@ -64,7 +64,7 @@ def rules_of(ending: str) -> Iterator[tuple]:
 
 
 def end_results(hunt: Hunt) -> Iterator[Dict[str, Any]]:
-    for told in hunt.of_kind("end"):
+    for told in hunt.telling("end"):
         for rule, words in rules_of(told.members["end"]):
             places = [place for part, place in parts_of(told, "end") if words.match(part)]
             text = f"{told.members['end']}: {often(told.count, hunt.runs)}"
@@ -72,7 +72,7 @@ def end_results(hunt: Hunt) -> Iterator[Dict[str, Any]]:
 
 
 def missed_results(hunt: Hunt) -> Iterator[Dict[str, Any]]:
-    for told in hunt.of_kind("missed"):
+    for told in hunt.telling("missed"):
         text = f"expected is the line `{told.members['missed']}`, which is missing {often(told.count, hunt.runs)}"
         yield result("missed", text, [], hunt.machine["machine"])
 

@@ -1,8 +1,10 @@
 """The text of a hunt, as `./hunt MACHINE` prints it, of the objects that it prints with --json."""
-from typing import Iterator, List, Optional
+from typing import Iterator, List
 
 from celltools.common.texts import decoded, lines_in
+from celltools.hunt.advice import advice
 from celltools.hunt.outputs import Count, Hunt, Told
+from celltools.hunt.spent import folded
 
 FOUND = {
     "race": "have a race", "stuck": "are stuck", "budget": "spent the budget", "fault": "have a fault", "halt": "have a halt", "missed": "miss a line",
@@ -23,6 +25,12 @@ def found_line(hunt: Hunt) -> str:
     if found:
         return "; ".join(found)
     return NONE_FOUND + (", and none misses a line" if hunt.expects else "")
+
+
+def kinds_line(hunt: Hunt) -> str:
+    """How many kinds of runs there are, and the estimate of how many are still to be seen."""
+    once = sum(runs == 1 for runs in hunt.kinds.values())
+    return f"kinds {len(hunt.kinds)}, seen once {once}: some {once} in {hunt.runs} further runs would be of a new kind"
 
 
 def counted(count: Count) -> str:
@@ -49,27 +57,30 @@ def result_lines(results: List[Told]) -> Iterator[str]:
     yield from difference_lines(results[0].members["result"], results[1].members["result"])
 
 
-def lines_of_hunt(hunt: Hunt) -> Iterator[str]:
+def finished(lines: List[str], machine: str, seed: int) -> List[str]:
+    """The text, whose lines have their places, as a user sees it."""
+    return [*folded(lines), *advice(lines, machine, seed)]
+
+
+def lines_of_hunt(hunt: Hunt) -> List[str]:
     """All lines of the text. What names a place in a source stands behind it, as ./hunt writes it."""
+    return finished(list(told_lines(hunt)), hunt.machine["machine"], hunt.seed)
+
+
+def told_lines(hunt: Hunt) -> Iterator[str]:
     yield head_line(hunt)
     yield found_line(hunt)
-    for race in hunt.of_kind("race"):
+    yield kinds_line(hunt)
+    for race in hunt.telling("race"):
         yield f"race {counted(race.count)}{with_places(race.members['race'], race)}"
-    for ending in hunt.of_kind("end"):
+    for ending in hunt.telling("end"):
         yield f"end {counted(ending.count)} {with_places(ending.members['end'], ending)}"
         yield from (f"    {word}" for word in ending.members.get("words", ()))
-        yield from result_lines([result for result in hunt.of_kind("result") if result.members["end"] == ending.members["end"]])
-    for line in hunt.of_kind("missed"):
+        yield from result_lines([result for result in hunt.telling("result") if result.members["end"] == ending.members["end"]])
+    for line in hunt.telling("missed"):
         yield f"missed {counted(line.count)} {decoded(line.members['missed'].encode('latin-1'))}"  # it has a character a byte
     if hunt.left_out:
         yield f"left out {hunt.left_out}"
-    yield from both_orders(hunt.machine["machine"], hunt.seed, hunt.flaws["race"].first)
-
-
-def both_orders(machine: str, seed: int, run: Optional[int]) -> Iterator[str]:
-    """How both orders of the first race are seen, which this run has, None where none has one."""
-    if run is not None:
-        yield f"both orders of a race, as short records: tools/witness --run {run} {'' if seed == 1 else f'--seed {seed} '}{machine}"
 
 
 def with_places(text: str, told: Told) -> str:

@@ -5,15 +5,15 @@ import re
 from typing import Any, Dict, Iterator, List, Optional
 
 from celltools.common.texts import MOST_BYTES, bytes_of
+from celltools.hunt.outputs import Explained, has_fault
 from celltools.run.hunted import record_of_hunt
 from celltools.run.runs import Refused
 from celltools.run.snapshots import Snapshot
 from celltools.source.sites import Sites
-from celltools.telling.faults import faults_of, has_faults
+from celltools.telling.faults import faults_of
 from celltools.telling.waiting import waiting_of
 
 SITE = re.compile(r"\b(?:[xpear] (\d+) at 0x([0-9a-f]+)|(\d+) running at 0x([0-9a-f]+)|h (\d+))\b", re.A)
-MOST_EXPLAINED = 8  # endings, each of which costs a run
 FINE = "AllStopped"
 SOURCE = re.compile(rb"^[ \t]*source[ \t]+([^ \t#\n\r]+)", re.M)
 
@@ -48,17 +48,15 @@ class Explainer:
     """Says of endings what their processors wait for and what their faults were, by making the first run of each once more."""
 
     def __init__(self, machine: Snapshot, seed: int) -> None:
-        self.machine, self.seed, self.left = machine, seed, MOST_EXPLAINED
+        self.machine, self.seed, self.explained = machine, seed, Explained()
 
     def words(self, ending: str, run: int) -> List[str]:
         """What there is to say of the ending of a run; nothing of one where all has stopped as it should, nor where too many were explained."""
-        faulty = any(word in ending for word in ("badword", "badchannel", "dmafault"))
-        if ending.startswith(FINE) and not faulty or not self.left:
+        if not self.explained.takes(ending):
             return []
-        self.left -= 1
         record = record_of_hunt(self.machine, run, self.seed)
         waiting = [] if ending.startswith(FINE) else waiting_of(self.machine, record)
-        return [*waiting, *(faults_of(self.machine, record) if faulty else [])]
+        return [*waiting, *(faults_of(self.machine, record) if has_fault(ending) else [])]
 
 
 def sum_of_files(machine: str, others: List[str]) -> str:

@@ -3,7 +3,7 @@ rows before its race."""
 import dataclasses
 import os
 import tempfile
-from typing import List, Optional, Sequence, Tuple
+from typing import List, Optional, Sequence
 
 from celltools.picture.run import Run
 from celltools.run.snapshots import Snapshot

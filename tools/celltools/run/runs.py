@@ -5,9 +5,13 @@ import os
 import re
 import subprocess
 import sys
+from typing import TYPE_CHECKING, Iterable, List, Sequence, Union
 
 from celltools.common.repository import LAUNCH, built
 
+Path = Union[str, "os.PathLike[str]"]
+if TYPE_CHECKING:
+    Done = subprocess.CompletedProcess[str]
 UNPROVED = 3  # what it answers where the programs are to be run unproved
 
 # What to do next, by what `cell` says of a run.
@@ -28,7 +32,7 @@ class Refused(Exception):
     """What a tool tells where it can't answer."""
 
 
-def ended(command):
+def ended(command: Sequence[Path]) -> "Done":
     """A command that has ended, with what it wrote."""
     try:
         return subprocess.run(command, capture_output=True, encoding="utf-8", errors="backslashreplace")
@@ -36,13 +40,13 @@ def ended(command):
         raise Refused(f"{command[0]}: {why.strerror}") from None
 
 
-def said_of(done):
+def said_of(done: "Done") -> str:
     """What a program says of a fault, in one line."""
     lines = [line for line in done.stderr.splitlines() if line.strip() and not line.startswith("cell: running UNPROVED")]
     return lines[0].strip() if lines else f"it ended with status {done.returncode}, and said nothing"
 
 
-def next_step(said, machine, record):
+def next_step(said: str, machine: object, record: object) -> str:
     """What to do where `cell` says that, as an ending of the sentence."""
     for pattern, advice in ADVICE:
         found = re.search(pattern, said)
@@ -51,7 +55,7 @@ def next_step(said, machine, record):
     return ""
 
 
-def verdict(machine, record):
+def verdict(machine: Path, record: Path) -> List[str]:
     """What `check` says of a record, line by line. Refused where it finds that the record is no run of the machine file."""
     done = asked("cell_cli", "check", machine, record)
     if done.returncode not in (0, 1) or not done.stdout:
@@ -60,17 +64,17 @@ def verdict(machine, record):
     return done.stdout.splitlines()
 
 
-def why_no_run(said, machine, record):
+def why_no_run(said: str, machine: Path, record: Path) -> str:
     """What is known of a record that `cell` says to be no run of a machine file, as an ending of the sentence."""
     found = NO_RUN.search(said)
     if not found:
         return ""
     from celltools.telling import stale  # asks about the record's first steps, by this module
-    return "".join(f"\n    {line}" for line in stale.told(machine, record, found[1] and int(found[1])))
+    return "".join(f"\n    {line}" for line in stale.told(machine, record, int(found[1]) if found[1] else None))
 
 
 @functools.cache  # the sources are looked at once, however often a program is asked
-def prepare():
+def prepare() -> bool:
     """Sees that the programs are built, which tells how far it is where they aren't. Whether they are proved: False where they are to be run unproved."""
     status = subprocess.run([LAUNCH, "--build"], stdin=subprocess.DEVNULL).returncode
     if status not in (0, UNPROVED):
@@ -80,33 +84,33 @@ def prepare():
     return status == 0
 
 
-def asked(program, *words):
+def asked(program: str, *words: Path) -> "Done":
     """What a program answers."""
-    launcher = [built(program)] if prepare() else [LAUNCH, program]
+    launcher: List[Path] = [built(program)] if prepare() else [LAUNCH, program]
     return ended([*launcher, *words])
 
 
-def ask_tracer(form, machine, record, *more):
+def ask_tracer(form: str, machine: Path, record: Path, *more: str) -> List[str]:
     """The lines that a form of run_trace prints of a record."""
     done = asked("run_trace", form, os.fspath(machine), os.fspath(record), *more)
     if done.returncode:
         verdict(machine, record)  # says it in the words of `cell`, where the fault is in the files
-        raise Refused(f"run_trace: {said_of(done)}")
+        raise Refused(said_of(done))
     return done.stdout.splitlines()
 
 
 class Places:
     """A set of places in a record, from ranges: lines of the first and the last."""
 
-    def __init__(self, lines):
-        self.ranges = [tuple(map(int, line.split())) for line in lines]
+    def __init__(self, lines: Iterable[str]) -> None:
+        self.ranges = [(int(first), int(last)) for first, last in map(str.split, lines)]
         self.firsts = [first for first, _ in self.ranges]
 
-    def __contains__(self, place):
+    def __contains__(self, place: int) -> bool:
         at = bisect.bisect_right(self.firsts, place) - 1
         return at >= 0 and place <= self.ranges[at][1]
 
 
-def places_before(machine, record, place):
+def places_before(machine: Path, record: Path, place: int) -> Places:
     """The places that are ordered before a place."""
     return Places(ask_tracer("before", machine, record, str(place)))

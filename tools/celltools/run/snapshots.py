@@ -5,10 +5,10 @@ import tempfile
 from typing import Iterator, List, Optional, Tuple
 
 from celltools.common.texts import MOST_BYTES, MOST_RECORD_BYTES, bytes_of, lines_of, number_of
-from celltools.run.runs import Refused
+from celltools.run.runs import Path, Refused
 
 
-class Snapshot(os.PathLike):
+class Snapshot(os.PathLike[str]):
     """A file: as a path it is its copy, as a text what the user calls it."""
 
     def __init__(self, path: str, name: str) -> None:
@@ -45,7 +45,7 @@ def snapshots(machine: str, record: Optional[str] = None) -> Iterator[Tuple[Snap
         yield taken, None if record is None else snapshot(folder, "record", record, MOST_RECORD_BYTES)
 
 
-def record_lines(record: os.PathLike) -> List[str]:
+def record_lines(record: Path) -> List[str]:
     """The lines of a record file; Refused where there is none."""
     try:
         return lines_of(record, MOST_RECORD_BYTES)
@@ -53,9 +53,9 @@ def record_lines(record: os.PathLike) -> List[str]:
         raise Refused(f"{record}: {why.strerror}") from None
 
 
-def steps_of(record: os.PathLike) -> int:
+def steps_of(record: Path) -> int:
     """How many steps a record says that it has; Refused where it doesn't."""
-    found = next((line.split() for line in record_lines(record) if line.startswith("steps ")), [])
+    found: List[str] = next((line.split() for line in record_lines(record) if line.startswith("steps ")), [])
     count = number_of(found[1]) if len(found) == 2 else None
     if count is None:
         raise Refused(f"{record} has no line `steps N`: it is no record, or only a part of one")

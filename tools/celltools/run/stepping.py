@@ -4,11 +4,12 @@ The list of the steps is all that is kept. The machine is made anew from it at e
 """
 import pathlib
 import re
+from typing import Dict, List, Optional, Sequence, Tuple
 
-from celltools.run.effects import MEMORY_LINE, Trace
+from celltools.run.effects import MEMORY_LINE, Span, Trace
 from celltools.run.machine_state import State
 from celltools.run.records import plain_record, record_text
-from celltools.run.runs import Refused, ask_tracer, asked, next_step, said_of
+from celltools.run.runs import Path, Refused, ask_tracer, asked, next_step, said_of
 
 SHOW_LINE = re.compile(rb"^[ \t]*show[ \t].*$", re.M)
 SIZE_LINE = re.compile(rb"^[ \t]*lines[ \t]+(\w+)", re.M)
@@ -17,27 +18,33 @@ KEPT_STATES = 8
 EMPTY_RECORD = "cell: record file, line 1"  # what `cell` says of an empty record, behind a machine file that is right
 
 
-def refuse_machine(machine):
+def refuse_machine(machine: Path) -> None:
     """Refused where `cell` refuses the machine file: it is asked about an empty record."""
     said = said_of(asked("cell_cli", "check", machine, "/dev/null"))
     if said != EMPTY_RECORD:
         raise Refused(said + next_step(said, machine, ""))
 
 
+def size_in(text: bytes) -> int:
+    """How many lines main memory has, by a machine file that `cell` takes."""
+    found = SIZE_LINE.search(text)
+    return int(found[1], 0) if found else 0
+
+
 class Way:
     """A way of going on that was left for another: its steps from `base` on, up to which it is one with the run, and `place`, where it was left."""
 
-    def __init__(self, place, lines):
+    def __init__(self, place: int, lines: List[str]) -> None:
         self.place = self.base = place
         self.lines = lines
 
     @property
-    def ahead(self):
+    def ahead(self) -> int:
         """How many of its steps lie behind the place where it was left."""
         return self.base + len(self.lines) - self.place
 
     @property
-    def next_head(self):
+    def next_head(self) -> str:
         """The first step that lay ahead where it was left."""
         return self.lines[self.place - self.base].partition(" | ")[0]
 
@@ -45,31 +52,33 @@ class Way:
 class Run:
     """The steps of a run, up to `place` made and from there on ahead."""
 
-    def __init__(self, machine, folder):
-        self.origin = None  # the record that it is from
+    def __init__(self, machine: Path, folder: Path) -> None:
+        self.origin: Optional[Path] = None  # the record that it is from
         refuse_machine(machine)
         self.machine, self.folder = machine, pathlib.Path(folder)
         self.text = SHOW_LINE.sub(b"", pathlib.Path(machine).read_bytes())
-        self.memory = MEMORY_LINE * int(SIZE_LINE.search(self.text)[1], 0)
-        self.trace, self.heads, self.place = Trace([]), [], 0
-        self.left = []  # the ways that were left, the latest last
+        self.memory = MEMORY_LINE * size_in(self.text)
+        self.trace, self.place = Trace([]), 0
+        self.heads: List[str] = []
+        self.left: List[Way] = []  # the ways that were left, the latest last
         self.is_unkept = False  # whether steps were made that stand in no file
-        self.states, self.is_written = {}, False
+        self.states: Dict[int, State] = {}
+        self.is_written = False
         self.spes = len(self.state().spes)
 
-    def follow(self, record):
+    def follow(self, record: Path) -> None:
         """Takes all steps of a record as those ahead."""
         self.extend(ask_tracer("effects", self.machine, record))
         self.origin = record
 
     # ---- the steps
 
-    def extend(self, lines):
+    def extend(self, lines: Sequence[str]) -> None:
         self.trace.extend(lines)
         self.heads += [line.partition(" | ")[0] for line in lines]
         self.is_written = False
 
-    def cut(self):
+    def cut(self) -> None:
         """Leaves the steps that lie ahead, and keeps them in mind."""
         for way in self.left:
             if way.base > self.place:
@@ -78,7 +87,7 @@ class Run:
         self.left.append(Way(self.place, self.lines()))
         self.drop(self.place)
 
-    def drop(self, place):
+    def drop(self, place: int) -> None:
         """Forgets the steps from a place on, which were just made, and goes there."""
         self.place = place
         self.trace.cut(place)
@@ -86,7 +95,7 @@ class Run:
         self.states = {known: state for known, state in self.states.items() if known <= place}
         self.is_written = False
 
-    def take_way(self, number):
+    def take_way(self, number: int) -> None:
         """Goes back to where a way was left, the first of which has the number 0, and lays its steps ahead again."""
         way = self.left.pop(number)
         self.place = way.base
@@ -96,21 +105,21 @@ class Run:
         self.place = way.place
 
     @property
-    def ahead(self):
+    def ahead(self) -> int:
         """How many steps lie ahead."""
         return len(self.heads) - self.place
 
     @property
-    def next_head(self):
+    def next_head(self) -> Optional[str]:
         """The next step that lies ahead; None where none does."""
         return self.heads[self.place] if self.ahead else None
 
-    def lines(self, most=None):
+    def lines(self, most: Optional[int] = None) -> List[str]:
         """The steps that lie ahead, with their effects."""
         end = None if most is None else self.place + most
         return self.trace.lines[self.place:end]
 
-    def take(self, lines, state=None):
+    def take(self, lines: Sequence[str], state: Optional[State] = None) -> None:
         """Makes these steps, behind which the machine stands so. What lies ahead is left where it isn't as they are."""
         end = self.place + len(lines)
         known = self.trace.lines[self.place:end]
@@ -125,25 +134,25 @@ class Run:
         if state:
             self.keep(end, state)
 
-    def record(self):
+    def record(self) -> str:
         """The record of the steps made so far."""
         return record_text(self.heads[:self.place])
 
     # ---- the machine
 
-    def keep(self, place, state):
+    def keep(self, place: int, state: State) -> None:
         self.states[place] = state
         while len(self.states) > KEPT_STATES:
             del self.states[next(iter(self.states))]
 
-    def state(self, place=None):
+    def state(self, place: Optional[int] = None) -> State:
         """How the machine stands behind so many steps, now where no number is given."""
         place = self.place if place is None else place
         if place not in self.states:
             self.keep(place, self.ask(place)[1])
         return self.states[place]
 
-    def bytes_of(self, span, place=None):
+    def bytes_of(self, span: Span, place: Optional[int] = None) -> bytes:
         """Bytes as they stand behind so many steps."""
         where = "mem" if span.spe is None else f"ls {span.spe}"
         parts = [(span.at + k, min(MOST_SHOWN, span.size - k)) for k in range(0, span.size, MOST_SHOWN)]
@@ -152,11 +161,11 @@ class Run:
         self.keep(place, state)
         return b"".join(state.shown)
 
-    def make(self, numbers):
+    def make(self, numbers: Sequence[int]) -> Tuple[List[str], State]:
         """The steps that numbers choose from here, with their effects, and how the machine stands behind them. They aren't taken yet."""
         return self.ask(self.place, numbers)
 
-    def ask(self, place, numbers=(), shows=()):
+    def ask(self, place: int, numbers: Sequence[int] = (), shows: Sequence[str] = ()) -> Tuple[List[str], State]:
         """What run_trace tells behind so many steps, if then the steps are made that numbers choose: their effects, and the state."""
         machine, record, choices = (self.folder / name for name in ("machine", "record", "choices"))
         machine.write_bytes(self.text + "\n".join(["", *shows, ""]).encode())
@@ -167,5 +176,5 @@ class Run:
         done = asked("run_trace", "go", str(machine), str(record), str(place), str(choices))
         effects, mark, state = ("\n" + done.stdout).partition("\nend ")
         if done.returncode or not mark:
-            raise Refused(f"run_trace: {said_of(done)}")
+            raise Refused(said_of(done))
         return effects.splitlines()[1:], State(("end " + state).splitlines())

@@ -1,5 +1,6 @@
 """The names that spu_mfcio.h and GNU as have for channels, commands and events of this machine, and the channels that instructions name."""
 import re
+from typing import Optional
 
 NAMES = {
     0: "SPU_RdEventStat", 1: "SPU_WrEventMask", 2: "SPU_WrEventAck", 3: "SPU_RdSigNotify1", 4: "SPU_RdSigNotify2", 11: "SPU_RdEventMask",
@@ -33,29 +34,29 @@ NUMBERED = re.compile(r"(?:ch|\$(?:ch)?)0*(\d{1,3})", re.I | re.A)
 READ, COUNT, WRITE = 0x00D, 0x00F, 0x10D  # the opcodes of `rdch`, `rchcnt` and `wrch`
 
 
-def events_in(bits):
+def events_in(bits: int) -> str:
     """A set of events in words."""
     named = [words for bit, words in EVENT_WORDS.items() if bits & bit]
     return f"0x{bits:08x} ({', '.join(named) or 'no event'})"
 
 
-def channel_named(word):
+def channel_named(word: str) -> Optional[int]:
     """The number of a channel by a name of it, as $ch29 or SPU_RdInMbox, in either case and also without the $; None for any other word."""
     found = NUMBERED.fullmatch(word)
     number = int(found[1]) if found else OF_NAMES.get(word.removeprefix("$").lower())
     return number if number is not None and number <= MOST else None
 
 
-def channel_name(number):
+def channel_name(number: int) -> str:
     """The number of a channel, with its name where it has one."""
     return f"channel {number}" + (f", {NAMES[number]}" if number in NAMES else "")
 
 
-def channel_of(word):
+def channel_of(word: int) -> Optional[int]:
     """The channel that an instruction reads, counts or writes, if it does."""
     return word >> 7 & MOST if word >> 21 in (READ, COUNT, WRITE) else None
 
 
-def may_wait(word):
+def may_wait(word: int) -> bool:
     """Whether an instruction waits where its channel isn't ready."""
     return word >> 21 in (READ, WRITE)

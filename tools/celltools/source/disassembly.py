@@ -2,6 +2,7 @@
 import pathlib
 import subprocess
 import tempfile
+from typing import Dict, Iterable, Mapping, Tuple
 
 from celltools.common.repository import CELL
 from celltools.run.runs import Refused
@@ -9,7 +10,7 @@ from celltools.run.runs import Refused
 MOST_WORDS = 256  # that a line of a script may ask for
 
 
-def instructions(words, program=CELL):
+def instructions(words: Mapping[int, bytes], program: pathlib.Path = CELL) -> Dict[int, str]:
     """The instruction at each address of some words of four bytes; ValueError with the program's words where it refuses."""
     if not words:
         return {}
@@ -29,10 +30,10 @@ def instructions(words, program=CELL):
 class Disassembler:
     """The texts of the words that were asked for, each with its address."""
 
-    def __init__(self):
-        self.known = {}
+    def __init__(self) -> None:
+        self.known: Dict[Tuple[int, int], str] = {}
 
-    def learn(self, places):
+    def learn(self, places: Iterable[Tuple[int, int]]) -> None:
         """Asks for all words at once that aren't known; an address stands for one word at a time."""
         new = {at: word for at, word in places if (at, word) not in self.known}
         try:
@@ -41,7 +42,7 @@ class Disassembler:
             raise Refused(str(why)) from None
         self.known.update({(at, word): texts[at] for at, word in new.items()})
 
-    def text(self, at, word):
+    def text(self, at: int, word: int) -> str:
         """The text of a word that stands at an address."""
         self.learn([(at, word)])
         return self.known[at, word]

@@ -1,6 +1,6 @@
 """What the tools know of the language of docs/ASSEMBLER.md: its mnemonics, directives, numbers and statements."""
 import re
-from typing import Iterator, List, Optional, Tuple
+from typing import Dict, Iterator, List, Optional, Tuple
 
 from celltools.common.repository import ROOT
 
@@ -63,7 +63,7 @@ BITS = 64  # of a number
 STORE = 262_144  # bytes of a local store
 
 
-def operand_forms():
+def operand_forms() -> Dict[str, str]:
     """For each mnemonic the form of its operands, a key of FORMS."""
     rows = dict(ROW.findall(TABLE.read_text(encoding="utf-8")))
     return {**rows, "lr": "RtRa"}
@@ -121,5 +121,6 @@ def cut(text: str, mark: str) -> List[str]:
 
 def is_text_section(word: str, rest: str) -> bool:
     """Whether a section directive goes on in the text."""
-    name = NAME_OF_SECTION.match(rest)[1]
+    found = NAME_OF_SECTION.match(rest)
+    name = found[1] if found else ""
     return word == ".text" or word == ".section" and (name == ".text" or name.startswith(".text."))

@@ -74,8 +74,8 @@ def next_multiple(number: int, size: int) -> int:
 @functools.lru_cache(maxsize=MOST_KEPT)  # most lines of a long source are blank, or others again
 def parts_of(line: bytes) -> Tuple[str, str, str]:
     """The labels of a line of a source that isn't refused, its first word, and what follows."""
-    labels, word, rest = LABELS.fullmatch(COMMENT.sub(lambda found: found[1] or " ", line.decode("latin1")).strip(BLANKS)).groups()
-    return labels, word, rest.strip(BLANKS)
+    found = LABELS.fullmatch(COMMENT.sub(lambda found: found[1] or " ", line.decode("latin1")).strip(BLANKS))
+    return (found[1], found[2], found[3].strip(BLANKS)) if found else ("", "", "")
 
 
 def statements(lines: List[bytes]) -> Iterator[Statement]:
@@ -95,7 +95,7 @@ def size_of(word: str, rest: str) -> int:
     if word in STRINGS:
         return len(CHARACTER.findall(rest[1:-1])) + (word != ".ascii")
     if word in SPACES:
-        return number_in(rest)
+        return number_in(rest) or 0
     return 0 if not word or word.startswith(".") else 4
 
 
@@ -105,9 +105,9 @@ def end_of(statement: Statement, at: int) -> int:
     if not word:
         return at
     if word == ".org":
-        return number_in(rest)
+        return number_in(rest) or 0
     if word in ALIGNMENTS:
-        return next_multiple(at, 1 << max(number_in(rest), 2 if in_text else 0))
+        return next_multiple(at, 1 << max(number_in(rest) or 0, 2 if in_text else 0))
     return at + size_of(word, rest)
 
 

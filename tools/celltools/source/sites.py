@@ -1,12 +1,14 @@
 """Where the instructions of a machine come from: of each processor's addresses the file, the line and the text that was placed there."""
 import functools
 import re
+from typing import Dict, Iterable, Iterator, List, Optional, Sequence, Set, Tuple
 
 from celltools.common.texts import lines_of
-from celltools.run.runs import Refused
+from celltools.run.effects import Trace
+from celltools.run.runs import Path, Refused
 from celltools.source.language import without_comments
-from celltools.source.names import Names, named_by_labels, named_range
-from celltools.source.placed import LABELS, placed_lines
+from celltools.source.names import Named, Names, named_by_labels, named_range
+from celltools.source.placed import LABELS, Line, Place, placed_lines
 
 ORIGIN = re.compile(r"\s*(\S+:\d+)(?:\s|$)")  # what from_gas puts at the front of a line's comment
 LINE_OF = re.compile(r"(\S+?:\d+)(?::\d+)?")  # of an origin, which may have a column behind it
@@ -16,7 +18,7 @@ WORD = re.compile(r"[^ \t]+")  # of a machine file
 MOST_CALLS = 64  # nested calls that are kept in mind
 
 
-def sets_link(word):
+def sets_link(word: int) -> bool:
     """Whether an instruction is a branch that sets a link."""
     return any(word >> shift == opcode for shift, opcode in CALLS)
 
@@ -24,46 +26,46 @@ def sets_link(word):
 class Site:
     """A line that placed an instruction."""
 
-    def __init__(self, file, number, text, word, origin=None, is_source=True):
+    def __init__(self, file: object, number: int, text: str, word: int, origin: Optional[str] = None, is_source: bool = True) -> None:
         self.file, self.number, self.text, self.word, self.origin, self.is_source = file, number, text, word, origin, is_source
 
     @property
-    def place(self):
+    def place(self) -> str:
         return f"{self.origin} ({self.file}:{self.number})" if self.origin else f"{self.file}:{self.number}"
 
     @property
-    def origin_line(self):
+    def origin_line(self) -> Optional[str]:
         """The origin without its column."""
-        return self.origin and LINE_OF.fullmatch(self.origin)[1]
+        found = LINE_OF.fullmatch(self.origin or "")
+        return found[1] if found else None
 
-    def __str__(self):
+    def __str__(self) -> str:
         return f"{self.place}: {self.text}"
 
-    def is_call(self):
+    def is_call(self) -> bool:
         return sets_link(self.word)
 
 
-def statement_of(text):
+def statement_of(text: str) -> Tuple[str, Optional[str]]:
     """A line's statement without its labels, and where it came from by its comment."""
-    bare = without_comments(text)
-    _, word, rest = LABELS.fullmatch(bare).groups()
+    bare = LABELS.fullmatch(without_comments(text))
     found = ORIGIN.match(text.partition("#")[2])
-    return " ".join((word + rest).split()), found[1] if found else None
+    return " ".join((bare[2] + bare[3]).split()) if bare else "", found[1] if found else None
 
 
-def source_lines(name):
+def source_lines(name: str) -> List[Line]:
     """The lines of a source, as they are placed."""
     try:
-        return placed_lines(name)
+        return list(placed_lines(name))
     except OSError as why:
         raise Refused(f"{name}: {why.strerror}") from None
     except ValueError as why:
         raise Refused(f"{name}: {why}") from None
 
 
-def groups_of(lines):
+def groups_of(lines: Iterable[Line]) -> Iterator[List[Line]]:
     """The lines behind each line that has labels or an `.org`, with it, up to the next such line."""
-    group = []
+    group: List[Line] = []
     for line in lines:
         if line.labels or line.word == ".org":
             yield group
@@ -72,15 +74,15 @@ def groups_of(lines):
     yield group
 
 
-def source_labels(lines):
+def source_labels(lines: Iterable[Line]) -> Dict[str, Place]:
     """The labels of a source: of each its address, and how many bytes stand behind it up to the next label or the next `.org`."""
     sizes = ((group[0], sum(len(line.data) for line in group)) for group in groups_of(lines) if group)
     return {label: (line.address, size) for line, size in sizes for label in line.labels}
 
 
-def source_sites(name, lines):
+def source_sites(name: str, lines: Iterable[Line]) -> Dict[int, Site]:
     """The sites of a source's text and data, by their addresses."""
-    sites = {}
+    sites: Dict[int, Site] = {}
     for line in lines:
         statement, origin = statement_of(line.text)
         for at in range(0, len(line.data), 4):
@@ -89,13 +91,13 @@ def source_sites(name, lines):
     return sites
 
 
-def code_sites(name, number, address, digits):
+def code_sites(name: object, number: int, address: int, digits: str) -> Dict[int, Site]:
     """The sites of a `code` or `bytes` line of a machine file."""
     words = {at: digits[2 * at : 2 * at + 8].ljust(8, "0") for at in range(0, len(digits) // 2, 4)}
     return {address + at: Site(name, number, f"the word 0x{word}", int(word, 16), is_source=False) for at, word in words.items()}
 
 
-def machine_lines(machine, name):
+def machine_lines(machine: Path, name: object) -> List[str]:
     """The lines of a machine file, which has a name."""
     try:
         return lines_of(machine)
@@ -110,11 +112,15 @@ class Sites:
     `name` is what the user calls the machine file, where another one is read in its place.
     """
 
-    def __init__(self, machine, name=None):
-        self.machine, self.of_processor, self.labels, self.script = name or machine, [], [], []
-        self.or_modes = set()  # the processors and numbers of the signal registers in OR mode
-        self.stores, self.memory = [], []  # the ranges that have names, of each processor's store and of main memory
-        self.sources = {}  # by their names the sites and the labels of each
+    def __init__(self, machine: Path, name: Optional[str] = None) -> None:
+        self.machine = name or machine
+        self.of_processor: List[Dict[int, Site]] = []
+        self.labels: List[Dict[str, Place]] = []
+        self.script: List[Tuple[int, str]] = []
+        self.or_modes: Set[Tuple[int, int]] = set()  # the processors and numbers of the signal registers in OR mode
+        self.stores: List[List[Named]] = []  # the ranges that have names, of each processor's store
+        self.memory: List[Named] = []  # and of main memory
+        self.sources: Dict[str, Tuple[Dict[int, Site], Dict[str, Place]]] = {}  # by their names the sites and the labels of each
         for number, line in enumerate(machine_lines(machine, self.machine), 1):
             self.memory += filter(None, [named_range(line)])
             try:
@@ -122,7 +128,7 @@ class Sites:
             except (IndexError, ValueError):
                 raise Refused(f"{self.machine}:{number}: no line of a machine file\n    tools/explain {self.machine} says it in words") from None
 
-    def read(self, number, words):
+    def read(self, number: int, words: Sequence[str]) -> None:
         """Takes in a line of the machine file."""
         if words[:1] == ["spe"]:
             self.of_processor.append({})
@@ -140,7 +146,7 @@ class Sites:
         elif words[:1] == ["ormode"]:
             self.or_modes.add((int(words[1], 0), int(words[2], 0)))
 
-    def of_source(self, name):
+    def of_source(self, name: str) -> Tuple[Dict[int, Site], Dict[str, Place]]:
         """The sites and the labels of a source, which is read once."""
         if name not in self.sources:
             lines = source_lines(name)
@@ -148,16 +154,16 @@ class Sites:
         return self.sources[name]
 
     @functools.cached_property
-    def names(self):
+    def names(self) -> Names:
         """The names of the places of the machine."""
         return Names(self.stores, self.memory)
 
-    def at(self, spe, address):
+    def at(self, spe: int, address: int) -> Site:
         """The site of an instruction."""
         found = self.of_processor[spe].get(address)
         return found or Site(self.machine, 0, f"nothing was placed at 0x{address:05x} of the store", 0)
 
-    def action(self, number):
+    def action(self, number: int) -> str:
         """The host's action of a number."""
         line, text = self.script[number]
         return f"{self.machine}:{line}: {text}"
@@ -166,11 +172,12 @@ class Sites:
 class Calls:
     """The calls that are open, as instructions come one after the other: of branches that set a link, until what stands behind one is executed."""
 
-    def __init__(self, sites):
+    def __init__(self, sites: Sites) -> None:
         self.calls = [{at for at, site in found.items() if site.is_call()} for found in sites.of_processor]
-        self.open, self.led = [[] for _ in self.calls], {}  # of each processor the (place, address behind) of its calls, and of the branch that it made last
+        self.open: List[List[Place]] = [[] for _ in self.calls]  # of each processor the (place, address behind) of its calls
+        self.led: Dict[int, Place] = {}  # and of the branch that it made last
 
-    def take(self, place, line):
+    def take(self, place: int, line: str) -> Optional[int]:
         """Takes in an instruction, and answers the place of the branch that called its routine; None where none did."""
         words = line.split(" ", 6)
         spe, at = int(words[1]), int(words[5])
@@ -179,7 +186,7 @@ class Calls:
             self.led[spe] = place, at + 4
         return self.open[spe][-1][0] if self.open[spe] else None
 
-    def come(self, spe, at):
+    def come(self, spe: int, at: int) -> None:
         """A processor comes to an address."""
         stack = self.open[spe]
         if spe in self.led:
@@ -190,15 +197,16 @@ class Calls:
         if stack:
             leave(stack, at)
 
-    def innermost(self, spe, at):
+    def innermost(self, spe: int, at: int) -> Optional[int]:
         """The address of the branch that called the routine in which a processor is that stands at an address; None where none did."""
         self.come(spe, at)
         return self.open[spe][-1][1] - 4 if self.open[spe] else None
 
 
-def callers(trace, sites):
+def callers(trace: Trace, sites: Sites) -> Dict[int, int]:
     """Of each instruction of a routine, the place of the branch that called it."""
-    calls, called = Calls(sites), {}
+    calls = Calls(sites)
+    called: Dict[int, int] = {}
     for place, line in enumerate(trace.lines):
         if line[0] == "x":
             caller = calls.take(place, line)
@@ -207,7 +215,7 @@ def callers(trace, sites):
     return called
 
 
-def leave(stack, at):
+def leave(stack: List[Place], at: int) -> None:
     """Takes off the calls behind which an address stands, with those that were made within."""
     for depth in range(len(stack) - 1, -1, -1):
         if stack[depth][1] == at:

@@ -1,10 +1,10 @@
 """Which register an instruction writes, by its word: docs/INSTRUCTIONS.md has the formats."""
-from typing import Optional
+from typing import Dict, Optional, Set
 
 TOP_BITS = (4, 7, 8, 9, 11)  # that an opcode may have
 OF_FOUR = {0x8, 0xB, 0xC}  # selb, shufb and mpya have their target in bits 4 to 10, all others in bits 25 to 31
 # Of each length the opcodes that write no register.
-WITHOUT = {
+WITHOUT: Dict[int, Set[int]] = {
     4: set(),
     7: {0x08, 0x09},  # hbra, hbrr
     8: {0x24, 0x4F, 0x5F, 0x7F},  # stqd; hgti, hlgti, heqi

@@ -10,6 +10,7 @@ from celltools.source.sites import Sites
 FETCH = re.compile(r"x (\d+) \| fetch \d+ (\d+)")
 STORED = re.compile(r" \| write (\d+) (\d+) (\d+)")
 WORD_BYTES = 4
+NOTHING = -1, -1  # where a step is no instruction
 ROW = 16  # bytes: no store writes fewer
 
 
@@ -44,7 +45,7 @@ class Executed:
 
     def word(self, place: int) -> int:
         """The word of the instruction of a step."""
-        spe, at = self.fetched(place)
+        spe, at = self.fetched(place) or NOTHING
         self.look(place)
         writers = self.written.get((spe, at // ROW), ())
         before = bisect.bisect_left(writers, place)

@@ -2,12 +2,12 @@
 
 docs/PROFILE.md has the rules, each with the kind of fault that a status names, in the order in which they are tested.
 """
-import os
 import tempfile
 from typing import Callable, Dict, Iterable, Iterator, List, NamedTuple, Optional, Tuple
 
 from celltools.run.effects import MEMORY_LINE, Trace
 from celltools.run.machine_state import Spe, State
+from celltools.run.runs import Path
 from celltools.run.stepping import Run
 from celltools.source.channels import COMMANDS, NAMES, READ, WRITE, channel_name, channel_of
 from celltools.source.language import STORE
@@ -148,7 +148,7 @@ def broken_by_element(place: int, ea: int, size: int, owner: Owner) -> Broken:
 
 def broken_by_channel(word: int) -> str:
     """Why a processor can't execute an instruction of a channel."""
-    channel, opcode = channel_of(word), word >> 21
+    channel, opcode = channel_of(word) or 0, word >> 21
     way = {READ: "reads", WRITE: "writes"}.get(opcode, "counts")
     if channel not in NAMES:
         return f"it {way} {channel_name(channel)}, which isn't there"
@@ -170,7 +170,7 @@ class Faults:
         if spe.status.startswith("badword"):
             return f"the word 0x{spe.word:08x} spells no instruction"
         if spe.status.startswith("badchannel"):
-            return broken_by_channel(spe.word)
+            return broken_by_channel(spe.word or 0)
         return self.of_element(spe) if self.is_element(spe) else self.of_command(spe, state)
 
     def line(self, spe: Spe, state: State) -> Optional[str]:
@@ -191,7 +191,7 @@ class Faults:
 
     def of_command(self, spe: Spe, state: State) -> str:
         """Why a command was refused that a processor was to issue."""
-        opcode = int(spe.register(spe.word & 0x7F)[:8], 16)
+        opcode = int(spe.register((spe.word or 0) & 0x7F)[:8], 16)
         params = fields_of(next(line for number, line in state.flows if number == spe.number and line.startswith("flow ")))[1]["params"]
         lsa, high, low, size, tag = map(int, params)
         name = NAMES_OF_COMMANDS.get(opcode & LOW_HALF)
@@ -200,11 +200,11 @@ class Faults:
     def of_element(self, spe: Spe) -> str:
         """Why an element was refused. No step has changed its words since it was read."""
         trace, last = self.run.trace, self.last_step(spe)
-        step = trace.steps[last]
-        command, number = trace.commands[step.command_key()], trace.element_of(last)[2]
-        words = self.run.bytes_of(step.reads)
+        step, found = trace.steps[last], trace.element_of(last)
+        command, number = trace.command_of(step), found[2] if found else 0
+        words = self.run.bytes_of(step.reads) if step.reads else b""
         size, ea = int.from_bytes(words[:4], "big") % ELEMENT_SIZES, int.from_bytes(words[4:], "big")
-        issue = trace.issues[step.command_key()]
+        issue = trace.issues[command.key]
         what = f"element {number} of command {command.number} ({name_of(command)}, issued in step {issue}, at {Teller(trace, self.standing.sites).site(issue)})"
         return said(spe, what, broken_by_element(place_behind(trace, command.ls, last), ea, size, self.owner(spe)))
 
@@ -220,8 +220,8 @@ def has_faults(lines: List[str]) -> bool:
 
 def place_behind(trace: Trace, lsa: int, last: int) -> int:
     """The place in the store of the element that is read in a step, behind those of its list that were read before."""
-    key, place = trace.steps[last].command_key(), lsa - lsa % WHOLE
-    for element in (trace.steps[at].element_read() for at in trace.elements[key] if at < last):
+    key, place = trace.command_of(trace.steps[last]).key, lsa - lsa % WHOLE
+    for element in filter(None, (trace.steps[at].element_read() for at in trace.elements[key] if at < last)):
         low = element.ea % WHOLE if element.size < WHOLE else 0
         place = -(-(place + low + element.size) // WHOLE) * WHOLE if element.size else place
     return place
@@ -234,7 +234,7 @@ def said(spe: Spe, what: str, broken: Broken) -> str:
     return f"{what} is refused: {words}"
 
 
-def faults_of(machine: os.PathLike, record: os.PathLike, steps: Optional[int] = None) -> List[str]:
+def faults_of(machine: Path, record: Path, steps: Optional[int] = None) -> List[str]:
     """A line for each processor that has a fault behind so many steps of a record, or all: where it is, by its file and line, and what its fault was.
     Refused where that can't be told."""
     with tempfile.TemporaryDirectory(prefix="cell-faults-") as folder:

@@ -1,20 +1,23 @@
 """Says in words what the flow controllers, mailboxes and signal registers of a run hold, from the lines that run_trace prints of them."""
+from typing import Iterable, Iterator, List, Mapping, Optional, Sequence, Tuple
+
 from celltools.run.effects import Command
 from celltools.source.channels import SIGNAL_REGISTERS, events_in
-from celltools.source.names import NONE
+from celltools.source.names import NONE, Names
 from celltools.telling.words import ATOMIC, BOXES, name_of, signal_register, tags
 
+Told = Mapping[str, Sequence[str]]  # the fields of a line by their names
 HOW = {"0": "at once", "1": "any"}
 STATUSES = {"0": "PUTLLC stored", "1": "PUTLLC lost its line", "2": "PUTLLUC", "4": "GETLLAR"}
 
 
-def fields_of(line):
+def fields_of(line: str) -> Tuple[List[str], Told]:
     """The first field of a line of run_trace, and the others by their names."""
     first, *fields = (field.split() for field in line.split(" | "))
     return first, {name: words for name, *words in fields}
 
 
-def flow_lines(told, spe, names):
+def flow_lines(told: Told, spe: int, names: Names) -> Iterator[str]:
     """A processor's flow controller beside its outstanding commands, in words."""
     lsa, high, low, size, tag = map(int, told["params"])
     yield f"next command: LSA {names.address(spe, lsa)}, EAH 0x{high:x}, EAL 0x{low:x}, size {size}, tag {tag}"
@@ -28,8 +31,8 @@ def flow_lines(told, spe, names):
     if "stalls" in told:
         yield f"unread stall status: {groups_of(told['stalls'][0])}"
     if "atomic" in told:
-        kind, lsa, line = told["atomic"]
-        yield f"atomic command in its slot: {ATOMIC[kind]} of {names.line(int(line))}, {names.address(spe, int(lsa))} of the store"
+        kind, local, line = told["atomic"]
+        yield f"atomic command in its slot: {ATOMIC[kind]} of {names.line(int(line))}, {names.address(spe, int(local))} of the store"
     if "status" in told:
         status = told["status"][0]
         yield f"unread atomic status: {status}, {STATUSES.get(status, 'unknown')}"
@@ -40,47 +43,48 @@ def flow_lines(told, spe, names):
         yield f"{BOXES[box].removeprefix('the ')}: {', '.join(f'0x{int(value):x}' for value in told[box])}"
 
 
-def events_of(told):
+def events_of(told: Told) -> Tuple[int, int]:
     """The event mask and the pending events of a processor."""
-    return tuple(map(int, told.get("events", (0, 0))))
+    mask, pending = told.get("events", ("0", "0"))
+    return int(mask), int(pending)
 
 
-def event_lines(told):
+def event_lines(told: Told) -> List[str]:
     """The same in words."""
     mask, pending = events_of(told)
     return [f"event mask: {events_in(mask)}", f"pending events: {events_in(pending)}"]
 
 
-def signal_of(told, register):
+def signal_of(told: Told, register: int) -> Optional[int]:
     """What a signal register holds; None where it isn't ready."""
     value = told.get(f"sig{register}")
-    return value and int(value[0])
+    return int(value[0]) if value else None
 
 
-def signal_line(told, register, is_or):
+def signal_line(told: Told, register: int, is_or: bool) -> str:
     """The same in words."""
     value = signal_of(told, register)
     return f"signal register {register}: {'nothing' if value is None else f'0x{value:x}'}{', in OR mode' if is_or else ''}"
 
 
-def used_lines(told, in_or_mode):
+def used_lines(told: Told, in_or_mode: Sequence[int]) -> Iterator[str]:
     """The signal registers that are ready, of which those are in OR mode, and the events, where a mask has some: of all others a program sees nothing."""
     yield from (signal_line(told, register, register in in_or_mode) for register in SIGNAL_REGISTERS.values() if f"sig{register}" in told)
     yield from event_lines(told) if events_of(told)[0] else []
 
 
-def groups_of(groups):
+def groups_of(groups: str) -> str:
     return f"0x{int(groups):08x}, {tags(int(groups))}"
 
 
-def command_line(words, told, names):
+def command_line(words: Sequence[str], told: Told, names: Names) -> str:
     """An outstanding command in words."""
     spe, number, kind, mark, *rest = words
     command = Command(int(spe), int(number), kind, mark, *map(int, rest))
     return f"command {number}: {name_of(command)} of tag {command.tag}{moved(command, names)}{', '.join(['', *left_of(told, names)])}"
 
 
-def moved(command, names):
+def moved(command: Command, names: Names) -> str:
     """From where to where a command moves bytes."""
     if command.kind == "barrier":
         return ""
@@ -94,7 +98,7 @@ def moved(command, names):
     return f", {command.size} bytes from {source} to {target}"
 
 
-def left_of(told, names):
+def left_of(told: Told, names: Names) -> Iterator[str]:
     """What is left of an outstanding command."""
     if "read" in told:
         yield "{} of {} elements read".format(*told["read"])
@@ -109,7 +113,7 @@ def left_of(told, names):
         yield "stalled: it waits for an acknowledgement of its tag (`wrch` of channel 26)"
 
 
-def in_words(line, or_modes, names=NONE):
+def in_words(line: str, or_modes: Iterable[Tuple[int, int]], names: Names = NONE) -> List[str]:
     """A line of run_trace about a flow controller, a command or the host's script, in words; every other as it is. The registers of processors that are in
     OR mode are pairs of their numbers."""
     if not line.startswith(("flow ", "command ", "script ")):

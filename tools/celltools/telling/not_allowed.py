@@ -5,12 +5,13 @@ from typing import List, Sequence
 
 from celltools.run.machine_state import Spe, State, actor_of
 from celltools.run.records import record_text
+from celltools.run.runs import Path
 from celltools.run.stepping import Run
 from celltools.source.sites import Sites
 from celltools.telling.states import ENDS, Words
 
 
-def reason(machine: os.PathLike, folder: str, heads: Sequence[str], place: int) -> List[str]:
+def reason(machine: Path, folder: str, heads: Sequence[str], place: int) -> List[str]:
     """Why the step at a place of a record isn't allowed, the first that isn't."""
     room = os.path.join(folder, "before")
     os.makedirs(room, exist_ok=True)
@@ -28,7 +29,7 @@ def of_step(words: Words, state: State, head: str) -> List[str]:
         return [ENDS["Budget"]]
     if kind == "h":
         return [line.strip() for line in words.host(state)] or ["the machine file has no action of the host"]
-    if number >= len(state.spes):
+    if number is None or number >= len(state.spes):
         return [f"the machine file has no processor {number}"]
     spe = state.spes[number]
     return of_processor(words, state, spe) if kind == "x" else of_controller(words, state, spe, head)
@@ -46,7 +47,7 @@ def of_controller(words: Words, state: State, spe: Spe, head: str) -> List[str]:
         return [f"processor {spe.number} has a fault, {spe.status}: its flow controller makes no step any more"]
     if head.startswith("a "):
         return [f"no atomic command of processor {spe.number} is in its slot"]
-    key = tuple(map(int, head.split()[1:3]))
+    key = spe.number, int(head.split()[2])
     if key not in words.run.trace.commands:
         return [f"command {key[1]} of processor {spe.number} isn't issued before"]
     return [f"of processor {spe.number} these commands are outstanding:", *words.queue(spe.number, state)]

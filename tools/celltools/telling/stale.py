@@ -7,7 +7,7 @@ from typing import Iterator, List, Optional
 
 from celltools.common.texts import MOST_RECORD_BYTES, bytes_of, decoded
 from celltools.run.records import steps_in
-from celltools.run.runs import Refused
+from celltools.run.runs import Path, Refused
 from celltools.source.sites import machine_lines
 from celltools.telling.not_allowed import reason
 
@@ -19,7 +19,7 @@ NO_NAMES = ("/dev/", "/proc/")  # what is there stands for an open file
 SOURCE = re.compile(r"[ \t]*source[ \t]+([^ \t#]+)")
 
 
-def told(machine: os.PathLike, record: os.PathLike, place: Optional[int]) -> List[str]:
+def told(machine: Path, record: Path, place: Optional[int]) -> List[str]:
     """What there is to say of a record that `check` refuses: of its step at a place, where that isn't allowed, and of the files that are newer."""
     newer = list(newer_files(machine, record))
     lines = [] if place is None else told_step(machine, record, place)
@@ -28,7 +28,7 @@ def told(machine: os.PathLike, record: os.PathLike, place: Optional[int]) -> Lis
     return lines
 
 
-def told_step(machine: os.PathLike, record: os.PathLike, place: int) -> List[str]:
+def told_step(machine: Path, record: Path, place: int) -> List[str]:
     """What the step at a place is in the record, and how the machine stands there now."""
     heads = steps_in(decoded(bytes_of(record, MOST_RECORD_BYTES)))
     letter, *numbers = heads[place].split()
@@ -40,7 +40,7 @@ def told_step(machine: os.PathLike, record: os.PathLike, place: int) -> List[str
         return [f"{was}, it can't come there"]
 
 
-def newer_files(machine: os.PathLike, record: os.PathLike) -> Iterator[str]:
+def newer_files(machine: Path, record: Path) -> Iterator[str]:
     """The machine file and its sources, as far as they are newer than a record, by their times; none where the record is no file that has one."""
     made = changed_at(str(record))
     if made is None:

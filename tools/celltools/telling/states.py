@@ -1,8 +1,14 @@
 """Says in words how a run stands: its processors, flow controllers and host, and what its steps did."""
-from celltools.run.machine_state import actor_of
+from typing import Iterator, List, Optional, Sequence, Tuple
+
+from celltools.run.effects import Span, Step
+from celltools.run.machine_state import Spe, State, actor_of
+from celltools.run.stepping import Run
 from celltools.source.channels import SIGNAL_REGISTERS
+from celltools.source.names import Names
+from celltools.source.sites import Sites
 from celltools.telling.faults import Faults
-from celltools.telling.flows import command_line, event_lines, fields_of, flow_lines, signal_line
+from celltools.telling.flows import Told, command_line, event_lines, fields_of, flow_lines, signal_line
 from celltools.telling.waiting import Standing
 from celltools.telling.words import ATOMIC, Teller, with_article
 
@@ -15,17 +21,17 @@ ROW = 16  # bytes of a line
 LAST_PRINTABLE = 0x7E
 
 
-def quad(digits):
+def quad(digits: str) -> str:
     """A register's digits, word by word."""
     return " ".join(digits[k:k + 8] for k in range(0, 32, 8))
 
 
-def grouped(data, width):
+def grouped(data: bytes, width: int) -> str:
     """Bytes in hexadecimal, so many together."""
     return " ".join(data[k:k + width].hex() for k in range(0, len(data), width))
 
 
-def dump(span, data, names, width=None):
+def dump(span: Span, data: bytes, names: Names, width: Optional[int] = None) -> Iterator[str]:
     """The bytes of a span in rows, so many together, or four, each with its address, and where that has a name, with it."""
     for start in range(0, len(data), ROW):
         row = data[start:start + ROW]
@@ -38,17 +44,17 @@ def dump(span, data, names, width=None):
 class Words(Standing):
     """Says how one run stands."""
 
-    def __init__(self, run, sites):
+    def __init__(self, run: Run, sites: Sites) -> None:
         super().__init__(sites)
         self.run, self.faults = run, Faults(run, self)
 
-    def remark(self, spe, state):
+    def remark(self, spe: Spe, state: State) -> Optional[str]:
         """What a processor waits for, if it does, or of one that has a fault what it was."""
         return self.faults.of_processor(spe, state) or self.waits(spe, state)
 
     # ---- who may step
 
-    def actors(self, state):
+    def actors(self, state: State) -> Iterator[str]:
         """Who may step now, and how."""
         if not state.may:
             yield ENDS[state.end]
@@ -56,11 +62,11 @@ class Words(Standing):
         for step in state.may:
             yield f"{self.actor_name(step):4} {self.possible(step, state)}"
 
-    def actor_name(self, step):
+    def actor_name(self, step: str) -> str:
         kind, number = actor_of(step)
         return kind if number is None else f"{kind}{number}"
 
-    def possible(self, step, state):
+    def possible(self, step: str, state: State) -> str:
         """A step that may be made."""
         letter, *numbers = step.split()
         if letter == "x":
@@ -69,7 +75,7 @@ class Words(Standing):
             return f"the host: {self.sites.action(state.host[0])}"
         return f"{step}: {self.of_controller(letter, list(map(int, numbers)), state)}"
 
-    def of_controller(self, letter, numbers, state):
+    def of_controller(self, letter: str, numbers: Sequence[int], state: State) -> str:
         """A step of a flow controller."""
         spe = numbers[0]
         if letter == "a":
@@ -83,10 +89,10 @@ class Words(Standing):
 
     # ---- steps that were made
 
-    def teller(self):
+    def teller(self) -> Teller:
         return Teller(self.run.trace, self.sites)
 
-    def step(self, place):
+    def step(self, place: int) -> Iterator[str]:
         """What a step did."""
         teller = self.teller()
         step = self.run.trace.steps[place]
@@ -96,17 +102,17 @@ class Words(Standing):
         if issue is not None:
             yield f"    issued in step {issue}, at {teller.site(issue)}"
 
-    def calls(self, place):
+    def calls(self, place: int) -> List[str]:
         """From where the routine of a step was called, or that of its command's issue."""
         return [f"    {line}" for line in self.teller().origin(place)[1:]]
 
-    def site(self, teller, place, step):
+    def site(self, teller: Teller, place: int, step: Step) -> str:
         """Where an instruction or an action of the host stands; the instruction as it was then, where that is known."""
-        if step.kind == "instruction" and place in self.run.states:
+        if step.kind == "instruction" and step.spe is not None and place in self.run.states:
             return self.instruction(self.run.state(place).spes[step.spe])
         return teller.site(place)
 
-    def changed(self, before, after):
+    def changed(self, before: State, after: State) -> Iterator[str]:
         """The registers that differ between two states."""
         for old, new in zip(before.spes, after.spes):
             for number in sorted(old.registers.keys() | new.registers.keys()):
@@ -118,22 +124,22 @@ class Words(Standing):
 
     # ---- flow controllers
 
-    def queue(self, spe, state):
+    def queue(self, spe: int, state: State) -> List[str]:
         """The outstanding commands of a processor."""
         lines = [command_line(*self.command_fields(line), self.sites.names) for number, line in state.flows if number == spe and line.startswith("command ")]
         return lines or [f"no command of processor {spe} is in the queue"]
 
-    def command_fields(self, line):
+    def command_fields(self, line: str) -> Tuple[List[str], Told]:
         (_, *words), told = fields_of(line)
         return words, told
 
-    def tags(self, spe, state):
+    def tags(self, spe: int, state: State) -> Iterator[str]:
         """A processor's flow controller beside its queue."""
         return flow_lines(self.flow(spe, state), spe, self.sites.names)
 
     # ---- signals and events
 
-    def signals(self, spe, state):
+    def signals(self, spe: int, state: State) -> List[str]:
         """The signal registers and the events of a processor."""
         told = self.flow(spe, state)
         return [*(signal_line(told, register, (spe, register) in self.sites.or_modes) for register in SIGNAL_REGISTERS.values()), *event_lines(told)]

@@ -1,10 +1,11 @@
 """Says in words what the steps of a run are, with the lines of the sources that they come from."""
 import functools
 import re
+from typing import Dict, List, Optional
 
-from celltools.run.effects import has_group
+from celltools.run.effects import Command, Step, Trace, has_group
 from celltools.source.channels import EVENT_ACK, EVENT_MASK_READ, EVENT_MASK_WRITE, EVENT_STATUS, events_in
-from celltools.source.sites import callers
+from celltools.source.sites import Sites, callers
 
 COMMANDS = {"put": "PUT", "get": "GET", "putl": "PUTL", "getl": "GETL", "barrier": "BARRIER", "putqlluc": "PUTQLLUC",
             "sndsig": "SNDSIG"}
@@ -16,7 +17,7 @@ OF_EVENTS = {("rdch", EVENT_STATUS): "the reading of the event status", ("rdch",
              ("wrch", EVENT_MASK_WRITE): "the setting of the event mask", ("wrch", EVENT_ACK): "the acknowledgement of events"}
 
 
-def tags(groups):
+def tags(groups: int) -> str:
     """The tags of a set of groups."""
     named = [str(tag) for tag in range(32) if has_group(groups, tag)]
     if len(named) > 8:
@@ -24,68 +25,69 @@ def tags(groups):
     return "of no tag" if not named else ("of tag " if len(named) == 1 else "of tags ") + ", ".join(named)
 
 
-def name_of(command):
+def name_of(command: Command) -> str:
     return COMMANDS[command.kind] + MARKS[command.mark]
 
 
-def signal_register(number):
+def signal_register(number: int) -> str:
     """The signal register that a SNDSIG names by its effective address."""
     return f"signal register {number % 2 + 1} of processor {number // 2}"
 
 
-def counted(count, what):
+def counted(count: int, what: str) -> str:
     return f"{count} {what}" + ("" if count == 1 else "s")
 
 
-def with_article(name):
+def with_article(name: str) -> str:
     return f"{'an' if name[0] in 'AEIO' else 'a'} {name}"
 
 
 class Teller:
     """Says what the steps of one trace are."""
 
-    def __init__(self, trace, sites):
+    def __init__(self, trace: Trace, sites: Sites) -> None:
         self.trace, self.sites, self.names = trace, sites, sites.names
 
     @functools.cached_property
-    def called(self):
+    def called(self) -> Dict[int, int]:
         """Of each instruction of a routine, the place of the branch that called it."""
         return callers(self.trace, self.sites)
 
     @functools.cached_property
-    def hosts(self):
+    def hosts(self) -> List[int]:
         """The places of the host's actions."""
         return [place for place, line in enumerate(self.trace.lines) if line.startswith("h")]
 
-    def who(self, place):
+    def who(self, place: int) -> str:
         """The processor or the host whose step it is, that of a flow controller its processor."""
         spe = self.trace.steps[place].spe
         return "the host" if spe is None else f"processor {spe}"
 
-    def site(self, place):
+    def site(self, place: int) -> str:
         """Where an instruction or an action of the host stands."""
         step = self.trace.steps[place]
         if step.kind == "host":
             return self.sites.action(self.hosts.index(place))
-        return str(self.sites.at(step.spe, step.fetch.at))
+        return str(self.sites.at(step.processor, step.fetched.at))
 
-    def issue(self, place):
+    def issue(self, place: int) -> Optional[int]:
         """The place at which the command of a step was issued; None for a step of no command."""
         step = self.trace.steps[place]
         if step.kind == "atomic":
             return next((k for k in range(place - 1, -1, -1) if self.issues_atomic(k, step.spe)), None)
-        return self.trace.issues.get(step.command_key())
+        key = step.command_key()
+        return None if key is None else self.trace.issues.get(key)
 
-    def issues_atomic(self, place, spe):
+    def issues_atomic(self, place: int, spe: Optional[int]) -> bool:
         line = self.trace.lines[place]
         return line.startswith(f"x {spe} ") and " | atomic " in line
 
-    def program_step(self, place):
+    def program_step(self, place: int) -> int:
         """The step of a program that a step stands for: the issue of its command, or itself."""
         issue = self.issue(place)
         return place if issue is None else issue
 
-    def origin(self, place):
+    def origin(self, place: int) -> List[str]:
         """The lines that say where a step comes from: its instruction's site or that of its command's issue, and the call."""
         at = self.program_step(place)
         lines = [f"at {self.site(at)}" if at == place else f"issued in step {at}, at {self.site(at)}"]
@@ -96,32 +98,33 @@ class Teller:
             lines.append(f"called from {self.site(at)}")
         return lines
 
-    def aside(self, place):
+    def aside(self, place: int) -> str:
         """Where a step comes from, in parentheses."""
         return f"({'; '.join(self.origin(place))})"
 
-    def is_replaced(self, place):
+    def is_replaced(self, place: int) -> bool:
         """Whether the run wrote over an instruction before it was executed."""
-        fetch = self.trace.steps[place].fetch
+        fetch = self.trace.steps[place].fetched
         written = re.compile(rf" \| write {fetch.spe} (\d+) (\d+)")
         found = (written.search(line) for line in self.trace.lines[:place])
         return any(int(w[1]) < fetch.at + fetch.size and fetch.at < int(w[1]) + int(w[2]) for w in found if w)
 
-    def command(self, place):
+    def command(self, place: int) -> str:
         """The command of a step."""
-        return self.command_of(self.trace.commands[self.trace.steps[place].command_key()])
+        return self.command_of(self.trace.command_of(self.trace.steps[place]))
 
-    def command_of(self, command):
+    def command_of(self, command: Command) -> str:
         return f"{with_article(name_of(command))} of tag {command.tag} (command {command.number} of processor {command.spe})"
 
-    def atomic(self, place):
+    def atomic(self, place: int) -> str:
         """The atomic command of a step, with what came of it."""
         step = self.trace.steps[place]
         kind, _, line = step.told["atomic"]
-        outcome = OUTCOMES.get((kind, step.number("status")))
+        status = step.number("status")
+        outcome = None if status is None else OUTCOMES.get((kind, status))
         return f"{ATOMIC[kind]} of {self.names.line(int(line))}" + (f", which {outcome}" if outcome else "")
 
-    def what(self, place):
+    def what(self, place: int) -> str:
         """What a step is."""
         step = self.trace.steps[place]
         who = self.who(place)
@@ -134,41 +137,42 @@ class Teller:
         if step.kind == "retirement":
             return f"the end of {self.command(place)}, which moves no byte"
         if step.kind == "element":
-            number = self.trace.element_of(place)[2]
-            return f"the reading of element {number} of {self.command(place)}"
+            found = self.trace.element_of(place)
+            return f"the reading of element {found[2] if found else 0} of {self.command(place)}"
         element = f" of element {step.element}" if self.trace.element_of(place) else ""
-        way = f"{step.reads.size} bytes from {self.names.start(step.reads)} to {self.target(step)}"
+        way = f"{step.reads.size} bytes from {self.names.start(step.reads)} to {self.target(step)}" if step.reads else ""
         return f"piece {step.part}{element} of {self.command(place)}: {way}"
 
-    def target(self, step):
+    def target(self, step: Step) -> str:
         """Where a piece brings its bytes."""
-        command = self.trace.commands[step.command_key()]
-        if command.kind != "sndsig":
+        command = self.trace.command_of(step)
+        if step.writes and command.kind != "sndsig":
             return self.names.start(step.writes)
         return signal_register(command.ea) + ("" if "signal" in step.told else ", which isn't there")
 
-    def instruction(self, place):
+    def instruction(self, place: int) -> str:
         """What an instruction is, apart from its processor."""
         step = self.trace.steps[place]
         if step.reads or step.writes:
             return "a load" if step.reads else "a store"
-        if "issue" in step.told:
-            return f"the issue of {with_article(name_of(step.issued()))} of tag {step.issued().tag}"
+        issued = step.issued()
+        if issued:
+            return f"the issue of {with_article(name_of(issued))} of tag {issued.tag}"
         if "atomic" in step.told:
             return f"the issue of {with_article(ATOMIC[step.told['atomic'][0]])}"
         if "signal" in step.told:
             return f"an instruction that takes 0x{step.number('rdch', 1):x} out of signal register {step.number('signal', 1)}"
         events = next((words for (way, channel), words in OF_EVENTS.items() if step.number(way) == channel), None)
         if events:
-            return f"{events}, {events_in(step.number('rdch' if 'rdch' in step.told else 'wrch', 1))}"
+            return f"{events}, {events_in(step.number('rdch' if 'rdch' in step.told else 'wrch', 1) or 0)}"
         names = {"tags": "the reading of a tag status", "stalls": "the reading of the stall status", "atomicread": "the reading of an atomic status",
                  "put": "an instruction that puts", "take": "an instruction that takes", "ended": "the last instruction"}
-        found = next((name for name in names if name in step.told), None)
+        found = next((name for name in names if name in step.told), "")
         if found in ("put", "take"):
             return f"{names[found]} 0x{int(step.told[found][2]):x} {'into' if found == 'put' else 'out of'} {BOXES[step.told[found][1]]}"
         return names.get(found, "an instruction")
 
-    def word(self, place):
+    def word(self, place: int) -> str:
         """What passes something on, or takes it: a step that moves a line whole, a value of a mailbox, or a signal."""
         step = self.trace.steps[place]
         if step.kind in ("atomic", "piece"):
@@ -181,7 +185,7 @@ class Teller:
         way = "puts" if "put" in step.told else "takes"
         return f"{self.who(place)} {way} 0x{int(value):x}, {BOXES[box]} of processor {spe}"
 
-    def signal(self, place):
+    def signal(self, place: int) -> str:
         """What delivers to a signal register, or reads it."""
         step = self.trace.steps[place]
         spe, register = map(int, step.told["signal"])

@@ -7,6 +7,7 @@ from typing import List, Optional, Sequence, Tuple
 from celltools.common.texts import lines_of, number_of
 from celltools.run.effects import Span, Step, shared_bytes
 from celltools.run.machine_state import State
+from celltools.run.runs import Path
 from celltools.run.stepping import Run
 from celltools.source.disassembly import Disassembler
 from celltools.source.names import Names
@@ -135,7 +136,7 @@ class Reader:
 class Both:
     """The runs of the two records, each behind its last step."""
 
-    def __init__(self, machine: os.PathLike, folder: str, pair: Pair) -> None:
+    def __init__(self, machine: Path, folder: str, pair: Pair) -> None:
         self.machine, self.count, self.sites = machine, len(pair.first.heads), Sites(machine)
         self.names = self.sites.names
         self.runs = [self.run_of(witness, os.path.join(folder, name)) for name, witness in pair.named]
@@ -224,7 +225,7 @@ def span_shown(show: str) -> Span:
     return Span(None if place == "mem" else number_of(numbers[0]), at, size)
 
 
-def outcome_of(machine: os.PathLike, folder: str, pair: Pair) -> Outcome:
+def outcome_of(machine: Path, folder: str, pair: Pair) -> Outcome:
     """What comes out of two records that `check` takes."""
     both = Both(machine, folder, pair)
     racing, behind = both.racing(), both.behind()

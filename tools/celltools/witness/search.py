@@ -11,8 +11,9 @@ from typing import Callable, Dict, Iterator, List, Optional, Sequence, Tuple
 
 from celltools.order.graph import NO_CHAIN, Order
 from celltools.run.machine_state import actor_of
+from celltools.run.effects import Trace
 from celltools.run.records import record_text
-from celltools.run.runs import asked, said_of
+from celltools.run.runs import Path, Refused, ask_tracer, asked, said_of, verdict
 
 FIRST, SECOND = "first", "second"  # the order of the record, and the other one
 NOT_ALLOWED = re.compile(r"step (\d+) is not allowed")
@@ -77,6 +78,15 @@ class Race:
     def heads(self) -> List[str]:
         """The steps of the run up to the race, as lines of a record."""
         return [line.partition(" | ")[0] for line in self.order.trace.lines[:self.second + 1]]
+
+
+def race_of(machine: Path, record: Path) -> Race:
+    """The race that `check` finds. Refused where it finds none."""
+    said = verdict(machine, record)[0]
+    if not said.startswith("race "):
+        raise Refused(f"no race: {said}, so there is none to show")
+    first, second = map(int, said.split()[1:3])
+    return Race(Order(Trace(ask_tracer("effects", machine, record)[:second + 1])), first, second)
 
 
 def changes(heads: Sequence[str]) -> int:
@@ -190,7 +200,7 @@ def puts(race: Race) -> Iterator[List[int]]:
 
 # ---- what `check` says
 
-def judged(machine: os.PathLike, folder: str, race: Race, places: Sequence[int]) -> Witness:
+def judged(machine: Path, folder: str, race: Race, places: Sequence[int]) -> Witness:
     """A record of these places of the run, as `check` has it."""
     heads = race.heads
     witness = Witness(places, [heads[place] for place in places], "")
@@ -202,7 +212,7 @@ def judged(machine: os.PathLike, folder: str, race: Race, places: Sequence[int])
     return dataclasses.replace(witness, said=said)
 
 
-def pair_of(machine: os.PathLike, folder: str, race: Race, way: str, before: Sequence[int]) -> Pair:
+def pair_of(machine: Path, folder: str, race: Race, way: str, before: Sequence[int]) -> Pair:
     """The two records whose steps before the race are put in one way."""
     both = [judged(machine, folder, race, [*before, *last]) for last in ((race.first, race.second), (race.second, race.first))]
     return Pair(way, *both)
@@ -220,7 +230,7 @@ class Search:
         return max(self.pairs, key=lambda pair: pair.taken)
 
 
-def searched(machine: os.PathLike, folder: str, race: Race) -> Search:
+def searched(machine: Path, folder: str, race: Race) -> Search:
     """The two records of a race, put in one way after the other up to one in which both are taken."""
     pairs: List[Pair] = []
     for way, put in WAYS.items():

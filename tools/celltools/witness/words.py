@@ -1,7 +1,7 @@
 """Tells in words what was found of a race's two orders: the steps, what differs behind them, and why a record is refused."""
-import os
 from typing import Iterable, Iterator, List, Sequence, Tuple
 
+from celltools.run.runs import Path
 from celltools.telling.not_allowed import reason
 from celltools.telling.words import Teller, counted
 from celltools.witness.outcomes import OPEN, TURNS, Difference, Ends, Outcome, outcome_of
@@ -97,7 +97,7 @@ def end_words(end: str, ending: str) -> str:
 
 # ---- refusals
 
-def told_refusals(machine: os.PathLike, folder: str, search: Search) -> Iterator[str]:
+def told_refusals(machine: Path, folder: str, search: Search) -> Iterator[str]:
     """Which records were refused, and why."""
     for pair in search.pairs:
         for order, witness in pair.named:
@@ -116,7 +116,7 @@ def what_is_wrong(witness: Witness) -> str:
     return f"it is a run, but `check` doesn't find the race at its last two steps: it says `{witness.said}`"
 
 
-def told(machine: os.PathLike, folder: str, search: Search, names: Tuple[str, str], teller: Teller) -> List[str]:
+def told(machine: Path, folder: str, search: Search, names: Tuple[str, str], teller: Teller) -> List[str]:
     """All that is told of a race's two orders."""
     lines = [*told_orders(search, names, teller), *told_refusals(machine, folder, search)]
     return [*lines, *told_outcome(outcome_of(machine, folder, search.pair))] if search.pair.taken == 2 else lines

@@ -1,6 +1,7 @@
 use Rattle.std.proofs.Common.{◌∙◌}
 use Rattle.std.proofs.lemmas.Result.{err_from_is_err_and}
 use Rattle.cell_forms.specs.declared.fault.FileId.TheVariants.{Rec}
+use Rattle.cell_forms.specs.declared.judging.Judged.{Judged}
 use Rattle.cell_forms.specs.Task.{judge, read}
 use Rattle.cell_forms.specs.Answer.{AtMachineOrRecord}
 use Rattle.cell_forms.specs.Forms.{record_limit}
@@ -36,4 +37,4 @@ pub returns-clause-comes : goal.returns-clause-comes
 returns-clause-comes g c = λ told is work.
     let l = c.in_ok-setup.ensures.comes told is (λ setup. read Rec c.args.record_file.now record_limit (λ text. judge setup text work)) in
     let r = c.in_ok-bytes.ensures.comes told (c.read_setup.ensures.same ∙ is) (λ text. judge c.in_ok-setup.setup text work) in
-    check_comes told _ c.in_ok-setup.setup c.in_ok-bytes.bytes.items work _ _ c.check_record.result (leads_on l r) (rw c.as_slice.ensures.value at c.check_record.ensures.run) (rw c.as_slice.ensures.value at c.check_record.ensures.refused)
+    check_comes (λ (j : Judged). j.machine) told _ c.in_ok-setup.setup c.in_ok-bytes.bytes.items work _ _ c.check_record.result (leads_on l r) (rw c.as_slice.ensures.value at c.check_record.ensures.run) (rw c.as_slice.ensures.value at c.check_record.ensures.refused)

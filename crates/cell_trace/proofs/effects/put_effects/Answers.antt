@@ -1,7 +1,8 @@
 use Rattle.std.proofs.Common.{arith, refl, get_or}
 use Rattle.cell_base.specs.declared.steps.Step.TheVariants.{Exec}
+use Rattle.cell_machine.specs.Run.{next_of}
 use Rattle.cell_trace.specs.Effects.{line_in, grown}
-use Rattle.cell_trace.proofs.Lemmas.{one_line, refused_later, last_line, refused_here, all_lines, none_refused, line_of_told, none_of_told, text_of_some, text_of_none, grown_of}
+use Rattle.cell_trace.proofs.Lemmas.{one_line, refused_later, last_line, refused_here, all_lines, none_refused, line_of_told, none_of_told, text_of_some, text_of_none, grown_of, kept_of, not_some, stops, goes_on}
 use Rattle.cell_trace.proofs.effects.put_effects.Goals as goal
 
 pub returns-then-not-branch-clause-lines : goal.returns-then-not-branch-clause-lines
@@ -17,6 +18,13 @@ returns-then-not-branch-clause-refused c =
     let none = none_of_told (line_in c.loop-step.m s) c.in_ok-put_effect.field-0 c.in_ok-put_effect.ensures.told c.if-not-branch.true in
     refused_here _ c.loop-step.m s (Exec 0) c.loop-step.step-index c.args.steps.now (omega arith) refl none c.loop-step.invariant.refused
 
+pub returns-then-not-branch-clause-made : goal.returns-then-not-branch-clause-made
+returns-then-not-branch-clause-made c =
+    let s = get_or c.args.steps.now c.loop-step.step-index (Exec 0) in
+    let kept = kept_of c.put_effect.new.m (grown c.loop-step.m s) c.loop-step.m c.in_ok-put_effect.field-0 c.if-not-branch.true c.in_ok-put_effect.ensures.made in
+    stops _ c.loop-step.m c.put_effect.new.m c.args.steps.now c.loop-step.step-index s (Exec 0) (omega arith) refl c.loop-step.invariant.made kept
+    (not_some (next_of c.loop-step.m s) c.in_ok-put_effect.field-0 c.in_ok-put_effect.ensures.allowed c.if-not-branch.true)
+
 pub loop-step-preserved : goal.loop-step-preserved
 loop-step-preserved c =
     let s = get_or c.args.steps.now c.loop-step.step-index (Exec 0) in
@@ -25,6 +33,7 @@ loop-step-preserved c =
     record {
       lines = one_line c.loop-step.out.items c.put_effect.new.out.items _ line.0 c.loop-step.m c.put_effect.new.m s (Exec 0) c.loop-step.step-index c.args.steps.now (omega arith) refl line.1
           (text_of_some c.loop-step.out.items c.put_effect.new.out.items line.0 _ line.1 c.in_ok-put_effect.ensures.line) made c.loop-step.invariant.lines;
+      made = goes_on _ c.loop-step.m c.put_effect.new.m c.args.steps.now c.loop-step.step-index s (Exec 0) (omega arith) refl c.loop-step.invariant.made made;
       refused = refused_later _ line.0 c.loop-step.m c.put_effect.new.m s (Exec 0) c.loop-step.step-index c.args.steps.now (omega arith) refl line.1 made c.loop-step.invariant.refused;
     }
 

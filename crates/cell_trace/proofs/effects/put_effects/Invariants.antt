@@ -1,4 +1,4 @@
-use Rattle.std.proofs.Common.{◌≡◌, ◌++◌, drop}
+use Rattle.std.proofs.Common.{◌≡◌, ◌++◌, take, drop}
 use Rattle.cell_trace.specs.Effects.{lines_in, refused_in}
 use Rattle.cell_trace.proofs.effects.put_effects.Given as goal
 
@@ -7,4 +7,5 @@ abbrev pub invariant-loop-step : goal.invariant-loop-step
 invariant-loop-step l = record {
   lines : l.out.items ++ lines_in l.m (drop l.step-index l.steps) ≡ l.fn.out.items ++ lines_in l.fn.m l.steps;
   refused : refused_in l.m (drop l.step-index l.steps) ≡ refused_in l.fn.m l.steps;
+  made : l.m ≡ record l.fn.m { steps = l.fn.m.steps ++ take l.step-index l.steps };
 }

@@ -1,4 +1,3 @@
-use Rattle.std.proofs.Common.{◌≡◌, length}
 use Rattle.hunt_forms.specs.Hunts.{TellsRuns}
 use Rattle.hunt_forms.proofs.each.tell_each.Given as goal
 

@@ -1,6 +1,5 @@
 use Rattle.std.proofs.Common.{◌≡◌, ◌++◌, List, [], ℕ, length, map, sym, subst, ◌∙◌, arith}
 use Rattle.std.proofs.lemmas.List.{append-nil}
-use Rattle.cell_base.specs.Words.{lines_of}
 use Rattle.cell_base.proofs.WordLaws.{no_lines}
 use Rattle.hunt_forms.specs.Expected.{expected_of, expected_in}
 use Rattle.hunt_forms.proofs.expected.read_expected.Goals as goal

@@ -2,8 +2,8 @@ use Rattle.std.proofs.Common.{arith}
 use Rattle.hunt_forms.proofs.HuntsLaws.{has_none}
 use Rattle.hunt_forms.proofs.hunting.hunt_runs.Goals as goal
 
-pub loop-made-init : goal.loop-made-init
-loop-made-init g c = record {
-  taken = has_none c.args.quarry.now c.args.hunt.now.seed c.args.hunt.now.from c.new-sums.result c.new-sums.ensures;
+pub loop-progress-init : goal.loop-progress-init
+loop-progress-init g c = record {
+  taken = has_none c.args.quarry.now c.args.hunt.now.seed c.args.hunt.now.from c.args.sums.now c.requires.none;
   below = omega arith;
 }

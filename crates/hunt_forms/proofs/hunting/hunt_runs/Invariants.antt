@@ -1,12 +1,12 @@
-use Rattle.std.proofs.Common.{◌≡◌, ◌≤◌, ◌-◌}
+use Rattle.std.proofs.Common.{◌≤◌, ◌-◌}
 use Rattle.hunt_forms.specs.Hunts.{HasTaken}
 use Rattle.hunt_forms.proofs.hunting.hunt_runs.Given as goal
 
-abbrev pub invariant-loop-made : goal.invariant-loop-made
-invariant-loop-made g l = record {
+abbrev pub invariant-loop-progress : goal.invariant-loop-progress
+invariant-loop-progress g l = record {
   taken : HasTaken l.quarry l.hunt.seed l.hunt.from l.made l.sums;
   below : l.made ≤ l.hunt.runs;
 }
 
-abbrev pub decreases-loop-made : goal.decreases-loop-made
-decreases-loop-made g l = l.hunt.runs - l.made
+abbrev pub decreases-loop-progress : goal.decreases-loop-progress
+decreases-loop-progress g l = l.hunt.runs - l.made

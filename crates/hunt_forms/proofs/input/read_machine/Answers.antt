@@ -1,4 +1,4 @@
-use Rattle.std.proofs.Common.{◌≡◌, ◌∙◌, sym, ap, subst}
+use Rattle.std.proofs.Common.{◌∙◌, sym, ap, subst}
 use Rattle.cell_forms.specs.Forms.{run_task}
 use Rattle.cell_forms.proofs.Steps.{refuses_then}
 use Rattle.hunt_forms.specs.Files.{programs_of, MachineRefuses}

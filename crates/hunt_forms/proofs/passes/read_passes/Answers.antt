@@ -1,4 +1,4 @@
-use Rattle.std.proofs.Common.{◌≡◌, ℕ, List, length, sym, ap, ◌∙◌, arith, Result, Ok, Err}
+use Rattle.std.proofs.Common.{◌≡◌, ℕ, List, length, sym, ap, ◌∙◌, arith, Result, Ok}
 use Rattle.std.proofs.lemmas.List.{append-nil}
 use Rattle.cell_base.specs.Words.{lines_of}
 use Rattle.cell_base.proofs.WordLaws.{no_lines}

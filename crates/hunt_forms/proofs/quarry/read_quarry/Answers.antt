@@ -1,4 +1,4 @@
-use Rattle.std.proofs.Common.{◌≡◌, ◌∙◌, sym, ap, subst}
+use Rattle.std.proofs.Common.{◌∙◌}
 use Rattle.std.proofs.lemmas.Result.{err_from_is_err_and}
 use Rattle.hunt_forms.specs.Heard.{texts_of}
 use Rattle.hunt_forms.proofs.FilesLaws.{expected_cause, passed_cause, expected_refuses, passed_refuses, expects, passes}

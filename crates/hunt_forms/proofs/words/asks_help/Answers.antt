@@ -1,8 +1,8 @@
-use Rattle.std.proofs.Common.{◌≡◌, ◌+◌, ◌∙◌, ap, sym, true, false, map, string_bytes, drop, arith}
+use Rattle.std.proofs.Common.{◌≡◌, ◌+◌, ◌∙◌, sym, true, false, map, string_bytes, drop, arith}
 use Rattle.std.specs.Prelude.{codes}
 use Rattle.hunt_forms.specs.Heard.{is_word}
 use Rattle.hunt_forms.specs.Words.{asks_help}
-use Rattle.hunt_forms.proofs.WordsLaws.{first_left, none_left, helps, no_help}
+use Rattle.hunt_forms.proofs.WordsLaws.{first_left, helps, no_help}
 use Rattle.hunt_forms.proofs.words.asks_help.Goals as goal
 
 pub returns-then-eq : goal.returns-then-eq

@@ -1,16 +1,27 @@
-use Rattle.std.proofs.Common.{get_or}
-use Rattle.std.proofs.lemmas.List.{get_or_default}
-use Rattle.race_check.specs.Walks.{IsOrdered}
-use Rattle.race_check.proofs.Latest.{steps_all, steps_more, steps_none}
+use Rattle.std.proofs.Common.{None, drop, length, sym, subst, arith}
+use Rattle.std.specs.Prelude.{Contains}
+use Rattle.std.proofs.lemmas.List.{drop_all}
+use Rattle.run_walk.specs.Ordered.{IsOrdered}
+use Rattle.run_walk.specs.Walks.{walked}
+use Rattle.race_check.specs.Crowds.{StepsTell}
+use Rattle.race_check.proofs.Latest.{steps_from, steps_none}
 use Rattle.race_check.proofs.crowd.latest_unsafe.Goals as goal
 
-pub loop-step-init : goal.loop-step-init
-loop-step-init c = steps_none (IsOrdered c.args.walk.now.machine) c.args.last
+pub loop-left-init : goal.loop-left-init
+loop-left-init c =
+    let before = IsOrdered (walked c.args.walk.now) in
+    let steps = c.args.steps.now in
+    record {
+      within = omega arith;
+      tells = subst (λ xs. StepsTell before c.args.last (Contains xs) None) (sym (drop_all (length steps) steps (omega arith))) (steps_none before c.args.last);
+    }
 
-pub loop-step-preserved : goal.loop-step-preserved
-loop-step-preserved c =
-    let step = get_or c.args.steps.now c.loop-step.step-index 0 in
-    steps_more (IsOrdered c.args.walk.now.machine) c.args.last c.args.steps.now c.loop-step.step-index step c.loop-step-test.true (get_or_default c.args.steps.now c.loop-step.step-index 0 step c.loop-step-test.true) c.loop-step.latest c.if_unsafe.result c.later-latest.result c.later-latest.ensures c.loop-step.invariant c.if_unsafe.ensures
-
-pub returns : goal.returns
-returns c = steps_all (IsOrdered c.args.walk.now.machine) c.args.last c.args.steps.now c.loop-step.step-index c.loop-step.latest c.loop-step-test.false c.loop-step.invariant
+pub loop-left-preserved : goal.loop-left-preserved
+loop-left-preserved c =
+    let before = IsOrdered (walked c.args.walk.now) in
+    let steps = c.args.steps.now in
+    let left = c.loop-left.left in
+    record {
+      within = omega arith;
+      tells = steps_from before c.args.last steps left 0 c.latest_with-latest.result c.loop-left-test.true c.loop-left.invariant.within (c.latest_with-latest.ensures (drop left steps) c.loop-left.invariant.tells);
+    }

@@ -1,4 +1,5 @@
+use Rattle.run_walk.specs.Walks.{walked}
 use Rattle.race_check.proofs.search.is_race.Given as goal
 
 abbrev pub ghost-before : goal.ghost-before
-ghost-before a = a.self.now.machine
+ghost-before a = walked a.self.now

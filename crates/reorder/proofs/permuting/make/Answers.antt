@@ -21,7 +21,7 @@ unreachable-requires c =
     let low = c.requires.inside place (in-get c.args.order.now index c.loop-place-test.true) in
     let at = slice_get-get_or c.args.steps.now place (Exec 0) low in
     let may = may-go-on c.args.setup.now c.args.steps.now c.args.order.now index step c.loop-place.machine c.requires.run c.requires.inside c.loop-place-test.true c.loop-place.invariant at in
-    true≢false (sym (subst IsOk c.in_default.is (c.step.ensures.allowed.1 may)))
+    true≢false (sym (subst IsOk c.in_default-step.is (c.step.ensures.allowed.1 may)))
 
 pub loop-place-preserved : goal.loop-place-preserved
 loop-place-preserved c =
@@ -30,7 +30,7 @@ loop-place-preserved c =
     let step = get_or c.args.steps.now place (Exec 0) in
     let low = c.requires.inside place (in-get c.args.order.now index c.loop-place-test.true) in
     let more = made-more c.args.setup.now c.args.steps.now c.args.order.now index step c.loop-place-test.true (slice_get-get_or c.args.steps.now place (Exec 0) low) in
-    c.in-Ok.ensures.made.1 ∙ ap (λ (r : Ran). let n : Ran = record r { steps = r.steps ++ step ∷ [] } in n) c.loop-place.invariant ∙ ap (λ (steps : List Step). let n : Ran = record { setup = c.args.setup.now; steps = steps } in n) (sym more)
+    c.in-Ok-step.ensures.made.1 ∙ ap (λ (r : Ran). let n : Ran = record r { steps = r.steps ++ step ∷ [] } in n) c.loop-place.invariant ∙ ap (λ (steps : List Step). let n : Ran = record { setup = c.args.setup.now; steps = steps } in n) (sym more)
 
 pub returns : goal.returns
 returns c =

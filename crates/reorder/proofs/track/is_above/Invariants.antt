@@ -1,4 +1,4 @@
 use Rattle.reorder.proofs.track.is_above.Given as goal
 
-abbrev pub ghost-before : goal.ghost-before
-ghost-before g a = g.here
+abbrev pub ghost-is_before : goal.ghost-is_before
+ghost-is_before g a = g.here

@@ -2,8 +2,8 @@ use Rattle.std.proofs.Common.{◌-◌, ◌<◌, ◌≤◌, length, get_or}
 use Rattle.run_frames.specs.OrderedLaws.{IsOrdered}
 use Rattle.reorder.proofs.track.search_end.Given as goal
 
-abbrev pub ghost-before : goal.ghost-before
-ghost-before g a = g.here
+abbrev pub ghost-is_before : goal.ghost-is_before
+ghost-is_before g a = g.here
 
 abbrev pub invariant-loop-low : goal.invariant-loop-low
 invariant-loop-low g l =

@@ -2,8 +2,8 @@ use Rattle.std.proofs.Common.{ℕ, ◌<◌, ◌≤◌, length, get_or}
 use Rattle.run_frames.specs.OrderedLaws.{IsOrdered}
 use Rattle.settled.proofs.kept.unknown.Given as goal
 
-abbrev pub ghost-before : goal.ghost-before
-ghost-before g a = g.here
+abbrev pub ghost-is_before : goal.ghost-is_before
+ghost-is_before g a = g.here
 
 abbrev pub invariant-loop-left : goal.invariant-loop-left
 invariant-loop-left g l =

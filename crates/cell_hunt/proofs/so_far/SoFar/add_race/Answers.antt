@@ -7,6 +7,7 @@ use Rattle.cell_hunt.specs.declared.so_far.SoFar.{SoFar}
 use Rattle.cell_hunt.specs.Origins.{Knows}
 use Rattle.cell_hunt.specs.Sites.{AreSites}
 use Rattle.cell_hunt.specs.SoFar.{AreRacesTo, made_by}
+use Rattle.cell_hunt.specs.Touched.{HasTouched}
 use Rattle.cell_hunt.proofs.AllRaces.{races-more}
 use Rattle.cell_hunt.proofs.so_far.SoFar.add_race.Goals as goal
 
@@ -24,4 +25,5 @@ returns-clause-searched c =
       knows = subst (λ (s : SoFar). Knows (made_by s) s.origins) same c.requires.searched.knows;
       least = c.add_least.ensures.least;
       all = subst (AreRacesTo _ m) (sym c.in_ok-push.ensures.items) (races-more m c.args.second old.races.items r refl record { latest = latest; sites = sites } races);
+      touched = subst (λ (s : SoFar). HasTouched (made_by s) s.touched) same c.requires.searched.touched;
     }

@@ -1,4 +1,5 @@
 use Rattle.std.proofs.Common.{◌≡◌, length, None, sym, ap, ◌∙◌, subst}
+use Rattle.cell_machine.specs.Effects.{effect_in}
 use Rattle.cell_machine.specs.Run.{Ran}
 use Rattle.race_check.specs.Races.{TellsLatest}
 use Rattle.race_check.specs.Searches.{run_of}
@@ -6,15 +7,30 @@ use Rattle.race_check.specs.Walks.{RaceIn}
 use Rattle.race_check.proofs.Accepted.{search-told}
 use Rattle.cell_hunt.specs.declared.so_far.SoFar.{SoFar}
 use Rattle.cell_hunt.specs.Origins.{Knows}
+use Rattle.cell_hunt.specs.Kinds.{touchable, touches_in}
 use Rattle.cell_hunt.specs.Runs.{with_step}
 use Rattle.cell_hunt.specs.SoFar.{AreRacesTo, IsLeastTo, IsSearchedTo, made_by}
+use Rattle.cell_hunt.specs.Touched.{AreDigests, HasTouched}
 use Rattle.cell_hunt.proofs.AllRaces.{least-none, least-on, races-none, races-on}
+use Rattle.cell_hunt.proofs.Touching.{touches_more}
 use Rattle.cell_hunt.proofs.so_far.SoFar.advance.Goals as goal
 use Rattle.cell_hunt.proofs.so_far.SoFar.advance.Goals.{In_ok-latest}
 
 -- after the step, before its races are taken in
 abbrev after : In_ok-latest → SoFar
-after c = record c.args.self.now { search = c.go_on.new.self; origins = c.add.new.self }
+after c = record c.args.self.now { search = c.go_on.new.self; origins = c.add.new.self; touched = c.add-2.new.self }
+
+touched : (c : In_ok-latest) → HasTouched (run_of c.go_on.new.self) c.add-2.new.self
+touched c =
+    let m = made_by c.args.self.now in
+    let made : run_of c.go_on.new.self ≡ with_step m c.args.step = c.in_ok-latest.ensures.run in
+    let was = search-told c.args.self.now.search c.requires.searched.keeps in
+    let effect = ap (λ r. effect_in r c.args.step) (sym c.machine.ensures) ∙ c.in_ok-effect.ensures.effect in
+    let has = c.requires.searched.touched in
+    record {
+      long = c.add-2.ensures.long ∙ has.long ∙ ap (λ (r : Ran). touchable r.setup.lines) (sym made);
+      are = subst (λ all. AreDigests all c.add-2.new.self.digests.items) (sym (ap touches_in made ∙ touches_more m c.args.step c.in_ok-effect.effect was effect)) (c.add-2.ensures.more (touches_in m) has.are);
+    }
 
 searched : (c : In_ok-latest) → IsSearchedTo c.args.place (after c)
 searched c =
@@ -29,6 +45,7 @@ searched c =
       knows = subst (λ r. Knows r c.add.new.self) (ap (λ (r : Ran). with_step r c.args.step) c.machine.ensures ∙ sym made) c.in_ok-effect.ensures.knows;
       least = subst (λ k. IsLeastTo k n old.least) c.requires.place (least-on m n c.args.step made was is old.least (subst (λ k. IsLeastTo k m old.least) (sym c.requires.place) c.requires.searched.least));
       all = subst (λ k. AreRacesTo k n old.races.items) c.requires.place (races-on m n c.args.step made was is old.races.items (subst (λ k. AreRacesTo k m old.races.items) (sym c.requires.place) c.requires.searched.all));
+      touched = touched c;
     }
 
 pub returns-in_default-clause-searched : goal.returns-in_default-clause-searched
@@ -42,6 +59,7 @@ returns-in_default-clause-searched c =
       knows = so_far.knows;
       least = least-none n c.args.place none c.args.self.now.least so_far.least;
       all = races-none n c.args.place none c.args.self.now.races.items so_far.all;
+      touched = so_far.touched;
     }
 
 pub add_race-requires-clause-searched : goal.add_race-requires-clause-searched

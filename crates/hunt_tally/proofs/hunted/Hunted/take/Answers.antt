@@ -12,10 +12,10 @@ on_ok (Err e) f p = tt
 pub returns : goal.returns
 returns c =
     let old : Sums = c.args.self.now in
-    let r : Reported = record { flaws = c.report.inside.flaws; ending = c.report.inside.ending.items; result = c.report.inside.result.items; races = c.report.inside.races.items; missed = map (λ line. line.items) c.report.inside.missed.items; leaves_out = c.report.inside.leaves_out } in
-    let new : Sums = record { runs = c.self.inside.runs + 1; all_stopped = c.counted-self-inside.result; left_out = c.counted-self-inside-2.result; flaws = c.note.new.self; endings = c.take_ending.new.endings; results = c.take_ending.new.results; races = c.take.new.self; missed = c.take_missed.new.tally } in
+    let r : Reported = record { flaws = c.report.inside.flaws; ending = c.report.inside.ending.items; result = c.report.inside.result.items; races = c.report.inside.races.items; missed = map (λ line. line.items) c.report.inside.missed.items; leaves_out = c.report.inside.leaves_out; kind = c.report.inside.kind } in
+    let new : Sums = record { runs = c.self.inside.runs + 1; all_stopped = c.counted-self-inside.result; left_out = c.counted-self-inside-2.result; flaws = c.note.new.self; kinds = c.take.new.self; endings = c.take_ending.new.endings; results = c.take_ending.new.results; races = c.take-2.new.self; missed = c.take_missed.new.tally } in
     on_ok c.take_missed.result (λ (lines : Took (missed_told r) c.self.inside.missed c.take_missed.new.tally).
-    let is : IsMore r (record { runs = c.self.inside.runs; all_stopped = c.self.inside.all_stopped; left_out = c.self.inside.left_out; flaws = c.self.inside.flaws; endings = c.self.inside.endings; results = c.self.inside.results; races = c.self.inside.races; missed = c.self.inside.missed }) new = record {
+    let is : IsMore r (record { runs = c.self.inside.runs; all_stopped = c.self.inside.all_stopped; left_out = c.self.inside.left_out; flaws = c.self.inside.flaws; kinds = c.self.inside.kinds; endings = c.self.inside.endings; results = c.self.inside.results; races = c.self.inside.races; missed = c.self.inside.missed }) new = record {
       runs = refl;
       all_stopped = c.counted-self-inside.ensures ∙ ap (λ b. c.self.inside.all_stopped + cond b 1 0) c.all_stopped.ensures;
       left_out = c.counted-self-inside-2.ensures;
@@ -25,9 +25,10 @@ returns c =
       fault = c.note.ensures.fault;
       halt = c.note.ensures.halt;
       missed = c.note.ensures.missed;
+      kinds = c.in_ok-take.ensures.taken;
       endings = c.in_ok-take_ending.ensures.ending;
       results = c.in_ok-take_ending.ensures.left;
-      races = c.in_ok-take.ensures.taken;
+      races = c.in_ok-take-2.ensures.taken;
       lines = lines;
     } in
     let P : Reported → Type 0 = λ x. (reports : List Reported) → old ≡ hunted reports → new ≡ hunted (reports ++ x ∷ []) in

@@ -1,0 +1,20 @@
+"""Runs programs of the Cell's SPUs, and finds their races, in this process: `cell` and its hunts as calls.
+
+    import cell
+
+    files = cell.files_of("examples/races/mail_race.cell")
+    hunt = cell.hunt("examples/races/mail_race.cell", files, runs=40)
+    print(hunt.races[0].first, hunt.races[0].second)
+
+Each call takes the files by their names, as texts or bytes, and reads none of the disk; `files_of` reads a machine file and its sources. A call may be made on
+any thread, also while others are. A refusal is an exception, with the file and the line where it has them: all are a `CellError`.
+"""
+from .answers import Count, Hunt, Image, Processor, Race, Run, Segment, Shown, Site, States, Step, Verdict
+from .calls import assemble, check, files_of, hunt, run, trace
+from .errors import CellError, Faulty, LibraryMissing, Misused, NoMemory, NoRun, NotRead
+from .library import Answer, ask
+
+__all__ = [
+    "Answer", "CellError", "Count", "Faulty", "Hunt", "Image", "LibraryMissing", "Misused", "NoMemory", "NoRun", "NotRead", "Processor", "Race", "Run",
+    "Segment", "Shown", "Site", "States", "Step", "Verdict", "ask", "assemble", "check", "files_of", "hunt", "run", "trace",
+]

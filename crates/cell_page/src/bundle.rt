@@ -1,0 +1,151 @@
+//! What comes in: the words, and the files.
+
+ghost use Rattle.std.specs.Prelude.{◌≡◌, ◌<◌, ◌≤◌, ◌++◌, ◌∷◌, IfOk, IfSome, find, is_none, length};
+ghost use Rattle.cell_io.specs.Files.{HasDifferentNames, are_different, is_called};
+
+use cell_base::line_text::{first_line, number_at};
+use cell_io::MemFile;
+use std::alloc::{AllocError, AllocFailed, Global};
+use std::str;
+
+/// Why nothing came of it.
+#[derive(Clone, Copy)]
+pub enum BundleError {
+    /// It is outside its form, or two files have one name.
+    Form,
+    Memory,
+}
+
+impl From<AllocError> for BundleError {
+    fn from(_: AllocError) -> BundleError {
+        BundleError::Memory
+    }
+}
+
+impl<T: Drop> From<AllocFailed<T>> for BundleError {
+    fn from(_: AllocFailed<T>) -> BundleError {
+        BundleError::Memory
+    }
+}
+
+/// These bytes as a text.
+fn text_of(alloc: Global, bytes: &[u8]) -> Result<String, BundleError> {
+    match str::from_utf8(bytes) {
+        Ok(text) => Ok(String::from_str(alloc, text)?),
+        Err(_) => Err(BundleError::Form),
+    }
+}
+
+/// The words, which stand one on a line.
+pub fn words_of(alloc: Global, bytes: &[u8]) -> Result<Vec<String>, BundleError> {
+    let mut words = Vec::new(alloc);
+    let mut rest = bytes;
+    while !rest.is_empty() {
+        let (line, behind) = first_line(rest);
+        words.push(text_of(alloc, line)?)?;
+        rest = behind;
+    }
+    Ok(words)
+}
+
+/// The bytes up to the first line feed, and those behind it.
+fn line_at(bytes: &[u8]) -> Option<(&[u8], &[u8])>
+    ensures { IfSome result (λ x. bytes.now ≡ x.0.now ++ 10 ∷ x.1.now) }
+{
+    let end = bytes.iter().position(|b| *b == b'\n')?;
+    Some((&bytes[..end], &bytes[end + 1..]))
+}
+
+/// A number on a line of its own, and the bytes behind it.
+fn number_line(bytes: &[u8]) -> Option<(u32, &[u8])>
+    ensures { IfSome result (λ x. length x.1.now ≤ length bytes.now) }
+{
+    let (digits, behind) = line_at(bytes)?;
+    let (number, more) = number_at(digits, u32::MAX)?;
+    if more.is_empty() {
+        Some((number, behind))
+    } else {
+        None
+    }
+}
+
+/// The name and the bytes of the file at the front, and what is behind it.
+fn file_at(bytes: &[u8]) -> Option<(&[u8], &[u8], &[u8])>
+    ensures { IfSome result (λ x. length x.2.now < length bytes.now) }
+{
+    let (name, behind) = line_at(bytes)?;
+    let (count, behind) = number_line(behind)?;
+    let count = count as usize;
+    if count > behind.len() {
+        return None;
+    }
+    Some((name, &behind[..count], &behind[count..]))
+}
+
+/// Keeps a file.
+fn keep_file(
+    alloc: Global,
+    files: &mut Vec<MemFile>,
+    name: &[u8],
+    own: &[u8],
+) -> Result<(), BundleError> {
+    let file = MemFile {
+        name: text_of(alloc, name)?,
+        bytes: own.to_vec(alloc)?,
+    };
+    files.push(file)?;
+    Ok(())
+}
+
+/// The files, whose names may be the same.
+fn all_files(alloc: Global, bytes: &[u8]) -> Result<Vec<MemFile>, BundleError> {
+    let mut files = Vec::new(alloc);
+    let mut rest = bytes;
+    while !rest.is_empty() {
+        let Some((name, own, behind)) = file_at(rest) else {
+            return Err(BundleError::Form);
+        };
+        keep_file(alloc, &mut files, name, own)?;
+        rest = behind;
+    }
+    Ok(files)
+}
+
+/// Whether a file has this name.
+fn is_called(file: &MemFile, name: &str) -> bool
+    ensures { result ≡ is_called name.now file.now }
+{
+    file.name.as_str() == name
+}
+
+/// Whether no file has this name.
+fn is_free(files: &[MemFile], name: &str) -> bool
+    ensures { result ≡ is_none (find (is_called name.now) files.now) }
+{
+    match files {
+        [] => true,
+        [file, rest @ ..] => !is_called(file, name) && is_free(rest, name),
+    }
+}
+
+/// Whether no two of them have one name.
+fn are_different(files: &[MemFile]) -> bool
+    ensures { result ≡ are_different files.now }
+{
+    match files {
+        [] => true,
+        [file, rest @ ..] => is_free(rest, file.name.as_str()) && are_different(rest),
+    }
+}
+
+/// The files.
+pub fn files_of(alloc: Global, bytes: &[u8]) -> Result<Vec<MemFile>, BundleError>
+    ensures { IfOk result (λ files. HasDifferentNames files.items) }
+{
+    let files = all_files(alloc, bytes)?;
+    if are_different(files.as_slice()) {
+        Ok(files)
+    } else {
+        Err(BundleError::Form)
+    }
+}

@@ -1,0 +1,41 @@
+//! Who makes the runs of a hunt.
+
+ghost use Rattle.std.specs.Prelude.{◌+◌, OnOk};
+ghost use Rattle.hunt_forms.specs.Hunts.{IsNext, HasTaken, runs_in};
+
+use crate::input::Quarry;
+use crate::runs::{reports_from, take_all};
+use crate::words::Hunt;
+use hunt_tally::Hunted;
+use std::alloc::{AllocError, Global};
+
+/// The runs that are made next: how many threads make runs, and how many each of them makes.
+#[derive(Clone, Copy)]
+pub struct Round {
+    pub share: u32,
+    pub jobs: u32,
+}
+
+/// How a round is made, and on how many threads where the words don't say.
+#[derive(Drop)]
+pub struct Team<F: Fn(&Quarry, &Hunt, u32, Round, &mut Hunted) -> Result<(), AllocError>> {
+    pub cores: u32,
+    pub make: F,
+}
+
+/// Makes the runs of a round, behind those that were made, one after the other, and takes their reports in.
+pub fn make_alone(
+    alloc: Global,
+    quarry: &Quarry,
+    hunt: &Hunt,
+    made: u32,
+    round: Round,
+    sums: &mut Hunted,
+) -> Result<(), AllocError>
+    requires { IsNext quarry.now hunt.now made round sums.old }
+    ensures { OnOk result (HasTaken quarry.now hunt.now.seed hunt.now.from (made + runs_in round) sums.new) }
+{
+    let count = round.jobs * round.share;
+    let reports = reports_from(alloc, quarry, hunt.seed, hunt.from + made, count)?;
+    take_all(sums, alloc, reports)
+}

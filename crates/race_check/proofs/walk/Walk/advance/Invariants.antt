@@ -1,4 +1,0 @@
-use Rattle.race_check.proofs.walk.Walk.advance.Given as goal
-
-abbrev pub ghost-advance : goal.ghost-advance
-ghost-advance g a = g.m

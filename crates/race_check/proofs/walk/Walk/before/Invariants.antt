@@ -1,4 +1,0 @@
-use Rattle.race_check.proofs.walk.Walk.before.Given as goal
-
-abbrev pub ghost-before : goal.ghost-before
-ghost-before g a = g.m

@@ -1,0 +1,90 @@
+-- What is gathered of a run, as it goes on.
+use Rattle.std.proofs.Common.{◌≡◌, ℕ, ◌+◌, ◌<◌, ◌≤◌, List, [], ◌∷◌, ◌++◌, length, refl, sym, ap, ◌∙◌, subst, arith, ◌⊎◌, inl, inr, Option, Some, None}
+use Rattle.std.specs.Prelude.{Vec, slice_get}
+use Rattle.std.specs.declared.alloc.Global.{Global}
+use Rattle.cell_machine.specs.Opening.{Opening}
+use Rattle.cell_machine.specs.Run.{Ran, IsRun}
+use Rattle.run_walk.specs.Ordered.{IsOrdered}
+use Rattle.race_check.proofs.Prefixes.{is_ordered-up, run-told}
+use Rattle.run_permute.specs.Places.{until}
+use Rattle.settled.proofs.Alike.{Alike, alike-first}
+use Rattle.settled.specs.Lists.{Each, IsIn}
+use Rattle.reorder.specs.declared.block.Block.{Block}
+use Rattle.reorder.specs.declared.block.Loose.{Loose}
+use Rattle.reorder.specs.declared.needs.Needs.{Needs}
+use Rattle.reorder.specs.declared.track.Track.{Track}
+use Rattle.reorder.specs.Gathered.{Gathers}
+use Rattle.reorder.specs.Lists.{list_at}
+use Rattle.reorder.specs.Needs.{AreNeeds, AreNeedsOf}
+use Rattle.reorder.proofs.Needing.{needs-more, needs-none}
+use Rattle.reorder.specs.Tracks.{AreTracks, IsBlock, IsChain, IsLoose, IsTrack, MayBeUntil}
+
+-- ---- two runs with the same first j steps
+
+module _ (m n : Ran) (j : ℕ) (a : Alike m n j) where
+  chain-on : (chain : List ℕ) → IsChain m j chain → IsChain n j chain
+  chain-on chain c = record { below = c.below; ordered = λ x y b d low at there. a.to b d (c.below y d there) (c.ordered x y b d low at there) }
+
+  until-on : (chain : List ℕ) (place : ℕ) (until : Option ℕ) → IsChain m j chain → MayBeUntil m chain place until → MayBeUntil n chain place until
+  until-on chain place None c u = tt
+  until-on chain place (Some index) c u = record { next = u.next; at = u.at; ordered = a.to place u.next (c.below index u.next u.at) u.ordered }
+
+  loose-on : (chain : List ℕ) (l : Loose) → IsChain m j chain → IsLoose m j chain l → IsLoose n j chain l
+  loose-on chain l c x = record {
+    below = x.below;
+    high = x.high;
+    above = λ k b low at. a.to b l.place x.below (x.above k b low at);
+    low = until-on chain l.place l.until c x.low;
+  }
+
+  each-loose : (chain : List ℕ) (ls : List Loose) → IsChain m j chain → Each (IsLoose m j chain) ls → Each (IsLoose n j chain) ls
+  each-loose chain [] c e = tt
+  each-loose chain (l ∷ ls) c e = (loose-on chain l c e.0, each-loose chain ls c e.1)
+
+  each-block : (chain : List ℕ) (bs : List Block) → IsChain m j chain → Each (IsBlock m j chain) bs → Each (IsBlock n j chain) bs
+  each-block chain [] c e = tt
+  each-block chain (b ∷ bs) c e = (record { bounded = e.0.bounded; loose = each-loose chain b.steps.items c e.0.loose }, each-block chain bs c e.1)
+
+  each-track : (ts : List Track) → Each (IsTrack m j) ts → Each (IsTrack n j) ts
+  each-track [] e = tt
+  each-track (t ∷ ts) e = (record { chain = chain-on t.chain.items e.0.chain; blocks = each-block t.chain.items t.blocks.items e.0.chain e.0.blocks }, each-track ts e.1)
+
+  pub tracks-on : (ts : List Track) → AreTracks m j ts → AreTracks n j ts
+  tracks-on ts t = record { each = each-track ts t.each; all = t.all }
+
+  one-on : (k : ℕ) (needs : List ℕ) → k < j → AreNeedsOf (IsOrdered m) k needs → AreNeedsOf (IsOrdered n) k needs
+  one-on k needs low x = record {
+    sound = λ i among. a.to i k low (x.sound i among);
+    complete = λ i o.
+        let c = x.complete i (a.from i k low o) in
+        let less : c.need < k = is_ordered-up m c.need k (x.sound c.need c.within) in
+        record { need = c.need; within = c.within; covers = elim c.covers [ inl same ↦ inl same | inr before ↦ inr (a.to i c.need (omega arith) before) ] };
+  }
+
+  pub needs-on : (needs : List (Vec ℕ Global)) → AreNeeds (IsOrdered m) j needs → AreNeeds (IsOrdered n) j needs
+  needs-on needs x = record { all = x.all; each = λ k low. one-on k (list_at needs k) low (x.each k low) }
+
+-- ---- as the run goes on
+
+pub begun-gathers : (setup : Opening) (g : Needs) → g.spes ≡ length setup.entries → length g.tracks.items ≡ g.spes + 1 → AreTracks (record { setup = setup; steps = [] }) 0 g.tracks.items → g.needs.items ≡ [] → Gathers (record { setup = setup; steps = [] }) g
+begun-gathers setup g spes long tracks none =
+    let m : Ran = record { setup = setup; steps = [] } in
+    record { spes = spes; long = long; tracks = tracks; needs = subst (AreNeeds (IsOrdered m) 0) (sym none) (needs-none (IsOrdered m)) }
+
+module _ (m : Ran) (place : ℕ) (g : Needs) (run : IsRun m.setup m.steps) (counted : length (until m place).steps ≡ place) (old : Gathers (until m place) g) where
+  same : Alike (until m place) m place
+  same = alike-first (until m place) m place (run-told m run) refl
+
+  pub tracks-before : AreTracks m place g.tracks.items
+  tracks-before = tracks-on (until m place) m place same g.tracks.items (subst (λ n. AreTracks (until m place) n g.tracks.items) counted old.tracks)
+
+  needs-before : AreNeeds (IsOrdered m) place g.needs.items
+  needs-before = needs-on (until m place) m place same g.needs.items (subst (λ n. AreNeeds (IsOrdered (until m place)) n g.needs.items) counted old.needs)
+
+  pub gathers-more : (h : Needs) (v : Vec ℕ Global) → length m.steps ≡ place + 1 → h.spes ≡ g.spes → length h.tracks.items ≡ length g.tracks.items → AreTracks m (place + 1) h.tracks.items → h.needs.items ≡ g.needs.items ++ v ∷ [] → AreNeedsOf (IsOrdered m) place v.items → Gathers m h
+  gathers-more h v long spes many tracks put one = record {
+    spes = spes ∙ old.spes;
+    long = many ∙ old.long ∙ ap (λ n. n + 1) (sym spes);
+    tracks = subst (λ n. AreTracks m n h.tracks.items) (sym long) tracks;
+    needs = subst (λ n. AreNeeds (IsOrdered m) n h.needs.items) (sym long) (subst (AreNeeds (IsOrdered m) (place + 1)) (sym put) (needs-more (IsOrdered m) place g.needs.items v needs-before one));
+  }

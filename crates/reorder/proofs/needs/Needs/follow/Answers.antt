@@ -1,0 +1,43 @@
+use Rattle.std.proofs.Common.{◌≡◌, ◌+◌, ◌-◌, length, refl, sym, ap, ◌∙◌, subst, arith}
+use Rattle.cell_machine.specs.Run.{Ran, IsRun}
+use Rattle.cell_machine.proofs.AllTwo.{whole}
+use Rattle.race_order.specs.Orderly.{IsWithin}
+use Rattle.run_walk.specs.Ordered.{IsOrdered}
+use Rattle.run_walk.specs.Walks.{walked}
+use Rattle.settled.specs.Walks.{IsAt}
+use Rattle.settled.proofs.Settlings.{Stepped, stepped}
+use Rattle.settled.proofs.Walking.{step-inside}
+use Rattle.reorder.specs.Needs.{AreNeedsOf}
+use Rattle.reorder.specs.Tracks.{AreTracks}
+use Rattle.reorder.proofs.Gathering.{gathers-more, tracks-before}
+use Rattle.reorder.proofs.needs.Needs.follow.Goals as goal
+
+pub gather-requires : goal.gather-requires
+gather-requires c =
+    let m = walked c.args.walk.now in
+    let run = subst (λ (r : Ran). IsRun r.setup r.steps) c.machine.ensures c.steps-steps.ensures.run in
+    let st = stepped c.args.walk.now c.args.place run c.requires.last in
+    let e : length m.steps - 1 ≡ c.args.place = (let long : length m.steps ≡ c.args.place + 1 = st.long in omega arith) in
+    let before = tracks-before m c.args.place c.args.self.now run st.counted c.requires.gathers in
+    (subst (λ j. IsAt c.args.walk.now m (j + 1)) (sym e) st.at, subst (λ j. AreTracks m j c.deref.result.now) (sym e) (subst (AreTracks m c.args.place) (sym c.deref.ensures.value) before))
+
+pub add-requires : goal.add-requires
+add-requires c =
+    let m = walked c.args.walk.now in
+    let g = c.requires.gathers in
+    let run = subst (λ (r : Ran). IsRun r.setup r.steps) c.machine.ensures c.steps-steps.ensures.run in
+    let st = stepped c.args.walk.now c.args.place run c.requires.last in
+    let before = tracks-before m c.args.place c.args.self.now run st.counted g in
+    let within = subst (λ n. IsWithin n c.args.step) (sym g.spes) (step-inside m c.args.place c.args.step run c.requires.step) in
+    (st.at, (refl, (within, (ap length c.as_mut_slice-tracks.ensures.value ∙ g.long, subst (AreTracks m c.args.place) (sym c.as_mut_slice-tracks.ensures.value) before))))
+
+pub returns : goal.returns
+returns c =
+    let m = walked c.args.walk.now in
+    let self = c.args.self.now in
+    let run = subst (λ (r : Ran). IsRun r.setup r.steps) c.machine.ensures c.steps-steps.ensures.run in
+    let st = stepped c.args.walk.now c.args.place run c.requires.last in
+    let e : length m.steps - 1 ≡ c.args.place = (let long : length m.steps ≡ c.args.place + 1 = st.long in omega arith) in
+    let same = whole self.tracks.len c.add.new.tracks self.tracks.items (sym (c.add.ensures.long ∙ c.as_mut_slice-tracks.ensures.len)) in
+    gathers-more m c.args.place self run st.counted c.requires.gathers _ c.in_ok-needs.needs st.long refl (ap length same ∙ c.add.ensures.long ∙ ap length c.as_mut_slice-tracks.ensures.value)
+    (subst (AreTracks m (c.args.place + 1)) (sym same) c.in_ok-add.ensures.tracks) c.in_ok-push.ensures.items (subst (λ j. AreNeedsOf (IsOrdered m) j c.in_ok-needs.needs.items) e c.in_ok-needs.ensures)

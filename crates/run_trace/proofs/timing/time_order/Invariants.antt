@@ -1,4 +1,0 @@
-use Rattle.run_trace.proofs.timing.time_order.Given as goal
-
-abbrev pub ghost-take_all : goal.ghost-take_all
-ghost-take_all g a = g.m

@@ -1,6 +1,0 @@
-use Rattle.std.proofs.Common.{◌+◌}
-use Rattle.run_permute.specs.Places.{until}
-use Rattle.settled.proofs.walk.Walk.before.Given as goal
-
-abbrev pub ghost-before : goal.ghost-before
-ghost-before g a = until g.here.run (g.here.place + 1)

@@ -1,0 +1,5 @@
+pub mod FilesLaws
+pub mod StepsLaws
+pub mod TellLaws
+pub mod RangesLaws
+pub mod AnswersLaws

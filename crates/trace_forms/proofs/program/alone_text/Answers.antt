@@ -1,0 +1,10 @@
+use Rattle.std.proofs.Common.{sym, subst}
+use Rattle.trace_forms.specs.Files.{StandsFor}
+use Rattle.trace_forms.proofs.program.alone_text.Goals as goal
+
+pub returns-in-Ok-clause-comes : goal.returns-in-Ok-clause-comes
+returns-in-Ok-clause-comes g c = λ told is. (
+  c.run_alone.new.machine,
+  subst (StandsFor told c.args.machine.now) (sym c.run_alone.ensures) (c.in_ok-machine.ensures.comes told is),
+  c.in-Ok.ensures,
+)

@@ -1,0 +1,6 @@
+use Rattle.trace_forms.specs.Told.{AddsChosen}
+use Rattle.trace_forms.proofs.telling.put_chosen.Given as goal
+
+-- the steps that were chosen so far were made, and their lines were added
+abbrev pub invariant-loop-number : goal.invariant-loop-number
+invariant-loop-number l = AddsChosen l.fn.machine l.machine l.fn.out.items l.out.items

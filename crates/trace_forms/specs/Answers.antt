@@ -1,0 +1,105 @@
+-- The answers of the program, each with its cause.
+use Rattle.std.specs.Prelude.{◌≡◌, ◌⊎◌, ◌≤◌, ◌↔◌, ℕ, List, Some, Vec, Result, Ok, Err, length}
+use Rattle.std.specs.Option.{ForSome}
+use Rattle.std.specs.declared.alloc.Global.{Global}
+use Rattle.cell_base.specs.declared.format.Format.TheVariants.{Two}
+use Rattle.cell_base.specs.declared.steps.Step.{Step}
+use Rattle.cell_base.specs.Records.{spelling}
+use Rattle.cell_io.specs.Files.{File}
+use Rattle.cell_io.specs.Store.{Ledger, NoneFell, Rose}
+use Rattle.cell_machine.specs.Opening.{Opening}
+use Rattle.cell_machine.specs.Run.{Ran, IsRun}
+use Rattle.cell_forms.specs.Answer.{Sinks}
+use Rattle.cell_forms.specs.Output.{Took, TookPart}
+use Rattle.cell_forms.specs.Promises.{Stores}
+use Rattle.cell_forms.specs.Runs.{PrintsSteps}
+use Rattle.trace_forms.specs.declared.fault.Fault.{Fault}
+use Rattle.trace_forms.specs.declared.fault.Fault.TheVariants.{Usage, WriteFault}
+use Rattle.trace_forms.specs.declared.fault.Status.{Status}
+use Rattle.trace_forms.specs.declared.fault.Status.TheVariants.{Done, Refused}
+use Rattle.trace_forms.specs.Words.{Spoken, alone, choose, asked, go, no_form}
+use Rattle.trace_forms.specs.Told.{first_run, Tells, Goes}
+use Rattle.trace_forms.specs.Files.{StandsFor, HasRecord, HasChoices, MachineRefuses, RecordRefuses, ChoicesRefuse, RecordedRefuse, count_of, FailsAtMachine, FailsAtRecord, FailsAtChoices, IsOfFiles}
+
+-- ---- what may be written
+
+-- the text that words ask for, with the files
+abbrev pub Writes : List File → Spoken → List ℕ → Type 0
+Writes files (alone machine) text = (m : Ran) × StandsFor files machine m.setup × PrintsSteps m text
+Writes files (choose machine choices) text = (m : Ran) × StandsFor files machine m.setup × HasChoices files choices × IsRun m.setup m.steps × (text ≡ spelling Two m.steps)
+Writes files (asked machine record_file ask) text =
+    (setup : Opening) × (steps : List Step) × StandsFor files machine setup × HasRecord files record_file steps × Tells setup steps ask text
+Writes files (go machine record_file count choices) text =
+    (setup : Opening) × (steps : List Step) × StandsFor files machine setup × HasRecord files record_file steps × HasChoices files choices
+    × (count ≤ length steps) × Goes (first_run setup steps count) text
+Writes files no_form text = ⊥
+
+-- why nothing is written
+abbrev pub Refuses : List File → Spoken → Ledger → Ledger → Fault → Type 0
+Refuses files (alone machine) old new fault = MachineRefuses files machine old new fault
+Refuses files (choose machine choices) old new fault = MachineRefuses files machine old new fault ⊎ ChoicesRefuse files choices old new fault
+Refuses files (asked machine record_file ask) old new fault =
+    MachineRefuses files machine old new fault ⊎ RecordRefuses files record_file old new fault ⊎ RecordedRefuse files machine record_file (count_of ask) fault
+Refuses files (go machine record_file count choices) old new fault =
+    MachineRefuses files machine old new fault ⊎ RecordRefuses files record_file old new fault ⊎ ChoicesRefuse files choices old new fault ⊎ RecordedRefuse files machine record_file (Some count) fault
+Refuses files no_form old new fault = fault ≡ Usage
+
+-- the text of a form, or why there is none
+abbrev pub Comes : List File → Spoken → Ledger → Ledger → Result (Vec ℕ Global) Fault → Type 0
+Comes files spoken old new (Ok text) = Writes files spoken text.items
+Comes files spoken old new (Err fault) = Refuses files spoken old new fault
+
+-- whatever the store tells: a reading is said to fail only where it did, under the name of that file
+abbrev pub FailsBy : Spoken → Ledger → Ledger → Fault → Type 0
+FailsBy (alone machine) old new fault = FailsAtMachine machine old new fault
+FailsBy (choose machine choices) old new fault = FailsAtMachine machine old new fault ⊎ FailsAtChoices choices old new fault
+FailsBy (asked machine record_file ask) old new fault = FailsAtMachine machine old new fault ⊎ FailsAtRecord record_file old new fault
+FailsBy (go machine record_file count choices) old new fault =
+    FailsAtMachine machine old new fault ⊎ FailsAtRecord record_file old new fault ⊎ FailsAtChoices choices old new fault
+FailsBy no_form old new fault = fault ≡ Usage
+
+-- ---- answers
+
+-- each answer with its cause
+abbrev pub Answers : List File → Spoken → Ledger → Ledger → Sinks → Sinks → Status → Type 0
+Answers files spoken old new before after Done = (text : List ℕ) × Writes files spoken text × Took before.taken after.taken text
+Answers files spoken old new before after (Refused WriteFault) = (text : List ℕ) × Writes files spoken text × TookPart before.taken after.taken text
+Answers files spoken old new before after (Refused fault) = Refuses files spoken old new fault
+
+abbrev pub ReadFails : Spoken → Ledger → Ledger → Status → Type 0
+ReadFails spoken old new Done = Unit {0}
+ReadFails spoken old new (Refused WriteFault) = Unit {0}
+ReadFails spoken old new (Refused fault) = FailsBy spoken old new fault
+
+-- nothing went out
+abbrev pub IsQuiet : Sinks → Sinks → Status → Type 0
+IsQuiet old new Done = Unit {0}
+IsQuiet old new (Refused WriteFault) = Rose old.faults new.faults
+IsQuiet old new (Refused fault) = new.taken ≡ old.taken
+
+-- of an answer to these words, with the store and the sink before and after
+pub record Promises (spoken : Spoken) (store store_after : Stores) (sink sink_after : Sinks) (status : Status) : Type 0 where
+  -- The files stay as they were, and no count of faults falls.
+  pub same : store_after.files ≡ store.files
+  pub store_count : NoneFell store.ledger store_after.ledger
+  pub sink_count : sink.faults ≤ sink_after.faults
+  -- Where the store tells its files, each answer has its cause in them.
+  pub told : ForSome store.files (λ files. Answers files spoken store.ledger store_after.ledger sink sink_after status)
+  -- Whatever it tells: a reading is said to fail only where it did, under the name of that file.
+  pub read_fault : ReadFails spoken store.ledger store_after.ledger status
+  -- A refusal leaves the sink as it was, but for WriteFault, which comes only where the sink's count rose.
+  pub quiet : IsQuiet sink sink_after status
+  pub usage : (status ≡ Refused Usage) ↔ (spoken ≡ no_form)
+
+-- ---- parts of the program
+
+-- the whole text went out, or a part of it where the sink failed
+abbrev pub Ends : List ℕ → Sinks → Sinks → Status → Type 0
+Ends text before after Done = Took before.taken after.taken text
+Ends text before after (Refused WriteFault) = Rose before.faults after.faults × TookPart before.taken after.taken text
+Ends text before after (Refused fault) = ⊥
+
+-- a refusal is Usage exactly where the words are no form, and is none of writing
+abbrev pub TellsUsage : Spoken → Fault → Type 0
+TellsUsage no_form fault = fault ≡ Usage
+TellsUsage spoken fault = IsOfFiles fault

@@ -1,0 +1,139 @@
+-- What the files that the words name stand for, or why they are refused.
+use Rattle.std.specs.Prelude.{◌≡◌, ℕ, ◌+◌, ◌<◌, List, Option, Some, None, Result, Ok, Err, take, length}
+use Rattle.cell_base.specs.declared.steps.Step.{Step}
+use Rattle.cell_io.specs.Files.{File}
+use Rattle.cell_io.specs.Store.{Ledger, FailedAt}
+use Rattle.cell_machine.specs.Opening.{Opening}
+use Rattle.cell_machine.specs.Run.{Ran}
+use Rattle.run_record.specs.Form.{Reading, BeginsWith, IsFault}
+use Rattle.run_record.specs.Replayed.{IsRefusedAt}
+use Rattle.cell_forms.specs.declared.fault.Fault.TheVariants.{ReadFault as InputReadFault, TooLong as InputTooLong, BadRecord, NotARun}
+use Rattle.cell_forms.specs.declared.fault.FileId.TheVariants.{Rec}
+use Rattle.cell_forms.specs.Task.{run_of}
+use Rattle.cell_forms.specs.Course.{too_long, whole, given, Settles}
+use Rattle.cell_forms.specs.Forms.{record_limit, run_task}
+use Rattle.cell_forms.specs.Answer.{RefusesIn, AtMachine}
+use Rattle.trace_forms.specs.declared.fault.Fault.{Fault}
+use Rattle.trace_forms.specs.declared.fault.Fault.TheVariants.{Usage, Input, TooShort, ReadFault, TooLong, Choices, WriteFault, Memory}
+use Rattle.trace_forms.specs.declared.words.Ask.{Ask}
+use Rattle.trace_forms.specs.declared.words.Ask.TheVariants.{Flows, Before}
+use Rattle.trace_forms.specs.Words.{Word}
+
+-- the machine file and its sources stand for this setup
+abbrev pub StandsFor : List File → Word → Opening → Type 0
+StandsFor files machine setup = Settles files (run_task machine) (Ok (run_of setup))
+
+-- the record file begins with the record of these steps
+abbrev pub HasRecord : List File → Word → List Step → Type 0
+HasRecord files name steps = (text : List ℕ) × (given files name record_limit ≡ whole text) × ((r : Reading) × (r.steps ≡ steps) × BeginsWith text r)
+
+-- the choice file was read whole
+abbrev pub HasChoices : List File → Word → Type 0
+HasChoices files name = (text : List ℕ) × (given files name record_limit ≡ whole text)
+
+-- ---- refusals
+
+abbrev pub MachineRefuses : List File → Word → Ledger → Ledger → Fault → Type 0
+MachineRefuses files machine old new (Input fault) = RefusesIn files (run_task machine) old new fault
+MachineRefuses files machine old new Memory = Unit {0}
+MachineRefuses files machine old new other = ⊥
+
+-- this line of the record file is the first that is outside the form of a record
+abbrev pub IsBadLine : List File → Word → ℕ → Type 0
+IsBadLine files name line = (text : List ℕ) × (given files name record_limit ≡ whole text) × IsFault text line
+
+abbrev pub RecordRefuses : List File → Word → Ledger → Ledger → Fault → Type 0
+RecordRefuses files name old new (Input (InputReadFault Rec)) = FailedAt name old new
+RecordRefuses files name old new (Input (InputTooLong Rec)) = given files name record_limit ≡ too_long
+RecordRefuses files name old new (Input (BadRecord line)) = IsBadLine files name line
+RecordRefuses files name old new Memory = Unit {0}
+RecordRefuses files name old new other = ⊥
+
+abbrev pub ChoicesRefuse : List File → Word → Ledger → Ledger → Fault → Type 0
+ChoicesRefuse files name old new ReadFault = FailedAt name old new
+ChoicesRefuse files name old new TooLong = given files name record_limit ≡ too_long
+ChoicesRefuse files name old new Choices = HasChoices files name
+ChoicesRefuse files name old new Memory = Unit {0}
+ChoicesRefuse files name old new other = ⊥
+
+-- how many steps of a record are asked for, where not all are
+abbrev pub count_of : Ask → Option ℕ
+count_of (Flows count) = Some count
+count_of (Before place) = Some (place + 1)
+count_of ask = None
+
+abbrev pub counted : Option ℕ → List Step → List Step
+counted None steps = steps
+counted (Some count) steps = take count steps
+
+-- of these steps, of which so many are asked for: there are fewer, or one of those isn't allowed, the first of that kind
+abbrev pub StepsRefuse : Opening → List Step → Option ℕ → Fault → Type 0
+StepsRefuse setup steps count (TooShort n) = (count ≡ Some n) × (length steps < n)
+StepsRefuse setup steps count (Input (NotARun at)) = IsRefusedAt setup (counted count steps) at
+StepsRefuse setup steps count Memory = Unit {0}
+StepsRefuse setup steps count other = ⊥
+
+abbrev pub RecordedRefuse : List File → Word → Word → Option ℕ → Fault → Type 0
+RecordedRefuse files machine record_file count fault =
+    (setup : Opening) × (steps : List Step) × StandsFor files machine setup × HasRecord files record_file steps × StepsRefuse setup steps count fault
+
+-- ---- what was read
+
+-- a machine at its start
+abbrev pub MachineComes : List File → Word → Ledger → Ledger → Result Ran Fault → Type 0
+MachineComes files machine old new (Ok m) = StandsFor files machine m.setup
+MachineComes files machine old new (Err fault) = MachineRefuses files machine old new fault
+
+abbrev pub RecordComes : List File → Word → Ledger → Ledger → Result Reading Fault → Type 0
+RecordComes files name old new (Ok r) = HasRecord files name r.steps
+RecordComes files name old new (Err fault) = RecordRefuses files name old new fault
+
+abbrev pub ChoicesCome : {X : Type 0} → List File → Word → Ledger → Ledger → Result X Fault → Type 0
+ChoicesCome files name old new (Ok numbers) = HasChoices files name
+ChoicesCome files name old new (Err fault) = ChoicesRefuse files name old new fault
+
+-- ---- whatever the store tells
+
+-- a reading of the machine file or of a source failed
+abbrev pub FailsAtMachine : Word → Ledger → Ledger → Fault → Type 0
+FailsAtMachine machine old new (Input (InputReadFault file)) = AtMachine machine file old new
+FailsAtMachine machine old new ReadFault = ⊥
+FailsAtMachine machine old new other = Unit {0}
+
+-- the reading of the record file failed
+abbrev pub FailsAtRecord : Word → Ledger → Ledger → Fault → Type 0
+FailsAtRecord name old new (Input (InputReadFault Rec)) = FailedAt name old new
+FailsAtRecord name old new (Input (InputReadFault file)) = ⊥
+FailsAtRecord name old new ReadFault = ⊥
+FailsAtRecord name old new other = Unit {0}
+
+-- the reading of the choice file failed
+abbrev pub FailsAtChoices : Word → Ledger → Ledger → Fault → Type 0
+FailsAtChoices name old new ReadFault = FailedAt name old new
+FailsAtChoices name old new (Input fault) = ⊥
+FailsAtChoices name old new other = Unit {0}
+
+-- it says that no reading failed
+abbrev pub IsNoReading : Fault → Type 0
+IsNoReading (Input (InputReadFault file)) = ⊥
+IsNoReading ReadFault = ⊥
+IsNoReading fault = Unit {0}
+
+-- it is said of files, or for want of memory
+abbrev pub IsOfFiles : Fault → Type 0
+IsOfFiles Usage = ⊥
+IsOfFiles WriteFault = ⊥
+IsOfFiles fault = Unit {0}
+
+-- what is read of the text of a record file
+abbrev pub ReadsRecord : List ℕ → Result Reading Fault → Type 0
+ReadsRecord text (Ok r) = BeginsWith text r
+ReadsRecord text (Err (Input (BadRecord line))) = IsFault text line
+ReadsRecord text (Err Memory) = Unit {0}
+ReadsRecord text (Err other) = ⊥
+
+-- a word is no number, or memory is short
+abbrev pub IsOfNumbers : Fault → Type 0
+IsOfNumbers Choices = Unit {0}
+IsOfNumbers Memory = Unit {0}
+IsOfNumbers fault = ⊥

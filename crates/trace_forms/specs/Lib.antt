@@ -1,0 +1,7 @@
+pub mod Code
+pub mod Words
+pub mod Choices
+pub mod Ranges
+pub mod Told
+pub mod Files
+pub mod Answers

@@ -1,0 +1,67 @@
+//! Runs on one thread, by choices.
+
+ghost use Rattle.std.specs.Prelude.{◌≡◌, ◌≤◌, IfSome, IsSome};
+ghost use Rattle.cell_machine.specs.Run.{next_of};
+ghost use Rattle.trace_forms.specs.Choices.{actor_of, chosen_in};
+
+use cell_base::{Actor, Step};
+use cell_machine::Machine;
+
+/// The actor of a number, of so many processors: these, their flow controllers, the host.
+pub fn actor_of(spes: u8, number: u64) -> Actor
+    requires { spes ≤ 16 }
+    ensures { result ≡ actor_of spes number }
+{
+    if number < u64::from(spes) {
+        Actor::Spu(number as u8)
+    } else if number < 2 * u64::from(spes) {
+        Actor::Mfc((number - u64::from(spes)) as u8)
+    } else {
+        Actor::Host
+    }
+}
+
+/// The step that the number chooses: its remainder the actor, and the rest one of its steps. Where the actor has none, the first that is allowed.
+pub fn chosen(machine: &Machine, number: u64) -> Option<Step>
+    ensures chosen { result ≡ chosen_in machine.now number }
+    ensures allowed { IfSome result (λ s. IsSome (next_of machine.now s)) }
+{
+    let spes = machine.setup().spes();
+    let actors = 2 * u64::from(spes) + 1;
+    let picked = machine.pick(actor_of(spes, number % actors), number / actors);
+    if picked.is_some() {
+        picked
+    } else {
+        machine.any_step()
+    }
+}
+
+/// Makes the step that the number chooses, and says whether one is allowed.
+fn make_chosen(machine: &mut Machine, number: u64) -> bool
+    ensures { machine.new.setup ≡ machine.old.setup }
+{
+    match chosen(machine, number) {
+        Some(step) => machine.step(step).is_ok(),
+        None => false,
+    }
+}
+
+/// Makes the step that each number chooses, where one is allowed.
+pub fn run_chosen(machine: &mut Machine, numbers: &[u64])
+    ensures { machine.new.setup ≡ machine.old.setup }
+{
+    for number in numbers {
+        make_chosen(machine, *number);
+    }
+}
+
+/// Makes the run that the numbers from 0 on choose to its end: the actors take turns.
+pub fn run_alone(machine: &mut Machine)
+    ensures { machine.new.setup ≡ machine.old.setup }
+{
+    for number in 0..u64::MAX {
+        if !make_chosen(machine, number) {
+            break;
+        }
+    }
+}

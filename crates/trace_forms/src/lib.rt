@@ -1,0 +1,20 @@
+//! What tools read of runs: a form of words, with files in a store and an output in a sink.
+#![tactic(auto)]
+
+mod allowed;
+mod before;
+mod choices;
+mod choosing;
+mod fault;
+mod following;
+mod program;
+mod ranges;
+mod reading;
+mod telling;
+mod words;
+
+pub use fault::{Fault, Status};
+pub use following::{is_before, not_allowed, take};
+pub use program::{trace, trace_form};
+pub use reading::{read_recorded, read_start};
+pub use words::{Form, form_of};

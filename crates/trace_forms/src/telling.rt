@@ -1,0 +1,265 @@
+//! What is told of runs: records, states, what steps do, and what flow controllers hold.
+
+ghost use Rattle.std.specs.Prelude.{◌≡◌, ◌≤◌, ◌<◌, take, length, IfErr, IfOk, OnOk};
+ghost use Rattle.cell_base.specs.declared.format.Format.TheVariants.{Two};
+ghost use Rattle.cell_base.specs.Records.{spelling};
+ghost use Rattle.cell_machine.specs.Run.{IsRun};
+ghost use Rattle.cell_forms.specs.Checks.{TellsEnd};
+ghost use Rattle.cell_forms.specs.Runs.{PrintsSteps};
+ghost use Rattle.trace_forms.specs.Choices.{start};
+ghost use Rattle.trace_forms.specs.Told.{Adds, AddsChosen, Came, Goes, IsShort, TellsStanding, Told, ToldBehind};
+
+use crate::allowed::allowed_text;
+use crate::before::{before_text, each_text};
+use crate::choosing::chosen;
+use crate::fault::Fault;
+use crate::following::not_allowed;
+use crate::words::Ask;
+use cell_base::Step;
+use cell_machine::Machine;
+use cell_report::{record_text, states_text};
+use cell_trace::{Reserved, follow, put_effects, put_flows};
+use std::alloc::{AllocError, Global};
+
+/// Writes the states of a machine.
+fn put_states(alloc: Global, out: &mut Vec<u8>, machine: &Machine) -> Result<(), AllocError>
+    ensures { OnOk result (Adds (TellsEnd machine.now) out.old.items out.new.items) }
+{
+    match states_text(alloc, machine) {
+        Ok(states) => out.extend_from_slice(states.as_slice()),
+        Err(_) => Err(AllocError),
+    }
+}
+
+/// The record of a machine's run.
+pub fn run_record(alloc: Global, machine: &Machine) -> Result<Vec<u8>, AllocError>
+    ensures text { IfOk result (λ text. text.items ≡ spelling Two machine.now.steps) }
+    ensures run { IsRun machine.now.setup machine.now.steps }
+{
+    match record_text(alloc, machine.steps()) {
+        Ok(text) => Ok(text),
+        Err(_) => Err(AllocError),
+    }
+}
+
+/// The record of a machine's run, and then its states, as `cell run` prints them.
+pub fn run_text(alloc: Global, machine: &Machine) -> Result<Vec<u8>, AllocError>
+    ensures { IfOk result (λ text. PrintsSteps machine.now text.items) }
+{
+    let Ok(mut out) = record_text(alloc, machine.steps()) else {
+        return Err(AllocError);
+    };
+    let Ok(states) = states_text(alloc, machine) else {
+        return Err(AllocError);
+    };
+    out.extend_from_slice(states.as_slice())?;
+    Ok(out)
+}
+
+/// Makes steps from a machine's start, and tells what each does.
+fn effects_text(alloc: Global, machine: &mut Machine, steps: &[Step]) -> Result<Vec<u8>, Fault>
+    requires { machine.old ≡ start machine.old.setup }
+    ensures { Told machine.old.setup steps.now Ask.Effects result }
+{
+    let mut out = Vec::new(alloc);
+    let mut reserved = Reserved::new();
+    let Ok(refused) = put_effects(&mut out, machine, &mut reserved, steps) else {
+        return Err(Fault::Memory);
+    };
+    if refused.is_some() {
+        return Err(not_allowed(machine));
+    }
+    Ok(out)
+}
+
+/// Makes steps from a machine's start, and tells the states behind them.
+fn states_behind(alloc: Global, machine: &mut Machine, steps: &[Step]) -> Result<Vec<u8>, Fault>
+    requires { machine.old ≡ start machine.old.setup }
+    ensures { Told machine.old.setup steps.now Ask.States result }
+{
+    let mut reserved = Reserved::new();
+    if follow(machine, &mut reserved, steps).is_some() {
+        return Err(not_allowed(machine));
+    }
+    match states_text(alloc, machine) {
+        Ok(text) => Ok(text),
+        Err(_) => Err(Fault::Memory),
+    }
+}
+
+/// Writes the states of a machine, and what its flow controllers hold.
+fn put_standing(
+    alloc: Global,
+    out: &mut Vec<u8>,
+    machine: &Machine,
+    reserved: &Reserved,
+) -> Result<(), AllocError>
+    ensures { OnOk result (Adds (TellsStanding machine.now) out.old.items out.new.items) }
+{
+    put_states(alloc, out, machine)?;
+    put_flows(out, machine, reserved)
+}
+
+/// Makes steps from a machine's start, and tells the states and the flow controllers behind them.
+fn flows_text(alloc: Global, machine: &mut Machine, steps: &[Step]) -> Result<Vec<u8>, Fault>
+    requires { machine.old ≡ start machine.old.setup }
+    ensures { ToldBehind TellsStanding machine.old.setup steps.now result }
+{
+    let mut reserved = Reserved::new();
+    if follow(machine, &mut reserved, steps).is_some() {
+        return Err(not_allowed(machine));
+    }
+    let mut out = Vec::new(alloc);
+    put_standing(alloc, &mut out, machine, &reserved)?;
+    Ok(out)
+}
+
+/// The first so many steps, if there are so many.
+pub fn first_steps(steps: &[Step], count: u64) -> Result<&[Step], Fault>
+    ensures first { IfOk result (λ first. (first.now ≡ take count steps.now) × (count ≤ length steps.now)) }
+    ensures short { IfErr result (IsShort steps.now count) }
+{
+    if count > steps.len() as u64 {
+        Err(Fault::TooShort { steps: count })
+    } else {
+        Ok(&steps[..count as usize])
+    }
+}
+
+/// The first so many steps are made from a machine's start, and the states and the flow controllers behind them are told.
+fn flows_at(
+    alloc: Global,
+    machine: &mut Machine,
+    steps: &[Step],
+    count: u32,
+) -> Result<Vec<u8>, Fault>
+    requires { machine.old ≡ start machine.old.setup }
+    ensures { Told machine.old.setup steps.now (Ask.Flows count) result }
+{
+    match first_steps(steps, u64::from(count)) {
+        Ok(first) => flows_text(alloc, machine, first),
+        Err(fault) => Err(fault),
+    }
+}
+
+/// The steps up to a place are made from a machine's start, and the places that are ordered before that one are told.
+fn before_at(
+    alloc: Global,
+    machine: &mut Machine,
+    steps: &[Step],
+    place: u32,
+) -> Result<Vec<u8>, Fault>
+    requires { machine.old ≡ start machine.old.setup }
+    ensures { Told machine.old.setup steps.now (Ask.Before place) result }
+{
+    match first_steps(steps, u64::from(place) + 1) {
+        Ok(first) => before_text(alloc, machine, first),
+        Err(fault) => Err(fault),
+    }
+}
+
+/// Makes steps from a machine's start, and tells what is asked of their run.
+pub fn tell(
+    alloc: Global,
+    machine: &mut Machine,
+    steps: &[Step],
+    ask: Ask,
+) -> Result<Vec<u8>, Fault>
+    requires { machine.old ≡ start machine.old.setup }
+    ensures { Told machine.old.setup steps.now ask result }
+{
+    match ask {
+        Ask::Effects => effects_text(alloc, machine, steps),
+        Ask::States => states_behind(alloc, machine, steps),
+        Ask::BeforeEach => each_text(alloc, machine, steps),
+        Ask::Flows { steps: count } => flows_at(alloc, machine, steps, count),
+        Ask::Before { place } => before_at(alloc, machine, steps, place),
+    }
+}
+
+/// Makes the step that the number chooses, where one is allowed, and writes what it does.
+fn put_choice(
+    out: &mut Vec<u8>,
+    machine: &mut Machine,
+    reserved: &mut Reserved,
+    number: u64,
+) -> Result<(), AllocError>
+    ensures { OnOk result (AddsChosen machine.old machine.new out.old.items out.new.items) }
+{
+    let Some(step) = chosen(machine, number) else {
+        return Ok(());
+    };
+    match put_effects(out, machine, reserved, &[step]) {
+        Ok(_) => Ok(()),
+        Err(error) => Err(error),
+    }
+}
+
+/// Makes the steps that the numbers choose, where one is allowed, and writes what each does.
+fn put_chosen(
+    out: &mut Vec<u8>,
+    machine: &mut Machine,
+    reserved: &mut Reserved,
+    numbers: &[u64],
+) -> Result<(), AllocError>
+    ensures { OnOk result (AddsChosen machine.old machine.new out.old.items out.new.items) }
+{
+    for number in numbers {
+        put_choice(out, machine, reserved, *number)?;
+    }
+    Ok(())
+}
+
+/// Makes the steps that the numbers choose, and tells what they do, how the machine stands then, and what may be done next.
+fn going_text(
+    alloc: Global,
+    machine: &mut Machine,
+    reserved: &mut Reserved,
+    numbers: &[u64],
+) -> Result<Vec<u8>, AllocError>
+    ensures { IfOk result (λ text. Goes machine.old text.items) }
+{
+    let mut out = Vec::new(alloc);
+    put_chosen(&mut out, machine, reserved, numbers)?;
+    put_standing(alloc, &mut out, machine, reserved)?;
+    let may = allowed_text(alloc, machine)?;
+    out.extend_from_slice(may.as_slice())?;
+    Ok(out)
+}
+
+/// Makes steps from a machine's start, and then those that the numbers choose, and tells of these.
+fn going_behind(
+    alloc: Global,
+    machine: &mut Machine,
+    steps: &[Step],
+    numbers: &[u64],
+) -> Result<Vec<u8>, Fault>
+    requires { machine.old ≡ start machine.old.setup }
+    ensures { ToldBehind Goes machine.old.setup steps.now result }
+{
+    let mut reserved = Reserved::new();
+    if follow(machine, &mut reserved, steps).is_some() {
+        return Err(not_allowed(machine));
+    }
+    match going_text(alloc, machine, &mut reserved, numbers) {
+        Ok(text) => Ok(text),
+        Err(_) => Err(Fault::Memory),
+    }
+}
+
+/// Makes the first so many steps from a machine's start, and then those that the numbers choose, and tells of these.
+pub fn go_on(
+    alloc: Global,
+    machine: &mut Machine,
+    steps: &[Step],
+    count: u32,
+    numbers: &[u64],
+) -> Result<Vec<u8>, Fault>
+    requires { machine.old ≡ start machine.old.setup }
+    ensures { Came Goes machine.old.setup steps.now count result }
+{
+    match first_steps(steps, u64::from(count)) {
+        Ok(first) => going_behind(alloc, machine, first, numbers),
+        Err(fault) => Err(fault),
+    }
+}

@@ -1,0 +1,1 @@
+"""Makes page/cell.html, one file that holds all that the page needs."""

@@ -1,0 +1,7 @@
+"""How the library and the WebAssembly module of the crate cell_page are made: what tools/dev/wasm and tools/dev/library do.
+
+building   proves and builds the crate, and keeps its archive and the LLVM module that its compiler was given
+compiling  compiles that LLVM module for WebAssembly
+memory32   makes of a module with a 64-bit memory one with a 32-bit memory
+manifest   the checksums of what is committed, and of what it was made of
+"""
