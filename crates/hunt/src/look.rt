@@ -9,6 +9,7 @@ use std::time::Instant;
 /// How long the threads are to be busy at most before the next look, and how long a line stands at least, in milliseconds. At a look all wait for
 /// the thread that is the last, and the runs of a hunt take from one time to a hundred times as long.
 const BUSY: u128 = 2000;
+
 const STANDS: u128 = 100;
 
 /// How many runs a thread makes before the first look: one of each way of a hunt, so that all threads have as much to do.
@@ -68,7 +69,10 @@ impl<'a> Look<'a> {
     pub fn tell_end(&self) {
         if self.is_stopped {
             let rt = self.rt;
-            let _ = eprintln!(rt; "hunt: ended early: {} of {} runs were made", self.made, self.runs);
+            let _ = eprintln!(rt;
+                "hunt: ended early: {} of {} runs were made",
+                self.made, self.runs
+            );
         }
     }
 
