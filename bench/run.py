@@ -7,7 +7,7 @@ Prints instructions per second of two loops of a million steps; steps per second
 and text out, with one, eight and sixteen processors; the greatest memory of the widest machine; steps per
 second of eight and of sixteen processors that transfer without a pause, by single commands and by lists,
 and that raise one counter on the widest machine, and the time of one of their steps in runs of three
-lengths; steps per second and the greatest memory of the check of the output of such runs, with the search
+lengths; the time of the two loops beside that of a plain interpreter (bench/plain.c, compiled by the machine's `cc`); steps per second and the greatest memory of the check of the output of such runs, with the search
 for races, beside those of the run; and the time and the greatest memory that assembling three sources of
 4 MB takes. Each figure is the best of five runs; the time of a run of one step is taken off that of the
 loops and of the commands, so that starting the program isn't counted.
@@ -15,14 +15,16 @@ loops and of the commands, so that starting the program isn't counted.
 import celltools.common.starting  # noqa: F401  (before all others)
 
 import os
+import shutil
 import subprocess
+import sys
 import tempfile
 from typing import Iterator, List
 
 from celltools.common.ending import end
 from celltools.common.repository import CELL, ROOT
 from lib.machines import machine_file
-from lib.measuring import BUDGETS, STEPS, called, measured
+from lib.measuring import BUDGETS, RUNS, STEPS, called, measured, usage_of
 
 SOURCE_BYTES = 4_194_304
 
@@ -64,6 +66,30 @@ def checking(folder: str, source: str, spes: int, lines: int) -> None:
           f"{took:.2f} s and {most / 1024:.1f} MiB, {took / ran:.2f} times the run's {ran:.2f} s, which takes {ran_most / 1024:.1f} MiB")
 
 
+def beside_plain(folder: str, source: str) -> None:
+    """How many times as long as a plain interpreter in C a whole run takes, file in and text out, the two in turn. Both have to print the same."""
+    compiler = shutil.which("cc")
+    if compiler is None:
+        print("bench/plain.c: there is no cc that compiles it")
+        return
+    plain, image, machine = os.path.join(folder, "plain"), os.path.join(folder, "image"), machine_file(folder, source, STEPS)
+    subprocess.run([compiler, "-O2", "-o", plain, ROOT / "bench" / "plain.c"], check=True)
+    with open(image, "wb") as file:
+        subprocess.run([CELL, "asm", source], stdout=file, cwd=ROOT, check=True)
+    with open(image, "rb") as file:
+        text = subprocess.run([plain, str(STEPS)], stdin=file, capture_output=True, check=True).stdout
+    if text != subprocess.run([CELL, "run", machine], cwd=ROOT, capture_output=True, check=True).stdout:
+        sys.exit(f"bench/plain.c prints another text of {source} than cell run")
+    ours, theirs = zip(*[(usage_of([CELL, "run", machine])[1], plain_usage(plain, image)) for _ in range(RUNS)])
+    print(f"{source}: {min(ours) / min(theirs):.1f} times the processor time of a plain interpreter in C, {min(ours) * 1e3:.0f} and {min(theirs) * 1e3:.0f} ms")
+
+
+def plain_usage(plain: str, image: str) -> float:
+    """The processor time in seconds of a run of the plain interpreter."""
+    with open(image, "rb") as file:
+        return usage_of([plain, str(STEPS)], standard_input=file)[1]
+
+
 def assembling(folder: str, title: str, lines: Iterator[str]) -> None:
     """The time and the memory of a source of 4 MB."""
     name = os.path.join(folder, "big.s")
@@ -103,6 +129,8 @@ def main(words: List[str]) -> int:
     with tempfile.TemporaryDirectory() as folder:
         loop(folder, "bench/arithmetic.s")
         loop(folder, "bench/memory.s")
+        beside_plain(folder, "bench/arithmetic.s")
+        beside_plain(folder, "bench/memory.s")
         whole_run(folder, "bench/arithmetic.s", 1, 1)
         whole_run(folder, "bench/arithmetic.s", 8, 1)
         whole_run(folder, "bench/arithmetic.s", 16, 1)

@@ -25,11 +25,11 @@ def called(text: Optional[str], words: Sequence[str]) -> None:
 
 
 def usage_of(command: Sequence[Path], allowed: Sequence[int] = (0,), output: Union[int, IO[bytes]] = subprocess.DEVNULL,
-             errors: Optional[int] = None) -> Tuple[float, float, int]:
+             errors: Optional[int] = None, standard_input: Optional[IO[bytes]] = None) -> Tuple[float, float, int]:
     """The time and the processor time in seconds, and the greatest resident memory in KiB, of a command that ends with a status that is allowed. The memory is
     at least that of this interpreter, some 13 MiB, since the child has that before it becomes the program."""
     start = time.monotonic()
-    child = subprocess.Popen(command, stdout=output, stderr=errors, cwd=ROOT)
+    child = subprocess.Popen(command, stdin=standard_input, stdout=output, stderr=errors, cwd=ROOT)
     _, status, usage = os.wait4(child.pid, 0)
     took = time.monotonic() - start
     if os.waitstatus_to_exitcode(status) not in allowed:
