@@ -2,12 +2,12 @@
 import dataclasses
 import os
 import pathlib
-from typing import Callable, List, Optional
+from typing import Callable, Optional, Sequence
 
 from celltools.common.texts import MOST_RECORD_BYTES, bytes_of
 from celltools.common.writing import write_whole
 from celltools.debugger.places import Wrong
-from celltools.run.snapshots import Snapshot
+from celltools.run.runs import Path
 
 OVER = "over"  # the word that lets a file be written over
 PAGE_HEAD, PAGE_FACTS = b"<!doctype html>", b'<script id="facts" '
@@ -25,13 +25,13 @@ RECORD = Kind("record", "record", lambda data: data.startswith(b"cell-record "))
 PICTURE = Kind("picture", "page of a record", lambda data: data.startswith(PAGE_HEAD) and PAGE_FACTS in data)
 
 
-def target_of(words: List[str], kind: Kind, origin: Optional[Snapshot]) -> str:
-    """The file that words name, where it may be written; Wrong where it may not. `origin` is the record that the session is from."""
+def target_of(words: Sequence[str], kind: Kind, origin: Optional[Path]) -> str:
+    """The file that words name, where it may be written; Wrong where it may not. `origin` is the record that the session is from, as the user calls it."""
     if len(words) != 1 and words[1:] != [OVER]:
         raise Wrong(f"type `{kind.name}` and the name of one file, and `{OVER}` behind it where it is to be written over")
     name = words[0]
     try:
-        if origin and os.path.exists(name) and os.path.exists(origin.name) and os.path.samefile(name, origin.name):
+        if origin and os.path.exists(name) and os.path.exists(str(origin)) and os.path.samefile(name, str(origin)):
             raise Wrong(f"{name} is the record that this session is from, and stays as it is: type another name")
         if os.path.isfile(name) or pathlib.Path(name).is_block_device():
             refuse_what_is_there(name, kind, OVER in words[1:])

@@ -1,10 +1,13 @@
 """How a debugger goes on and back: steps, runs to what stops them, and goes back to who did something last."""
+from typing import Iterator, List, Optional, Sequence, Tuple
+
 from celltools.common.texts import number_of
 from celltools.debugger.calls import open_call
 from celltools.debugger.places import MOST_STEPS, Wrong, actor_of_word, count_of
-from celltools.debugger.stops import Behind, Watch, found_stops, stop_among
+from celltools.debugger.session import Session, processor_of_step
+from celltools.debugger.stops import Behind, Stop, Watch, What, found_stops, stop_among
 from celltools.debugger.things import Matter, Target, last_before
-from celltools.run.machine_state import actor_of
+from celltools.run.machine_state import Actor, State, actor_of
 from celltools.source.sites import sets_link
 from celltools.telling.states import ENDS
 from celltools.telling.words import counted
@@ -13,29 +16,30 @@ CHUNKS = (1000, 10_000, 100_000)  # steps that are made at a time, the last from
 STEP_LETTERS = {"x", "p", "e", "r", "a"}  # that begin the line of a step, beside the host's
 
 
-def turns(start, count, actors):
+def turns(start: int, count: int, actors: int) -> Iterator[int]:
     """The numbers of turns: the actors take them one after the other, and the choice is the number of the turn."""
     return (turn % actors + actors * turn for turn in range(start, start + count))
 
 
-class Going:
+class Going(Session):
     """The commands that move a session's place in its run."""
 
     # ---- going on
 
-    def do_step(self, words):
-        if words and actor_of_word(words[0], self.run.spes):
-            return self.step_actor(actor_of_word(words[0], self.run.spes), count_of(words[1:]))
+    def do_step(self, words: Sequence[str]) -> List[str]:
+        actor = actor_of_word(words[0], self.run.spes) if words else None
+        if actor:
+            return self.step_actor(actor, count_of(words[1:]))
         if words and words[0] in STEP_LETTERS:
             return self.step_line(" ".join(words))
         if len(words) > 1 or words and number_of(words[0]) is None:
             raise Wrong(f"`{' '.join(words)}` names no step: type a number of steps, an actor (x0, m0, h) with or without one, or a line that `actors` tells")
         return self.told_move(self.run.place, *self.advance([], count_of(words)))
 
-    def step_actor(self, actor, count):
+    def step_actor(self, actor: Actor, count: int) -> List[str]:
         """Makes steps of one actor, as long as it has one."""
         start, left = self.run.place, len(self.run.left)
-        if actor[0] == "x":
+        if actor[0] == "x" and actor[1] is not None:
             self.spe = actor[1]
         for size in self.chunks(count):
             if not self.take_own(actor, size):
@@ -45,13 +49,13 @@ class Going:
         said = [self.no_step(actor, state)] if made < count and (state.may or not made) else []
         return [*self.told_left(left), *(self.told_move(start, None, False) if made else []), *said]
 
-    def told_left(self, left):
+    def told_left(self, left: int) -> List[str]:
         """Says that what lay ahead was left, where it was: so many ways had been left before."""
         if len(self.run.left) == left:
             return []
         return [f"this leaves {counted(self.run.left[-1].ahead, 'step')} that lay ahead; `other` lays them ahead again"]
 
-    def take_own(self, actor, count):
+    def take_own(self, actor: Actor, count: int) -> bool:
         """Makes up to so many steps of one actor, and says whether it had as many."""
         number = self.run.state().actors().index(actor)
         lines, state = self.run.make([number] * count)
@@ -59,7 +63,7 @@ class Going:
         self.run.take(lines[:own], state if own == len(lines) else None)
         return own == count
 
-    def chunks(self, count):
+    def chunks(self, count: int) -> Iterator[int]:
         """So many steps in parts, the first ones smaller: a run that stops early is soon told."""
         sizes, size = iter(CHUNKS), 0
         while count:
@@ -67,7 +71,7 @@ class Going:
             yield size
             count -= size
 
-    def step_line(self, step):
+    def step_line(self, step: str) -> List[str]:
         """Makes the one step that a line of a record names."""
         state, start = self.run.state(), self.run.place
         number = state.choice(step)
@@ -77,19 +81,19 @@ class Going:
         self.run.take(*self.run.make([number]))
         return [*self.told_left(left), *self.told_move(start, None, False)]
 
-    def no_step(self, actor, state):
+    def no_step(self, actor: Actor, state: State) -> str:
         """Why an actor makes no step."""
         kind, number = actor
         if state.end == "Budget":
             return ENDS["Budget"]
-        if kind == "h":
+        if number is None:
             return "the host makes no step" + (": " + next(self.words.host(state)).strip() if state.host[1] else ": the machine file has no action of it")
         if kind == "m":
             return f"the flow controller of processor {number} has no step that is allowed: `queue {number}` tells what is outstanding"
         spe = state.spes[number]
         return f"{self.words.stands(spe)}: {self.words.remark(spe, state) or 'it makes no further step'}"
 
-    def do_next(self, words):
+    def do_next(self, words: Sequence[str]) -> List[str]:
         if words:
             raise Wrong("`next` stands alone: it goes to the next instruction of the processor that is looked at")
         spe = self.run.state().spes[self.spe]
@@ -98,7 +102,7 @@ class Going:
         behind = Behind(self.spe, spe.pc, sets_link(spe.word or 0))
         return self.told_move(self.run.place, *self.advance([behind, *self.stops.values()], MOST_STEPS))
 
-    def do_finish(self, words):
+    def do_finish(self, words: Sequence[str]) -> List[str]:
         if words:
             raise Wrong("`finish` stands alone: it goes to where the processor that is looked at is back from the routine that it is in")
         call = open_call(self.run, self.sites, self.spe)
@@ -106,21 +110,21 @@ class Going:
             raise Wrong(f"processor {self.spe} is in no routine that a brsl, brasl or bisl of this run called: `run` goes on")
         return self.told_move(self.run.place, *self.advance([Behind(self.spe, call, True), *self.stops.values()], MOST_STEPS))
 
-    def do_run(self, words):
+    def do_run(self, words: Sequence[str]) -> List[str]:
         words, condition = self.grammar.conditional(words, self.spe)
         if len(words) > 1 or condition and not words:
             raise Wrong("type `run`, or `run` and one place to run to: a label, FILE:LINE, an address or a channel")
         once = [self.stop_at(words[0], range(self.run.spes), condition)] if words else []
         return self.told_move(self.run.place, *self.advance([*self.stops.values(), *once], MOST_STEPS))
 
-    def advance(self, whats, most):
+    def advance(self, whats: Sequence[What], most: int) -> Tuple[Optional[Stop], bool]:
         """Makes up to so many steps, until one of these stops it: those that lie ahead, or else the actors take turns. Answers the stop, and whether
         it came to the end of what lay ahead."""
         if self.run.ahead:
             return self.advance_ahead(whats, most)
         for size in self.chunks(most):
             start = self.run.place
-            lines, state = self.run.make(turns(start, size, 2 * self.run.spes + 1))
+            lines, state = self.run.make(list(turns(start, size, 2 * self.run.spes + 1)))
             self.run.take(lines, state)
             try:
                 stop = self.first_stop(whats, start, start + len(lines))
@@ -133,17 +137,17 @@ class Going:
                 return stop, False
         return None, False
 
-    def advance_ahead(self, whats, most):
+    def advance_ahead(self, whats: Sequence[What], most: int) -> Tuple[Optional[Stop], bool]:
         """The same for steps that lie ahead."""
         end = self.run.place + min(most, self.run.ahead)
         stop = self.first_stop(whats, self.run.place, end)
         self.run.place = stop.behind if stop else end
         return stop, not stop and not self.run.ahead
 
-    def first_stop(self, whats, start, end):
+    def first_stop(self, whats: Sequence[What], start: int, end: int) -> Optional[Stop]:
         return stop_among(found_stops(whats, self.run, start, end), self.run, self.spe)
 
-    def told_move(self, start, stop, is_at_end):
+    def told_move(self, start: int, stop: Optional[Stop], is_at_end: bool) -> List[str]:
         """What is told of the steps that were made."""
         place, state = self.run.place, self.run.state()
         self.look_on(state)
@@ -162,34 +166,26 @@ class Going:
             lines.append(ENDS[state.end])
         return [*lines, *self.told_place(state)]
 
-    def look_on(self, state):
+    def look_on(self, state: State) -> None:
         """Where the processor that is looked at runs no more, looks at the one that made the last step, or whose flow controller did."""
         last = processor_of_step(self.run.heads[self.run.place - 1]) if self.run.place else None
         if last is not None and state.spes[last].runs and not state.spes[self.spe].runs:
             self.spe = last
 
-    def told_stop(self, stop):
+    def told_stop(self, stop: Stop) -> List[str]:
         """What stopped a run."""
-        is_watch = isinstance(stop.what, Watch)
-        if stop.spe is not None and (not is_watch or isinstance(stop.what.thing, (Matter, Target))):
+        thing = stop.what.thing if isinstance(stop.what, Watch) else None
+        if stop.spe is not None and (thing is None or isinstance(thing, (Matter, Target))):
             self.spe = stop.spe
         number = next((number for number, what in self.stops.items() if what is stop.what), None)
         lines = [] if number is None else [f"stopped by {number}: {stop.what}"]
-        if stop.what.is_once:
-            self.stops.pop(number, None)
-        return lines + (stop.what.thing.told(self.run, self.run.place - 1) if is_watch else [])
-
-    def told_place(self, state):
-        """Where the run stands: the processor that is looked at, and at an end all."""
-        if not state.may:
-            return self.words.where(state, self.spe)
-        spe = state.spes[self.spe]
-        remark = self.words.remark(spe, state)
-        return [f"> {self.words.stands(spe)}", *([f"      {remark}"] if remark else [])]
+        if stop.what.is_once and number is not None:
+            del self.stops[number]
+        return lines + (thing.told(self.run, self.run.place - 1) if thing else [])
 
     # ---- going back
 
-    def do_back(self, words):
+    def do_back(self, words: Sequence[str]) -> List[str]:
         if words[:1] == ["to"]:
             place = number_of(words[1]) if len(words) == 2 else None
             if place is None or place > self.run.place:
@@ -199,13 +195,10 @@ class Going:
         self.run.place = place
         return self.told_back()
 
-    def told_back(self):
+    def told_back(self) -> List[str]:
         return [self.told_count(), *self.told_place(self.run.state())]
 
-    def told_count(self):
-        return f"after {counted(self.run.place, 'step')}; {counted(self.run.ahead, 'step')} ahead"
-
-    def do_reverse(self, words):
+    def do_reverse(self, words: Sequence[str]) -> List[str]:
         if words:
             raise Wrong("`reverse` stands alone: it goes back to where a break or a watch holds")
         if not self.stops:
@@ -218,7 +211,7 @@ class Going:
         step = list(self.words.step(stop.behind - 1)) if isinstance(stop.what, Watch) else []
         return [*step, *self.told_stop(stop), *self.told_back()]
 
-    def do_last(self, words):
+    def do_last(self, words: Sequence[str]) -> List[str]:
         if not words:
             raise Wrong("type `last` and what was done: a range, a register, mailbox, signal, event, stall, reservation, lost or fault; `help last` has more")
         thing = self.things.thing(words, self.spe)
@@ -230,13 +223,13 @@ class Going:
         self.spe = self.spe if spe is None else spe
         return [*self.words.step(place), *self.words.calls(place), *thing.told(self.run, place), *self.told_back()]
 
-    def do_cut(self, words):
+    def do_cut(self, words: Sequence[str]) -> List[str]:
         if words or not self.run.ahead:
             raise Wrong("no steps lie ahead: `cut` leaves those that `back` went back over, or the rest of a record" if not words else "`cut` stands alone")
         self.run.cut()
         return ["no steps lie ahead any more: from here on the actors take turns; `other` lays them ahead again"]
 
-    def do_other(self, words):
+    def do_other(self, words: Sequence[str]) -> List[str]:
         many = len(self.run.left)
         if not many:
             raise Wrong("no steps were left for others: `other` lays those ahead again")
@@ -246,14 +239,9 @@ class Going:
         self.run.take_way(number - 1)
         return self.told_back()
 
-    def do_left(self, words):
+    def do_left(self, words: Sequence[str]) -> List[str]:
         if words:
             raise Wrong("`left` stands alone: it tells the steps that were left for others")
         told = [f"{number}: left after {counted(way.place, 'step')}, with {counted(way.ahead, 'step')} ahead, the next `{way.next_head}`"
                 for number, way in enumerate(self.run.left, 1)]
         return told or ["no steps were left for others"]
-
-
-def processor_of_step(step):
-    """The processor that makes a step, or whose flow controller does; None for the host's and where there is no step."""
-    return actor_of(step)[1] if step else None

@@ -7,6 +7,7 @@ from typing import Callable, Dict, List, Optional, Sequence, Tuple
 from celltools.common.texts import number_of
 from celltools.debugger.places import MOST, STORE, Places, Wrong, is_processor, processor_of, register_of
 from celltools.run.effects import Span
+from celltools.run.stepping import Run
 from celltools.telling.words import counted
 
 PART = re.compile(r"(\$\w+)\.([0-3])", re.A)
@@ -23,10 +24,10 @@ OF_CONDITIONS = "type VALUE, one of == != < <= > >=, and VALUE, and `and` betwee
 class Value:
     """What has bytes behind so many steps; of a processor, where it names none itself."""
 
-    def read(self, run, place: int, spe: int) -> bytes:
+    def read(self, run: Run, place: int, spe: int) -> bytes:
         raise NotImplementedError
 
-    def as_number(self, run, place: int, spe: int, is_signed: bool) -> int:
+    def as_number(self, run: Run, place: int, spe: int, is_signed: bool) -> int:
         return int.from_bytes(self.read(run, place, spe), "big", signed=is_signed)
 
 
@@ -37,7 +38,7 @@ class Register(Value):
     spe: Optional[int] = None
     part: Optional[int] = None
 
-    def read(self, run, place: int, spe: int) -> bytes:
+    def read(self, run: Run, place: int, spe: int) -> bytes:
         """Its bytes behind so many steps."""
         digits = bytes.fromhex(run.state(place).spes[spe if self.spe is None else self.spe].register(self.number))
         return digits if self.part is None else digits[WORD * self.part:][:WORD]
@@ -52,7 +53,7 @@ class Counter(Value):
     """A PC."""
     spe: Optional[int] = None
 
-    def read(self, run, place: int, spe: int) -> bytes:
+    def read(self, run: Run, place: int, spe: int) -> bytes:
         return run.state(place).spes[spe if self.spe is None else self.spe].pc.to_bytes(WORD, "big")
 
 
@@ -62,7 +63,7 @@ class Bytes(Value):
     span: Span
     register: Optional[int] = None
 
-    def read(self, run, place: int, spe: int) -> bytes:
+    def read(self, run: Run, place: int, spe: int) -> bytes:
         return run.bytes_of(self.span, place)
 
     @property
@@ -76,7 +77,7 @@ class Number(Value):
     """A number; a negative one lets both sides of a comparison be read signed."""
     value: int
 
-    def as_number(self, run, place: int, spe: int, is_signed: bool) -> int:
+    def as_number(self, run: Run, place: int, spe: int, is_signed: bool) -> int:
         return self.value
 
 
@@ -86,7 +87,7 @@ class Comparison:
     sign: str
     right: Value
 
-    def holds(self, run, place: int, spe: int) -> bool:
+    def holds(self, run: Run, place: int, spe: int) -> bool:
         """Whether it is so behind so many steps, of a processor."""
         is_signed = any(isinstance(side, Number) and side.value < 0 for side in (self.left, self.right))
         return COMPARED[self.sign](*(side.as_number(run, place, spe, is_signed) for side in (self.left, self.right)))
@@ -98,14 +99,14 @@ class Condition:
     text: str
     comparisons: Tuple[Comparison, ...]
 
-    def holds(self, run, place: int, spe: int) -> bool:
+    def holds(self, run: Run, place: int, spe: int) -> bool:
         return all(comparison.holds(run, place, spe) for comparison in self.comparisons)
 
 
 class Grammar:
     """Reads words for one session."""
 
-    def __init__(self, run, places: Places) -> None:
+    def __init__(self, run: Run, places: Places) -> None:
         self.run, self.places = run, places
 
     # ---- processors and ranges

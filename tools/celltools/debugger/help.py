@@ -1,4 +1,5 @@
 """What a debugger says of its commands."""
+from typing import List, Sequence
 
 WRITES = """
         A file that is there is written over only with `over`, and only where it holds what the command writes or nothing;
@@ -69,7 +70,7 @@ COMMANDS = {
 SHORT = {"b": "break", "l": "list", "n": "next", "p": "print", "q": "quit", "r": "run", "s": "step", "w": "where"}
 
 
-def help_lines(names):
+def help_lines(names: Sequence[str]) -> List[str]:
     """What is said of these commands, or of all."""
     if names:
         usage, words, more = COMMANDS[names[0]]

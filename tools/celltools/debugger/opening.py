@@ -3,7 +3,7 @@ from typing import List, Optional, Tuple
 
 from celltools.common.texts import number_of
 from celltools.run.machine_state import State
-from celltools.run.runs import Refused, verdict
+from celltools.run.runs import Path, Refused, verdict
 from celltools.run.stepping import Run
 from celltools.telling.words import counted
 
@@ -11,7 +11,7 @@ FAULTS = ("dmafault", "badword", "badchannel", "halted")
 ENDS = {"Stuck": "where the run is stuck", "Budget": "where its budget is spent"}
 
 
-def opened(run: Run, record, words: Tuple[str, ...]) -> Tuple[Run, List[str]]:
+def opened(run: Run, record: Optional[Path], words: Tuple[str, ...]) -> Tuple[Run, List[str]]:
     """A session's run at its place, and what is said of it: behind so many steps of a record as the words say, or else where it is most to be seen."""
     if record is None:
         return run, []
@@ -31,7 +31,7 @@ def place_in(run: Run, word: str) -> int:
     return place
 
 
-def chosen(run: Run, record) -> Tuple[int, str]:
+def chosen(run: Run, record: Path) -> Tuple[int, str]:
     """Behind how many steps of a record there is most to be seen, and why."""
     end = run.ahead
     state = run.state(end)
@@ -50,7 +50,7 @@ def faulty(state: State) -> Optional[str]:
     return f"with {', '.join(told)}" if told else None
 
 
-def race_of(run: Run, record) -> Optional[Tuple[int, int]]:
+def race_of(run: Run, record: Path) -> Optional[Tuple[int, int]]:
     """The race that `check` finds; None where it finds none."""
     said = verdict(run.machine, record)[0].split()
     return (int(said[1]), int(said[2])) if said[0] == "race" else None

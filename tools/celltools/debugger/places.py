@@ -1,9 +1,13 @@
 """The words by which a debugger's user names processors, places of programs and ranges of bytes."""
 import os
 import re
+from typing import Dict, Iterable, List, Optional, Sequence
 
 from celltools.common.texts import number_of
+from celltools.run.machine_state import Actor
 from celltools.source.language import SMALL
+from celltools.source.placed import Place
+from celltools.source.sites import Sites
 
 STORE = 262_144
 MOST_STEPS = 1_000_000  # of any run
@@ -20,7 +24,7 @@ class Wrong(Exception):
     """What is wrong with a command, and what to type."""
 
 
-def part_number(word):
+def part_number(word: str) -> int:
     """The number that a part of a place spells; Wrong where it is none."""
     number = number_of(word)
     if number is None:
@@ -28,7 +32,7 @@ def part_number(word):
     return number
 
 
-def count_of(words):
+def count_of(words: Sequence[str]) -> int:
     """The number of steps that words say, 1 where there are none."""
     if not words:
         return 1
@@ -38,7 +42,7 @@ def count_of(words):
     return count
 
 
-def actor_of_word(word, spes):
+def actor_of_word(word: str, spes: int) -> Optional[Actor]:
     """The actor that a word names: x and a processor, m and that of a flow controller, h; None for any other word."""
     found = ACTOR.fullmatch(word)
     if not found:
@@ -48,12 +52,12 @@ def actor_of_word(word, spes):
     return found[1], processor_of(found[2], spes)
 
 
-def is_processor(word):
+def is_processor(word: str) -> bool:
     """Whether a word is x and a number."""
     return re.fullmatch(r"x\d{1,2}", word, re.A) is not None
 
 
-def processor_of(word, spes):
+def processor_of(word: str, spes: int) -> int:
     """The processor of a number."""
     number = number_of(word.removeprefix("x"))
     if number is None or number >= spes:
@@ -62,33 +66,35 @@ def processor_of(word, spes):
     return number
 
 
-def register_of(word):
+def register_of(word: str) -> Optional[int]:
     """The number of a register by its name; None for any other word."""
     found = REGISTER.fullmatch(word)
-    return found and (NAMED[found[1]] if found[1] in NAMED else int(found[1]))
+    if not found:
+        return None
+    return NAMED[found[1]] if found[1] in NAMED else int(found[1])
 
 
 class Places:
     """Knows where lines and labels of a machine's sources stand."""
 
-    def __init__(self, sites):
+    def __init__(self, sites: Sites) -> None:
         self.sites, self.spes = sites, len(sites.of_processor)
 
-    def label(self, name, spe):
+    def label(self, name: str, spe: int) -> Optional[Place]:
         """The address and the size of a label in a processor's store; None where it has none."""
         return self.sites.labels[spe].get(name)
 
-    def of_lines(self, file, number, spe):
+    def of_lines(self, file: str, number: int, spe: int) -> List[int]:
         """The addresses of a processor's instructions that come from a line of a file."""
         origin = f"{file}:{number}"
         return [at for at, site in self.sites.of_processor[spe].items()
                 if site.number == number and is_named(site.file, file) or site.origin and is_named(site.origin_line, origin)]
 
-    def last_line(self, file, spe):
+    def last_line(self, file: str, spe: int) -> int:
         """The last line of a file that placed something in a processor's store; 0 where none did."""
         return max((site.number for site in self.sites.of_processor[spe].values() if is_named(site.file, file)), default=0)
 
-    def file_line(self, file, number, spe):
+    def file_line(self, file: str, number: int, spe: int) -> Optional[int]:
         """The address of the first instruction from a line of a file, or else from the next line that placed one."""
         for line in range(number, max(number, self.last_line(file, spe)) + 1):
             found = self.of_lines(file, line, spe)
@@ -96,7 +102,7 @@ class Places:
                 return min(found)
         return None
 
-    def address(self, word, spe):
+    def address(self, word: str, spe: int) -> Optional[int]:
         """The address of a place in a processor's store; None where it isn't there."""
         number = number_of(word)
         if number is not None:
@@ -105,29 +111,29 @@ class Places:
         if found:
             return self.file_line(found[1], part_number(found[2]), spe)
         found = LABEL.fullmatch(word)
-        place = found and self.label(found[1], spe)
-        if not place:
+        place = self.label(found[1], spe) if found else None
+        if not found or not place:
             return None
         offset = part_number(found[3]) if found[3] else 0
         at = place[0] + (-offset if found[2] == "-" else offset)
         return at if at >= 0 else None
 
-    def addresses(self, word, spes):
+    def addresses(self, word: str, spes: Iterable[int]) -> Dict[int, int]:
         """Of each of these processors the address of a place, for those where it is an instruction's."""
-        found = {spe: self.address(word, spe) for spe in spes}
-        found = {spe: at for spe, at in found.items() if at is not None and 0 <= at < STORE}
+        all_of = {spe: self.address(word, spe) for spe in spes}
+        found = {spe: at for spe, at in all_of.items() if at is not None and 0 <= at < STORE}
         if not found:
             raise Wrong(f"`{word}` is no place of a program: type a label, FILE:LINE or an address of the store; `help break` has more")
         if any(at % 4 for at in found.values()):
             raise Wrong(f"no instruction stands at `{word}`: its address is no multiple of 4")
         return found
 
-    def size_of(self, word, spe):
+    def size_of(self, word: str, spe: int) -> int:
         """How many bytes a range has that begins with this word and says no size."""
         place = self.label(word, spe)
         return min(place[1] or PLAIN_SIZE, MOST) if place else PLAIN_SIZE
 
 
-def is_named(path, name):
+def is_named(path: object, name: str) -> bool:
     """Whether a name is that of a file, with its folders or without."""
-    return path == name or os.path.basename(path) == name
+    return str(path) == name or os.path.basename(str(path)) == name

@@ -1,30 +1,28 @@
 """Where a debugger stops a run: at places of programs, at instructions of channels, behind steps that do something to a thing that is watched, and behind an
 instruction with all that it calls."""
-import collections
 import dataclasses
 import re
-from typing import Dict, Iterable, Iterator, List, Optional, Sequence, Tuple
+from typing import Dict, Iterable, Iterator, List, NamedTuple, Optional, Sequence, Tuple
 
 from celltools.debugger.grammar import Condition
 from celltools.debugger.things import Thing, steps_that_do
+from celltools.run.stepping import Run
 from celltools.source.channels import channel_name, channel_of
 
 EXEC = re.compile(r"x (\d+) \| fetch \d+ (\d+)")
 CHANNEL = re.compile(r" \| (?:rdch|rchcnt|wrch) (\d+) ")
 
-# Where a run stops: behind how many steps, at what, and which processor came there or made the step, None where it was the host.
-Stop = collections.namedtuple("Stop", "behind what spe")
 Found = Tuple[int, Optional[int]]  # behind how many steps, and which processor
 
 
-def arrivals(run, start: int, end: int) -> Iterator[Tuple[int, int, int]]:
+def arrivals(run: Run, start: int, end: int) -> Iterator[Tuple[int, int, int]]:
     """Behind how many steps, of those from `start` and before `end`, which processor comes to which address. It says so at its next instruction, or as it
     stands at the end."""
     last: Dict[int, int] = {}
     for place in range(start, end):
-        line = run.trace.lines[place]
-        if line.startswith("x "):
-            spe, at = map(int, EXEC.match(line).groups())
+        found = EXEC.match(run.trace.lines[place])
+        if found:
+            spe, at = int(found[1]), int(found[2])
             if spe in last:
                 yield last[spe] + 1, spe, at
             last[spe] = place
@@ -39,10 +37,10 @@ class What:
     condition: Optional[Condition] = None
     is_once = False  # whether it is deleted where it stops a run
 
-    def find(self, run, start: int, end: int) -> Iterable[Found]:
+    def find(self, run: Run, start: int, end: int) -> Iterable[Found]:
         raise NotImplementedError
 
-    def holds(self, run, behind: int, spe: int) -> bool:
+    def holds(self, run: Run, behind: int, spe: int) -> bool:
         return self.condition is None or self.condition.holds(run, behind, spe)
 
     @property
@@ -66,7 +64,7 @@ class Break(What):
         at = ", ".join(f"x{spe} 0x{address:05x}" for spe, address in self.places.items())
         return f"{self.name} {self.text}: {at}{self.suffix}"
 
-    def find(self, run, start: int, end: int) -> Iterable[Found]:
+    def find(self, run: Run, start: int, end: int) -> Iterable[Found]:
         return ((behind, spe) for behind, spe, at in arrivals(run, start, end) if self.places.get(spe) == at)
 
 
@@ -82,10 +80,10 @@ class ChannelBreak(What):
     def __str__(self) -> str:
         return f"{self.name} {self.text}: {channel_name(self.channel)}, by {', '.join(f'x{spe}' for spe in self.spes)}{self.suffix}"
 
-    def find(self, run, start: int, end: int) -> Iterable[Found]:
+    def find(self, run: Run, start: int, end: int) -> Iterable[Found]:
         return ((behind, spe) for behind, spe, channel in self.arrivals(run, start, end) if channel == self.channel and spe in self.spes)
 
-    def arrivals(self, run, start: int, end: int) -> Iterator[Tuple[int, int, int]]:
+    def arrivals(self, run: Run, start: int, end: int) -> Iterator[Tuple[int, int, Optional[int]]]:
         """Behind how many of these steps which processor comes to an instruction, and to which channel: as it did it then, or as it stands at the end."""
         last: Dict[int, int] = {}
         for place in range(start, end):
@@ -110,7 +108,7 @@ class Watch(What):
     def __str__(self) -> str:
         return f"watch {self.thing}{self.suffix}"
 
-    def find(self, run, start: int, end: int) -> Iterable[Found]:
+    def find(self, run: Run, start: int, end: int) -> Iterable[Found]:
         return ((place + 1, run.trace.steps[place].spe) for place in steps_that_do(self.thing, start, end))
 
 
@@ -122,7 +120,7 @@ class Behind(What):
     is_call: bool
     open: int = 1  # how many calls from here haven't come back
 
-    def find(self, run, start: int, end: int) -> Iterable[Found]:
+    def find(self, run: Run, start: int, end: int) -> Iterable[Found]:
         """Where the processor is behind it, or has ended."""
         own = [place for place in range(start, end) if run.trace.lines[place].startswith(f"x {self.spe} ")]
         if not self.is_call:
@@ -130,7 +128,7 @@ class Behind(What):
         ended = [(place + 1, self.spe) for place in own[-1:] if " | ended" in run.trace.lines[place]]
         return self.find_back(run, start, end) or ended
 
-    def find_back(self, run, start: int, end: int) -> List[Found]:
+    def find_back(self, run: Run, start: int, end: int) -> List[Found]:
         """Where the processor is back: a routine may call itself from the same place."""
         for behind, spe, at in arrivals(run, start, end):
             if spe == self.spe:
@@ -140,12 +138,19 @@ class Behind(What):
         return []
 
 
-def found_stops(whats: Iterable[What], run, start: int, end: int) -> List[Stop]:
+class Stop(NamedTuple):
+    """Where a run stops: behind how many steps, at what, and which processor came there or made the step, None where it was the host."""
+    behind: int
+    what: What
+    spe: Optional[int]
+
+
+def found_stops(whats: Iterable[What], run: Run, start: int, end: int) -> List[Stop]:
     """Where these steps may be stopped, the first ones first, whatever the conditions say."""
     found = [(behind, number, Stop(behind, what, spe)) for number, what in enumerate(whats) for behind, spe in what.find(run, start, end)]
     return [stop for _, _, stop in sorted(found, key=lambda it: it[:2])]
 
 
-def stop_among(stops: Iterable[Stop], run, looked_at: int) -> Optional[Stop]:
+def stop_among(stops: Iterable[Stop], run: Run, looked_at: int) -> Optional[Stop]:
     """The first of these whose condition holds; it is asked of the processor that is looked at where the host made the step."""
     return next((stop for stop in stops if stop.what.holds(run, stop.behind, looked_at if stop.spe is None else stop.spe)), None)

@@ -1,8 +1,10 @@
 """Reads a debugger's commands, from a terminal or from a script, and prints its answers."""
 import os
 import sys
+from typing import Callable, Iterable, Iterator, List, Optional, Sequence
 
 from celltools.common.texts import decoded, say
+from celltools.debugger.debugger import Debugger
 from celltools.debugger.grammar import WIDTHS
 from celltools.debugger.help import COMMANDS
 from celltools.debugger.places import Wrong
@@ -15,38 +17,38 @@ REPEATED = {"step", "next", "back", "reverse", "last", "s", "n"}  # commands tha
 DELIMITERS = " \t"
 
 
-def words_to_complete(debugger):
+def words_to_complete(debugger: Debugger) -> List[str]:
     """What may stand in a command."""
     labels = {label for of_one in debugger.sites.labels for label in of_one}
-    paths = {site.file for sites in debugger.sites.of_processor for site in sites.values()}
+    paths = {str(site.file) for sites in debugger.sites.of_processor for site in sites.values()}
     files = {f"{name}:" for path in paths for name in (path, os.path.basename(path))}
     actors = [f"{kind}{spe}" for spe in range(debugger.run.spes) for kind in "xm"] + ["h"]
     return sorted({*labels, *files, *actors, *(f"${number}" for number in range(128)), *NAMES.values(), *KINDS, *WIDTHS, "mem", "ls", "pc", "if", "as"})
 
 
-def completer(debugger, readline):
-    """What completes the word that is being typed: a command where it is the first."""
+def completer(debugger: Debugger, position: Callable[[], int]) -> Callable[[str, int], Optional[str]]:
+    """What completes the word that is being typed, which begins at a position: a command where it is the first."""
     others = words_to_complete(debugger)
 
-    def complete(text, number):
-        choices = others if readline.get_begidx() else list(COMMANDS)
+    def complete(text: str, number: int) -> Optional[str]:
+        choices = others if position() else list(COMMANDS)
         return [*(word for word in choices if word.startswith(text)), None][number]
 
     return complete
 
 
-def prepare_terminal(debugger):
+def prepare_terminal(debugger: Debugger) -> None:
     """Lets Python's own line editing complete words and keep a history, where it is there."""
     try:
         import readline
     except ImportError:
         return
     readline.set_completer_delims(DELIMITERS)
-    readline.set_completer(completer(debugger, readline))
+    readline.set_completer(completer(debugger, readline.get_begidx))
     readline.parse_and_bind("tab: complete")
 
 
-def typed(debugger, read=input):
+def typed(debugger: Debugger, read: Callable[[str], str] = input) -> Iterator[str]:
     """The lines of a terminal; an empty one repeats a step. `read` shows a prompt and reads a line."""
     before, is_warned = "", False
     while True:
@@ -70,14 +72,14 @@ def typed(debugger, read=input):
         yield before
 
 
-def given(debugger):
+def given(debugger: Debugger) -> Iterator[str]:
     """The lines of a script, which are printed as they come."""
     for line in iter(read_line, ""):
         say(f"{debugger.prompt()}{line.rstrip()}")
         yield line
 
 
-def read_line():
+def read_line() -> str:
     """The next line of standard input; Refused where it is no script."""
     line = sys.stdin.buffer.readline(MOST_SCRIPT_LINE + 1)
     if len(line) > MOST_SCRIPT_LINE:
@@ -85,9 +87,10 @@ def read_line():
     return decoded(line)
 
 
-def answered(debugger, line):
+def answered(debugger: Debugger, line: str) -> bool:
     """Prints the answer to a line, and says whether it was right. Whatever a command meets, the session goes on: its steps are worth more than the command."""
-    is_right, said = False, []
+    is_right = False
+    said: Sequence[object] = []
     try:
         said = debugger.obey(line)
         is_right = True
@@ -102,7 +105,7 @@ def answered(debugger, line):
     return is_right
 
 
-def talk(debugger, said=()):
+def talk(debugger: Debugger, said: Iterable[str] = ()) -> int:
     """A session, with its exit status, which begins by saying these lines. Refused where standard input is no script."""
     is_terminal = sys.stdin.isatty()
     status = 0

@@ -5,12 +5,14 @@ from typing import Iterator, List, Optional, Sequence
 from celltools.common.texts import number_of
 from celltools.debugger.grammar import Bytes, Grammar, Register
 from celltools.debugger.places import Wrong
-from celltools.run.effects import MEMORY_LINE, Span
+from celltools.run.effects import MEMORY_LINE, Span, Trace
+from celltools.run.stepping import Run
 from celltools.source.channels import VALUES
 from celltools.source.names import Names
+from celltools.source.sites import Sites
 from celltools.source.target_registers import target_of
 from celltools.telling.executed import Executed
-from celltools.telling.happenings import Happenings, Kind
+from celltools.telling.happenings import Happenings, Key, Kind
 from celltools.telling.states import dump, quad
 
 SHOWN = 16  # bytes of a range that are shown
@@ -30,7 +32,7 @@ class Thing:
         """Whether the step at a place does something to it."""
         raise NotImplementedError
 
-    def told(self, run, place: int) -> List[str]:
+    def told(self, run: Run, place: int) -> List[str]:
         """What the step at a place did to it."""
         raise NotImplementedError
 
@@ -45,7 +47,7 @@ class Range(Thing):
     """Bytes: a step writes one of them."""
     text: str
     bytes: Bytes
-    trace: object
+    trace: Trace
     names: Names
 
     def __str__(self) -> str:
@@ -55,11 +57,13 @@ class Range(Thing):
         if " | write " not in self.trace.lines[place]:
             return False
         span, written = self.bytes.span, self.trace.steps[place].writes
-        return written.spe == span.spe and written.at < span.at + span.size and span.at < written.at + written.size
+        return written is not None and written.spe == span.spe and written.at < span.at + span.size and span.at < written.at + written.size
 
-    def told(self, run, place: int) -> List[str]:
+    def told(self, run: Run, place: int) -> List[str]:
         """The bytes that were written, before and behind."""
         watched, written = self.bytes.span, self.trace.steps[place].writes
+        if written is None:
+            return []
         at = max(watched.at, written.at)
         span = Span(watched.spe, at, min(SHOWN, min(watched.at + watched.size, written.at + written.size) - at))
         return [f"    {when} {line}" for when, behind in (("before", place), ("behind", place + 1))
@@ -85,8 +89,8 @@ class Target(Thing):
         return (fetched is not None and fetched[0] == self.register.spe and " | ended" not in self.executed.trace.lines[place]
                 and target_of(self.executed.word(place)) == self.register.number)
 
-    def told(self, run, place: int) -> List[str]:
-        return [f"    {when} ${self.register.number} = {quad(run.state(behind).spes[self.register.spe].register(self.register.number))}"
+    def told(self, run: Run, place: int) -> List[str]:
+        return [f"    {when} ${self.register.number} = {quad(run.state(behind).spes[self.register.spe or 0].register(self.register.number))}"
                 for when, behind in (("before", place), ("behind", place + 1))]
 
     @property
@@ -100,7 +104,7 @@ class Matter(Thing):
     text: str
     kind: Kind
     spe: Optional[int]
-    key: Optional[object]
+    key: Key
     happenings: Happenings
 
     def __str__(self) -> str:
@@ -110,14 +114,16 @@ class Matter(Thing):
         return [it.words for it in self.happenings.of(place)
                 if it.kind == self.kind and self.spe in (None, it.spe) and (self.key is None or self.is_key(it.key))]
 
-    def is_key(self, key: object) -> bool:
+    def is_key(self, key: Key) -> bool:
         """Whether a happening's key is the one that is asked for: of events and stalls it is a set of bits."""
-        return bool(self.key & key) if self.kind in (Kind.EVENT, Kind.STALL) else self.key == key
+        if isinstance(self.key, int) and isinstance(key, int) and self.kind in (Kind.EVENT, Kind.STALL):
+            return bool(self.key & key)
+        return self.key == key
 
     def does(self, place: int) -> bool:
         return bool(self.found(place))
 
-    def told(self, run, place: int) -> List[str]:
+    def told(self, run: Run, place: int) -> List[str]:
         return [f"    {words}" for words in self.found(place)]
 
     @property
@@ -128,7 +134,7 @@ class Matter(Thing):
 class Things:
     """Reads the words that name a thing."""
 
-    def __init__(self, grammar: Grammar, trace, sites) -> None:
+    def __init__(self, grammar: Grammar, trace: Trace, sites: Sites) -> None:
         self.grammar, self.trace, self.names = grammar, trace, sites.names
         self.executed = Executed(trace, sites, grammar.run.bytes_of)
         self.happenings = Happenings(trace, self.executed)
@@ -148,7 +154,7 @@ class Things:
         size = [] if len(rest) > {"mem": 2, "ls": 3}.get(rest[0], 1) else [str(found.span.size)]
         return Range(" ".join([*words, *size]), found, self.trace, self.names)
 
-    def key(self, kind: Kind, words: Sequence[str]) -> Optional[object]:
+    def key(self, kind: Kind, words: Sequence[str]) -> Key:
         """What the words behind a kind name; None where there are none."""
         if not words:
             return None
@@ -159,7 +165,7 @@ class Things:
         return found
 
 
-def key_of(kind: Kind, word: str) -> Optional[object]:
+def key_of(kind: Kind, word: str) -> Key:
     """The key that a word is; None where it is none of that kind."""
     if kind == Kind.MAILBOX:
         return word if word in BOXES else None

@@ -3,9 +3,10 @@ import collections
 import os
 import re
 import stat
+from typing import DefaultDict, Dict, Iterable, Iterator, List, Mapping, NamedTuple, Optional, Sequence, Set, Tuple
 
 from celltools.common.texts import MOST_BYTES, bytes_of, number_of
-from celltools.explain.report import MOST, cell, cell_of, in_latin, short
+from celltools.explain.report import MOST, Report, cell, cell_of, in_latin, short
 from celltools.explain.source import explain_source
 from celltools.run.runs import Refused
 from celltools.source.language import STORE
@@ -27,27 +28,36 @@ MOST_LINES = {"spe": 16, "source": 32, "host": 4096, "show": 64}
 MACHINE_NUMBER = re.compile(r"0|[1-9]\d*|0x[0-9A-Fa-f]{1,8}", re.A)
 
 
+class Placed(NamedTuple):
+    """Bytes that a line places in a processor's store."""
+    line: int
+    spe: int
+    start: int
+    size: int
+    kind: str  # the first word of the line
+
+
 class Seen:
     """What the accepted lines of a machine file said."""
 
-    def __init__(self):
+    def __init__(self) -> None:
         self.heads, self.memory = 0, 0
         self.counts = dict.fromkeys(MOST_LINES, 0)
-        self.begun = []  # the line of each `spe`
-        self.entries = set()  # the processors that have one
-        self.placed = []  # line, processor, address, size, the first word of the line
-        self.sources = []  # line, processor, name
+        self.begun: List[int] = []  # the line of each `spe`
+        self.entries: Set[int] = set()  # the processors that have one
+        self.placed: List[Placed] = []
+        self.sources: List[Tuple[int, int, str]] = []  # line, processor, name
 
     @property
-    def spe(self):
+    def spe(self) -> int:
         return self.counts["spe"] - 1
 
-    def place(self, number, address):
+    def place(self, number: int, address: int) -> str:
         """An address that the line of a number has placed, with its name, if it has one."""
         name = "".join(label_at(source, address) for line, _, source in self.sources if line == number)
         return f"0x{address:05x}" + (f" ({name})" if name else "")
 
-    def take(self, number, words):
+    def take(self, number: int, words: Sequence[str]) -> None:
         """Takes an accepted line."""
         name = words[0]
         if name in HEADS:
@@ -59,14 +69,14 @@ class Seen:
         if name == "spe":
             self.begun.append(number)
         elif name in ("code", "bytes"):
-            self.placed.append((number, self.spe, int(words[1], 0), len(words[2]) // 2, name))
+            self.placed.append(Placed(number, self.spe, int(words[1], 0), len(words[2]) // 2, name))
         elif name == "source":
             self.sources.append((number, self.spe, words[1]))
         elif name == "entry":
             self.entries.add(self.spe)
 
 
-def label_at(source, address):
+def label_at(source: str, address: int) -> str:
     """The name that a source has for an address; nothing where it has none, or its lines can't be placed."""
     try:
         return name_in(named_by_labels(source_labels(source_lines(source))), address)
@@ -74,7 +84,7 @@ def label_at(source, address):
         return ""
 
 
-def why_head(words, seen):
+def why_head(words: Sequence[str], seen: Seen) -> str:
     want = list(HEADS)[seen.heads]
     if words[0] != want:
         return f"`{want}` stands here: the first three lines are `cell-machine 1`, `lines N` and `budget N`, in this order"
@@ -83,7 +93,7 @@ def why_head(words, seen):
     return f"`{want}` takes one number from 1 to {HEADS[want]}"
 
 
-def why_hex(word):
+def why_hex(word: str) -> Optional[str]:
     if word.startswith("0x"):
         return "bytes are hexadecimal digits without 0x"
     if not re.fullmatch("[0-9A-Fa-f]+", word) or len(word) % 2:
@@ -91,7 +101,7 @@ def why_hex(word):
     return "at most 4,096 bytes stand on one line" if len(word) > 8192 else None
 
 
-def why_word(kind, word):
+def why_word(kind: str, word: str) -> Optional[str]:
     """What is wrong with one word of a line, by itself."""
     if kind == "HEX":
         return why_hex(word)
@@ -104,7 +114,7 @@ def why_word(kind, word):
     return f"`{short(word)}` is no number: decimal without a leading zero or sign, or 0x and 1 to 8 digits" + labels
 
 
-def why_range(name, value, seen):
+def why_range(name: str, value: Mapping[str, int], seen: Seen) -> Optional[str]:
     """What is wrong with the range of bytes that a line names."""
     size = value.get("N", value.get("HEX", 1))
     if name in ("code", "entry") and value["A"] % 4 or name == "code" and size % 4:
@@ -118,14 +128,19 @@ def why_range(name, value, seen):
     return None if 1 <= size <= 4096 else "a range has 1 to 4,096 bytes"
 
 
-def hint_of_form(name, form, count):
+def number_in_word(kind: str, word: str) -> int:
+    """The number that an accepted word of a line has, of bytes and names how long they are."""
+    return len(word) // 2 if kind == "HEX" else len(word) if kind == "NAME" else int(word, 0)
+
+
+def hint_of_form(name: str, form: Sequence[str], count: int) -> str:
     """What is to be known of a line's form, behind the form itself."""
     if name in OF_SIGNALS:
         return f": {OF_SIGNALS[name]}"
     return "; the bytes stand together, without blanks" if "HEX" in form and count > len(form) else ""
 
 
-def why_machine_line(words, seen):
+def why_machine_line(words: Sequence[str], seen: Seen) -> Optional[str]:
     """What is wrong with a line of a machine file, behind the first three, in words."""
     name = " ".join(words[:2]) if words[0] in ("host", "show") else words[0]
     if name not in LINES:
@@ -136,8 +151,7 @@ def why_machine_line(words, seen):
     for kind, word in zip(form, arguments):
         if why := why_word(kind, word):
             return why
-    sizes = {"HEX": lambda word: len(word) // 2, "NAME": len}
-    value = {kind: sizes.get(kind, lambda word: int(word, 0))(word) for kind, word in zip(form, arguments)}
+    value = {kind: number_in_word(kind, word) for kind, word in zip(form, arguments)}
     if name in ("code", "bytes", "source", "entry") and seen.spe < 0:
         return f"`{name}` stands behind a `spe` line"
     if value.get("P", -1) > seen.spe:
@@ -152,7 +166,7 @@ def why_machine_line(words, seen):
     return f"there are at most {most} lines of `{words[0]}`" if seen.counts.get(words[0]) == most else None
 
 
-def words_of(line):
+def words_of(line: bytes) -> List[str]:
     return re.findall(r"[^ \t]+", in_latin(line).split("#")[0])
 
 
@@ -161,13 +175,13 @@ class MachineFile:
 
     END = b"end-of-the-file"  # begins no line, so that the program stops there at the latest
 
-    def __init__(self, data):
+    def __init__(self, data: bytes) -> None:
         self.lines = data.split(b"\n")
         if self.lines[-1] == b"":
             self.lines.pop()
         self.seen, self.taken = Seen(), 0
 
-    def faults(self):
+    def faults(self) -> Iterator[Tuple[Optional[int], str]]:
         """Each faulty line's number with the reason, in order."""
         while True:
             _, _, said = cell_of("run", [*self.lines, self.END], ".cell")
@@ -185,13 +199,13 @@ class MachineFile:
             if not self.goes_on:
                 return
 
-    def take(self, end):
+    def take(self, end: int) -> None:
         for at in range(self.taken, end):
             if words := words_of(self.lines[at]):
                 self.seen.take(at + 1, words)
         self.taken = max(self.taken, end)
 
-    def mended(self, at):
+    def mended(self, at: int) -> str:
         """Takes the fault out of a line; what it was."""
         line, self.goes_on = self.lines[at], True
         if line.startswith(b"\xef\xbb\xbf"):
@@ -211,36 +225,36 @@ class MachineFile:
         self.lines[at] = b"spe" if is_spe else b""
         return why
 
-    def whole(self):
+    def whole(self) -> str:
         """What the program says of the file when all its lines and sources are in order."""
         at = [at for at, line in enumerate(self.lines) if words_of(line)][2]
         _, _, said = cell_of("run", [*self.lines[:at], b"budget 1", *self.lines[at + 1 :]], ".cell")
         return said
 
 
-def image_ranges(name):
+def image_ranges(name: str) -> Iterator[Tuple[int, int]]:
     """Address and size of each range of a source's image."""
     for words in map(str.split, cell("asm", name)[1].splitlines()):
         if words[0] in ("code", "bytes"):
             yield int(words[1], 16), len(words[2]) // 2
 
 
-def source_places(seen, explained):
+def source_places(seen: Seen, explained: Mapping[str, bool]) -> List[Placed]:
     """What the lines of a machine file place, those of sources with their images, in the order of the lines."""
     places = list(seen.placed)
     for number, spe, name in seen.sources:
         if explained.get(name):
-            places += [(number, spe, start, size, "source") for start, size in image_ranges(name)]
-    return sorted(places, key=lambda place: place[0])
+            places += [Placed(number, spe, start, size, "source") for start, size in image_ranges(name)]
+    return sorted(places, key=lambda place: place.line)
 
 
 class Stores:
     """Which line placed each byte first, in the store of each processor."""
 
-    def __init__(self):
-        self.lines = collections.defaultdict(lambda: [0] * STORE)
+    def __init__(self) -> None:
+        self.lines: DefaultDict[int, List[int]] = collections.defaultdict(lambda: [0] * STORE)
 
-    def cover(self, place):
+    def cover(self, place: Placed) -> Optional[Tuple[int, int]]:
         """Takes a place in: the first line before it that placed one of its bytes, and the address of the first such byte; None where there is none."""
         number, spe, start, size, _ = place
         lines = self.lines[spe]
@@ -250,71 +264,73 @@ class Stores:
         return (first, start + there.index(first)) if first < number else None
 
 
-def machine_warnings(seen, places):
-    stores, told = Stores(), set()
+def machine_warnings(seen: Seen, places: Iterable[Placed]) -> Iterator[Tuple[int, str]]:
+    stores = Stores()
+    told: Set[int] = set()
     for place in places:
-        number, _, _, _, kind = place
         covered = stores.cover(place)
-        if covered and kind != "bytes" and number not in told:
-            told.add(number)
-            linker = " (each source begins at 0, and nothing is linked)" if kind == "source" else ""
-            yield number, f"covers {seen.place(*covered)}, which line {covered[0]} has placed: the later stays{linker}"
-    filled = {place[1] for place in places} | {spe for _, spe, _ in seen.sources}
+        if covered and place.kind != "bytes" and place.line not in told:
+            told.add(place.line)
+            linker = " (each source begins at 0, and nothing is linked)" if place.kind == "source" else ""
+            yield place.line, f"covers {seen.place(*covered)}, which line {covered[0]} has placed: the later stays{linker}"
+    filled = {place.spe for place in places} | {spe for _, spe, _ in seen.sources}
     for spe, number in enumerate(seen.begun):
         if spe not in filled:
             yield number, f"nothing is placed in the store of processor {spe}, which stops at once with 0"
 
 
-def placed_at(said, places):
+def placed_at(said: str, places: Iterable[Placed]) -> Optional[int]:
     """The number of the line that placed the word which the program names, if it names one."""
     found = re.match(r"processor (\d+), 0x([0-9a-f]+)", said)
     if not found:
         return None
     spe, address = int(found[1]), int(found[2], 16)
-    lines = [place[0] for place in places if place[1] == spe and place[2] < address + 4 and address < place[2] + place[3]]
+    lines = [place.line for place in places if place.spe == spe and place.start < address + 4 and address < place.start + place.size]
     return lines[-1] if lines else None
 
 
-def refusal_of(said, seen, places):
+def refusal_of(said: str, seen: Seen, places: Iterable[Placed]) -> Tuple[Optional[int], str]:
     """What the program says of a whole machine file, in words, and the number of the line that it means, if it means one."""
     found = re.search(r"source (\d+)", said)
     if found and int(found[1]) < len(seen.sources):
         number, _, source = seen.sources[int(found[1])]
         return number, f"{said}: it is `{source}`"
-    number = placed_at(said, places)
-    return number, f"{said}: the word spells no instruction" if number else said
+    line = placed_at(said, places)
+    return line, f"{said}: the word spells no instruction" if line else said
 
 
-def source_text(source):
-    """The text of a source, or why there is none."""
+def source_text(source: str) -> bytes:
+    """The text of a source; Refused where there is none."""
     try:
         if not stat.S_ISREG(os.stat(source).st_mode):
-            return None, f"`{source}` is no regular file, and isn't looked at"
-        return bytes_of(source), None
+            raise Refused(f"`{source}` is no regular file, and isn't looked at")
+        return bytes_of(source)
     except FileNotFoundError:
-        return None, f"there is no file `{source}`: names are taken from the folder in which cell is called"
+        raise Refused(f"there is no file `{source}`: names are taken from the folder in which cell is called") from None
     except OSError as why:
-        return None, f"`{source}`: {why.strerror}"
+        raise Refused(f"`{source}`: {why.strerror}") from None
 
 
-def explain_sources(name, seen, report):
+def explain_sources(name: str, seen: Seen, report: Report) -> Dict[str, bool]:
     """Explains each source that a machine file names; for each whether it has an image."""
-    explained = {}
+    explained: Dict[str, bool] = {}
     for number, _, source in seen.sources:
         if source in explained:
             continue
         explained[source] = False
-        text, why = source_text(source)
-        if why:
-            report.fault(f"{name}:{number}", why)
-        elif len(text) > MOST_BYTES:
+        try:
+            text = source_text(source)
+        except Refused as why:
+            report.fault(f"{name}:{number}", str(why))
+            continue
+        if len(text) > MOST_BYTES:
             report.fault(source, f"the file is too long: `cell` reads at most {MOST_BYTES:,} bytes")
         else:
             explained[source] = explain_source(source, text, report)
     return explained
 
 
-def explain_machine(name, data, report):
+def explain_machine(name: str, data: bytes, report: Report) -> None:
     file, before = MachineFile(data), report.refusals
     for count, (number, words) in enumerate(file.faults(), 1):
         report.fault(f"{name}:{number}" if number else name, words)

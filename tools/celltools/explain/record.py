@@ -2,8 +2,9 @@
 import pathlib
 import re
 import tempfile
+from typing import Dict, Iterator, Match, Optional, Tuple
 
-from celltools.explain.report import MOST, MOST_QUOTED, cell, in_latin, short
+from celltools.explain.report import MOST, MOST_QUOTED, Report, cell, in_latin, short
 from celltools.explain.run import run_warnings
 from celltools.source.language import value_of
 
@@ -24,13 +25,13 @@ MOST_STEPS = 1_000_000
 ABOVE_ALL = 2**64
 
 
-def number_of(digits):
+def number_of(digits: bytes) -> int:
     """The number of a record that digits spell, and one above all others where they have more than 64 bits."""
     value = value_of(in_latin(digits), 10)
     return ABOVE_ALL if value is None else value
 
 
-def is_record(name, data):
+def is_record(name: str, data: bytes) -> bool:
     """Whether a file is a record, by its name or its beginning."""
     return name.endswith(".out") or data.startswith(b"cell-record")
 
@@ -38,12 +39,12 @@ def is_record(name, data):
 class RecordFile:
     """A record file, of which the faulty lines are mended one after the other."""
 
-    def __init__(self, data):
+    def __init__(self, data: bytes) -> None:
         self.lines = data.split(b"\n")
         self.is_counted = True  # whether it is known how many steps the faulty lines stand for
         self.counted = 1, 0  # a line, and how many steps the lines before it stand for
 
-    def asked(self):
+    def asked(self) -> str:
         """What the program says of the record's form."""
         with tempfile.TemporaryDirectory(prefix="cell-explain-") as folder:
             machine, record = pathlib.Path(folder) / "machine", pathlib.Path(folder) / "record"
@@ -51,7 +52,7 @@ class RecordFile:
             record.write_bytes(b"\n".join(self.lines))
             return cell("check", str(machine), str(record))[2]
 
-    def faults(self):
+    def faults(self) -> Iterator[Tuple[Optional[int], str]]:
         """Each faulty line's number with the reason, in order; a number of None where the program means no line."""
         goes_on = True
         while goes_on:
@@ -65,14 +66,14 @@ class RecordFile:
             if words:
                 yield int(found[1]), words
 
-    def steps_before(self, at):
+    def steps_before(self, at: int) -> int:
         """How many steps the lines before one stand for, which isn't before one that was asked about."""
         start, before = self.counted
         found = (STRETCH.fullmatch(line) if self.lines[0] == HEADS[1] else None for line in self.lines[start:at])
         self.counted = max(start, at), before + sum(int(stretch[2]) if stretch else 1 for stretch in found)
         return self.counted[1]
 
-    def mend(self, at):
+    def mend(self, at: int) -> Tuple[str, bool]:
         """Takes the fault out of a line: what it was, and whether what stands behind it can be judged."""
         if at >= len(self.lines) or at == len(self.lines) - 1 and not self.lines[at]:
             steps = self.steps_before(at)
@@ -86,7 +87,7 @@ class RecordFile:
         self.lines[at], words = self.mended(line, at)
         return words, True
 
-    def mended(self, line, at):
+    def mended(self, line: bytes, at: int) -> Tuple[bytes, str]:
         """A line as it might be, so that the program goes on behind it, and what is wrong with it."""
         shown = in_latin(line)[:MOST_QUOTED]
         if at == 0:
@@ -95,15 +96,15 @@ class RecordFile:
             return self.likely_head(), f"{other}: the first line is {heads}; make the run again with this program"
         steps = self.steps_before(at)
         if found := COUNT.fullmatch(line):
-            return b"steps %d" % steps, self.is_counted and f"the number of steps before it is {steps}, not {short(in_latin(found[1]))}"
+            return b"steps %d" % steps, f"the number of steps before it is {steps}, not {short(in_latin(found[1]))}" if self.is_counted else ""
         if not STEPS[self.lines[0]].fullmatch(line):
             self.is_counted = self.is_counted and self.lines[0] == HEADS[0]
             return b"h", f"`{shown}` is no step: {FORMS[self.lines[0]]}"
-        if stretch := self.lines[0] == HEADS[1] and STRETCH.fullmatch(line):
+        if stretch := STRETCH.fullmatch(line) if self.lines[0] == HEADS[1] else None:
             return self.mended_stretch(stretch, at, steps)
         return b"h", f"a number of `{shown}` is out of its range: {RANGES}"
 
-    def mended_stretch(self, stretch, at, steps):
+    def mended_stretch(self, stretch: Match[bytes], at: int, steps: int) -> Tuple[bytes, str]:
         """The same of a line that has the form of a stretch."""
         shown, count = in_latin(stretch[0])[:MOST_QUOTED], number_of(stretch[2])
         before = STRETCH.fullmatch(self.lines[at - 1])
@@ -119,12 +120,12 @@ class RecordFile:
             return b"h", f"with `{shown}` there are {count + steps} steps, and a record has at most {MOST_STEPS}"
         return b"h", f"a number of `{shown}` is out of its range: {RANGES}"
 
-    def likely_head(self):
+    def likely_head(self) -> bytes:
         """The head of the format that the lines are of."""
         return HEADS[1] if any(STRETCH.fullmatch(line) for line in self.lines) else HEADS[0]
 
 
-def explain_record(name, data, report, machines):
+def explain_record(name: str, data: bytes, report: Report, machines: Dict[str, bytes]) -> None:
     """Explains a record; `machines` has the names and the bytes of the machine files that were named before."""
     before = report.refusals
     for count, (number, words) in enumerate(RecordFile(data).faults(), 1):

@@ -1,8 +1,9 @@
 """Says in words what `cell` refuses in a source, all faulty lines at once, and warns of what is accepted and probably wrong."""
 import functools
 import re
+from typing import Collection, Dict, Iterable, Iterator, List, Optional, Sequence, Set, Tuple
 
-from celltools.explain.report import MOST, cell_of, in_latin, short
+from celltools.explain.report import MOST, Report, cell_of, in_latin, short
 from celltools.source.channels import VALUES
 from celltools.source.gas import refused_lines
 from celltools.source.language import CHANNEL, DATA, FORMS, NAME, NUMBER, REGISTER, RELATIVE_FORMS, SECTIONS, SKIPPED, STORE, STRINGS
@@ -31,7 +32,7 @@ REWRITTEN = set(
     ".zero .comm .lcomm .set .equ .equiv .half .balign .fill .hidden .previous .pushsection .popsection .internal"
     " .protected hbrp syncc".split()
 )
-LABELS = re.compile(rb"\s*((?:[A-Za-z_.][\w.]*\s*:\s*)*)(.*)", re.S)
+LABELS = re.compile(r"\s*((?:[A-Za-z_.][\w.]*\s*:\s*)*)(.*)", re.S | re.A)
 WORD = re.compile(r"[\w.$]+")
 CLOSED = re.compile(r'"[^"\\]*(?:\\.[^"\\]*)*("?)')  # a string, and whether something closes it
 MOST_KEPT = 100_000
@@ -41,29 +42,30 @@ OR_BY_TOOL = ", or use tools/from_gas"
 
 
 @functools.lru_cache(maxsize=MOST_KEPT)  # all lines are gone through for each one that is faulty
-def labels_and_statement(line):
+def labels_and_statement(line: bytes) -> Tuple[List[str], str]:
     """The labels of a line, and its statement without comments."""
-    labels, statement = LABELS.fullmatch(without_comments(line.decode("latin1")).encode("latin1")).groups()
-    return [label.strip() for label in in_latin(labels).split(":")[:-1]], in_latin(statement).strip()
+    found = LABELS.fullmatch(without_comments(in_latin(line)))
+    labels, statement = found.groups() if found else ("", "")
+    return [label.strip() for label in labels.split(":")[:-1]], statement.strip()
 
 
-def first_word(statement):
+def first_word(statement: str) -> str:
     found = WORD.match(statement)
     return found[0] if found else ""
 
 
-def labels_before(lines):
+def labels_before(lines: Iterable[bytes]) -> Set[str]:
     return {label for line in lines for label in labels_and_statement(line)[0]}
 
 
 class SourceLines:
     """The lines of a source, of which the faulty ones are mended one after the other."""
 
-    def __init__(self, lines):
+    def __init__(self, lines: Iterable[bytes]) -> None:
         self.lines = list(lines)
-        self.tries = {}
+        self.tries: Dict[int, int] = {}
 
-    def mend(self, at, kind):
+    def mend(self, at: int, kind: str) -> bool:
         """Takes the fault out of a line, so that the lines behind it can be judged; False where that can't be done.
 
         Labels stay, and so does the place that an instruction or data take, as far as that is possible.
@@ -84,7 +86,7 @@ class SourceLines:
         self.lines[at] = ("".join(f"{label}:" for label in kept) + statement).encode("latin1")
         return True
 
-    def place_holder(self, at, statement):
+    def place_holder(self, at: int, statement: str) -> str:
         """Something that takes the same place, or nothing where that was refused too."""
         word = first_word(statement)
         if self.tries[at] > 1:
@@ -96,7 +98,7 @@ class SourceLines:
             return f"{word} " + ",".join("0" for _ in cut(statement, ","))
         return "" if word.startswith(".") or "=" in statement else "lnop"
 
-    def drop_comment(self, at):
+    def drop_comment(self, at: int) -> None:
         """Empties a comment of several lines, as far as it goes."""
         self.lines[at] = self.lines[at].partition(b"/*")[0]
         for later in range(at + 1, len(self.lines)):
@@ -106,14 +108,15 @@ class SourceLines:
                 return
 
 
-def opens_comment(line):
+def opens_comment(line: bytes) -> bool:
     """Whether a comment begins in the line and doesn't end there."""
     return "/*" in without_comments(in_latin(line))
 
 
-def source_faults(lines):
+def source_faults(lines: Iterable[bytes]) -> Iterator[Tuple[Optional[int], str]]:
     """Each faulty line of a source as its index and the kind of its fault, in the program's order."""
-    source, told = SourceLines(lines), set()
+    source = SourceLines(lines)
+    told: Set[Tuple[int, str]] = set()
     while True:
         status, _, said = cell_of("asm", source.lines, ".s")
         found = re.fullmatch(r"source 0, line (\d+): (\w+)", said)
@@ -129,7 +132,7 @@ def source_faults(lines):
             return
 
 
-def why_character(line):
+def why_character(line: bytes) -> Optional[str]:
     text = in_latin(line)
     if opens_comment(line):
         return "a comment of several lines: end it with */ on each line" + BY_TOOL
@@ -146,7 +149,7 @@ def why_character(line):
     return None
 
 
-def why_number(statement):
+def why_number(statement: str) -> Optional[str]:
     for word in re.findall(r"(?<![\w.$])\d\w*", statement):
         if number_in(word) is not None:
             continue
@@ -161,7 +164,7 @@ def why_number(statement):
     return None
 
 
-def why_name(statement):
+def why_name(statement: str) -> str:
     word = first_word(statement)
     if re.match(r"\d+\s*:", statement):
         return "there are no numeric labels" + BY_TOOL
@@ -178,7 +181,7 @@ def why_name(statement):
     return f"`{word}` is no mnemonic of the integer part"
 
 
-def why_directive(statement, in_text):
+def why_directive(statement: str, in_text: bool) -> Optional[str]:
     word = first_word(statement)
     small = word in STRINGS or word in DATA and DATA[word][0] < 4
     if small and in_text:
@@ -196,7 +199,7 @@ def why_directive(statement, in_text):
     return None
 
 
-def why_operand(statement):
+def why_operand(statement: str) -> Optional[str]:
     word = first_word(statement)
     if word not in OPERANDS:
         return None
@@ -204,7 +207,7 @@ def why_operand(statement):
     return f"`{word}` takes {form}" + hint_of_operands(statement[len(word) :], form)
 
 
-def hint_of_operands(rest, form):
+def hint_of_operands(rest: str, form: str) -> str:
     """What is probably wrong with operands, behind the form that they should have."""
     known = re.compile(f"{REGISTER.pattern}|{CHANNEL.pattern}", re.A)
     strange = [name for name in re.findall(r"\$\w*", rest) if not known.fullmatch(name)]
@@ -222,7 +225,7 @@ def hint_of_operands(rest, form):
     return ""
 
 
-def why_value(kind, statement):
+def why_value(kind: str, statement: str) -> Optional[str]:
     """Of a value that isn't a multiple, or is outside its range."""
     word = first_word(statement)
     if word in DATA:
@@ -240,7 +243,7 @@ def why_value(kind, statement):
     return f"addr is a multiple of 4; {in_data}" if "addr" in FORMS[form][0] else in_data
 
 
-def why_undefined(statement, defined):
+def why_undefined(statement: str, defined: Collection[str]) -> Optional[str]:
     rest = statement[len(first_word(statement)) :]
     missing = [name for name in re.findall(r"(?<![\w.$@])[A-Za-z_.][\w.]*", rest) if name not in defined]
     if "." in missing:
@@ -251,10 +254,10 @@ def why_undefined(statement, defined):
     return f"no line defines {names} (there is no linker: one source is the whole program)" if names else None
 
 
-def why_source_line(lines, at, kind, in_text, defined):
+def why_source_line(lines: Sequence[bytes], at: int, kind: str, in_text: Sequence[bool], defined: Collection[str]) -> str:
     """What is wrong with a line of a source, in words."""
     labels, statement = labels_and_statement(lines[at])
-    why = None
+    why: Optional[str] = None
     if kind == "BadChar":
         why = why_character(lines[at])
     elif kind == "BadNumber":
@@ -272,19 +275,20 @@ def why_source_line(lines, at, kind, in_text, defined):
     elif kind == "Twice":
         first = next((n for n, line in enumerate(lines[:at]) if set(labels) & set(labels_and_statement(line)[0])), at)
         why = f"line {first + 1} defines the label already"
-    return why or KINDS.get(kind, kind)
+    return why if why else KINDS.get(kind, kind)
 
 
-def without_hints(words):
+def without_hints(words: str) -> str:
     """Words about a line without the advice to have it rewritten."""
     for hint in (BY_TOOL, BY_TOOL_OTHERS, OR_BY_TOOL):
         words = words.replace(hint, "")
     return words
 
 
-def text_lines(lines):
+def text_lines(lines: Iterable[bytes]) -> List[bool]:
     """For each line, whether it stands in the text."""
-    answer, in_text = [], True
+    answer: List[bool] = []
+    in_text = True
     for line in lines:
         answer.append(in_text)
         _, statement = labels_and_statement(line)
@@ -297,7 +301,7 @@ def text_lines(lines):
 RIGHT_SHIFTS = {"rothmi": 32, "rotmi": 64, "rotmahi": 32, "rotmai": 64, "rotqmbyi": 32, "rotqmbii": 8}  # counts, modulo
 
 
-def line_warnings(statement):
+def line_warnings(statement: str) -> Iterator[str]:
     """What of a statement is accepted and probably wrong."""
     word = first_word(statement)
     operands = [part.strip() for part in cut(statement[len(word) :], ",")]
@@ -312,7 +316,7 @@ def line_warnings(statement):
         yield "a called function saves its link at 16($sp), which is above the store and so at 0 again: use 0x3ffd0"
 
 
-def source_warnings(lines):
+def source_warnings(lines: Sequence[bytes]) -> Iterator[Tuple[int, str]]:
     labels = labels_before(lines)
     for at, line in enumerate(lines):
         for words in line_warnings(labels_and_statement(line)[1]):
@@ -323,7 +327,7 @@ def source_warnings(lines):
         yield 0, "`main` without `_start`: the program begins at address 0, and `main` returns there"
 
 
-def explain_source(name, data, report):
+def explain_source(name: str, data: bytes, report: Report) -> bool:
     """Explains one source; whether the program has an image of it."""
     lines = data.split(b"\n")
     in_text, defined, count = text_lines(lines), labels_before(lines), 0

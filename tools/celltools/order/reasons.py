@@ -1,10 +1,12 @@
 """Why nothing orders two steps that race, and what would: what their sides did between them, held against the rules of docs/ORDER.md."""
 import functools
 import re
+from typing import List, Optional, Sequence, Union
 
-from celltools.order.graph import Order
-from celltools.run.effects import OF_COMMANDS, has_group
-from celltools.telling.words import MARKS, name_of, tags, with_article
+from celltools.order.graph import Order, Past
+from celltools.run.effects import NO_COMMAND, OF_COMMANDS, Command, has_group
+from celltools.run.runs import Places
+from celltools.telling.words import MARKS, Teller, name_of, tags, with_article
 
 MOST = 6  # events of a kind that are told
 STATUS_CHANNELS = {24: "the tag status", 25: "the stall status", 27: "the atomic status"}
@@ -25,7 +27,7 @@ class Race:
     which the first's side did `last`.
     """
 
-    def __init__(self, teller, first, second, before, order=None):
+    def __init__(self, teller: Teller, first: int, second: int, before: Union[Places, Past], order: Optional[Order] = None) -> None:
         self.teller, self.trace, self.before = teller, teller.trace, before
         self.first, self.second = first, second
         self.one, self.two = self.trace.steps[first], self.trace.steps[second]
@@ -37,32 +39,32 @@ class Race:
         self.bound = self.anchor if self.same else teller.program_step(self.last) if self.last >= 0 else -1
 
     @functools.cached_property
-    def order(self):
+    def order(self) -> Order:
         """The order of the run, made when it is first asked."""
         return Order(self.trace)
 
-    def last_ordered(self):
+    def last_ordered(self) -> int:
         """The last step of the first's side that is ordered before the second; -1 where there is none."""
         mine = re.compile("h" if self.one.spe is None else rf"[xaper] {self.one.spe}\b")
         lines = self.trace.lines
         return next((k for k in range(self.second - 1, -1, -1) if mine.match(lines[k]) and k in self.before), -1)
 
-    def side(self):
+    def side(self) -> str:
         return self.teller.who(self.first)
 
-    def other(self):
+    def other(self) -> str:
         return self.teller.who(self.second)
 
-    def command(self):
-        return self.trace.commands[self.one.command_key()]
+    def command(self) -> Command:
+        return self.trace.command_of(self.one)
 
-    def own(self, field, start, end):
+    def own(self, field: str, start: int, end: int) -> List[int]:
         """The places of the first's side that have a field."""
         return [k for k in self.trace.with_field(field, start, max(start, end)) if self.trace.steps[k].spe == self.one.spe]
 
     # ---- how far the order comes
 
-    def how_far(self):
+    def how_far(self) -> List[str]:
         if self.last < 0:
             return [f"no step of {self.side()} is ordered before the second"]
         what = self.teller.what(self.last)
@@ -70,7 +72,7 @@ class Race:
 
     # ---- why it doesn't come to the first
 
-    def reasons(self):
+    def reasons(self) -> List[str]:
         if {self.one.kind, self.two.kind} == {"atomic", "piece"} and not self.same:
             return self.of_line()
         if self.same:
@@ -79,7 +81,7 @@ class Race:
             return self.of_later() + self.of_words() + self.of_signal(self.second)
         return self.within_side() + self.of_signal(self.first)
 
-    def within_side(self):
+    def within_side(self) -> List[str]:
         """Why the first isn't ordered before what its own side did at the bound."""
         if self.one.kind in OF_COMMANDS:
             return self.of_statuses()
@@ -87,12 +89,12 @@ class Race:
             return [f"its atomic status isn't read before step {self.bound}", *self.only_counted()]
         return [f"the second's command was issued before the first, in step {self.anchor}: its steps wait for nothing that comes behind their issue"]
 
-    def of_line(self):
+    def of_line(self) -> List[str]:
         """Of an atomic command and a transfer of another processor, on one line."""
         piece = self.first if self.one.kind == "piece" else self.second
         return [f"{self.teller.command(piece)} is neither an atomic command nor a PUTQLLUC: only two of these on one line are ordered by it (Line)"]
 
-    def of_later(self):
+    def of_later(self) -> List[str]:
         """Of a first step behind all that its side did before the second."""
         what = "the first comes" if self.begin == self.first else f"the first's command was issued in step {self.begin},"
         if self.last > self.begin:
@@ -101,7 +103,7 @@ class Race:
             return [f"{what} behind step {self.last}"]
         return [f"{self.side()} gave no word that {self.other()} took before step {self.anchor}"]
 
-    def of_statuses(self):
+    def of_statuses(self) -> List[str]:
         """Of a step of a queued command: the statuses that its processor read up to the bound, and why none orders it."""
         places = self.own("(?:tags|stalls)", self.begin, self.bound)
         said = [f"{self.why_status(k)} {self.teller.aside(k)}" for k in places[-MOST:]]
@@ -112,40 +114,40 @@ class Race:
             said += self.read_before() + self.unread_request() + self.only_counted()
         return said + self.too_late()
 
-    def why_status(self, place):
+    def why_status(self, place: int) -> str:
         step, tag = self.trace.steps[place], self.command().tag
         if "stalls" in step.told:
-            reason = "it orders flagged elements alone that were finished" if has_group(step.number("stalls"), tag) else f"not its tag, {tag}"
+            reason = "it orders flagged elements alone that were finished" if has_group(step.number("stalls") or 0, tag) else f"not its tag, {tag}"
             return f"step {place} reads the stall status, groups 0x{step.number('stalls'):x}: {reason}"
-        groups = step.number("tags")
+        groups = step.number("tags") or 0
         reason = "fixed before it was issued" if has_group(groups, tag) else f"not its tag, {tag}"
         return f"step {place} reads the tag status, groups 0x{groups:x}: {reason}"
 
-    def read_before(self):
+    def read_before(self) -> List[str]:
         """The last status of the command's tag, where it was read before the issue."""
         tag = self.command().tag
-        read = [k for k in self.own("tags", 0, self.begin) if has_group(self.trace.steps[k].number("tags"), tag)]
+        read = [k for k in self.own("tags", 0, self.begin) if has_group(self.trace.steps[k].number("tags") or 0, tag)]
         if not read:
             return []
         return [f"step {read[-1]} reads the tag status, groups 0x{self.trace.steps[read[-1]].number('tags'):x}: read before it was issued {self.teller.aside(read[-1])}"]
 
-    def unread_request(self):
+    def unread_request(self) -> List[str]:
         """That a status was asked for, and not read."""
         asked = self.own("request", self.begin, self.bound)
         if not asked:
             return []
-        how, groups = (self.trace.steps[asked[-1]].number("request", k) for k in (0, 1))
+        how, groups = (self.trace.steps[asked[-1]].number("request", k) or 0 for k in (0, 1))
         return [f"step {asked[-1]} asks for a tag status ({HOW.get(how, 'all ')}{tags(groups)}), and it isn't read before step {self.bound} {self.teller.aside(asked[-1])}"]
 
-    def only_counted(self):
+    def only_counted(self) -> List[str]:
         """That a status was counted, and not read."""
         counted = [k for k in self.own("rchcnt", self.begin, self.bound) if self.trace.steps[k].number("rchcnt") in STATUS_CHANNELS]
         if not counted:
             return []
-        channel = self.trace.steps[counted[-1]].number("rchcnt")
+        channel = self.trace.steps[counted[-1]].number("rchcnt") or 0
         return [f"step {counted[-1]} only counts {STATUS_CHANNELS[channel]}, which orders nothing {self.teller.aside(counted[-1])}"]
 
-    def too_late(self):
+    def too_late(self) -> List[str]:
         """The status that orders the first before it, where it comes too late."""
         rules = ("TagSeen", "StallSeen") if self.flagged() else ("TagSeen",)
         for k in self.trace.with_field("(?:tags|stalls)", max(self.begin, self.bound)):
@@ -155,17 +157,17 @@ class Race:
                     return [f"step {k} reads a status that orders the first before it ({rule}), too late: behind {behind} {self.teller.aside(k)}"]
         return []
 
-    def flagged(self):
+    def flagged(self) -> bool:
         """Whether the first is a step of a list's element behind which the list stalls."""
         element = self.trace.element_of(self.first)
         read = element and self.trace.steps[self.trace.elements[element[:2]][element[2]]].element_read()
         return bool(read and read.flagged)
 
-    def of_marks(self):
+    def of_marks(self) -> List[str]:
         """Of two queued commands of one processor: the fence or barrier of the later one."""
         if self.one.kind not in OF_COMMANDS or self.two.kind not in OF_COMMANDS:
             return []
-        one, two = self.command(), self.trace.commands[self.two.command_key()]
+        one, two = self.command(), self.trace.command_of(self.two)
         name = with_article(name_of(two))
         if two.number < one.number:
             return [f"the second's command, {name}, was issued before the first's"]
@@ -173,26 +175,26 @@ class Race:
             return [f"the second's command, {name}, has no fence and no barrier: commands go in any order, those of one tag too"]
         return [f"the second's command, {name}, has a {two.mark} that waits for commands of its own tag, {two.tag}: the first's has tag {one.tag}"]
 
-    def signal_behind(self, place):
+    def signal_behind(self, place: int) -> Optional[int]:
         """The place at which a SNDSIG is delivered with which the side of one of the two steps, of a queued command, let the other go on, and which was
         issued behind that command; None where there is none."""
-        command = self.trace.commands.get(self.trace.steps[place].command_key())
+        command = self.trace.commands.get(self.trace.steps[place].command_key() or NO_COMMAND)
         other, start = (self.second, self.begin) if place == self.first else (self.first, self.anchor)
         sent = [k for k in self.trace.with_field("signal", start, other) if command and self.is_sent_behind(k, command)]
         before = self.before if place == self.first or not sent else self.order.before(self.first)
         return next((k for k in reversed(sent) if k in before), None)
 
-    def is_sent_behind(self, place, command):
+    def is_sent_behind(self, place: int, command: Command) -> bool:
         """Whether a step is one of a later command of the same processor."""
-        later = self.trace.commands.get(self.trace.steps[place].command_key())
+        later = self.trace.commands.get(self.trace.steps[place].command_key() or NO_COMMAND)
         return later is not None and later.spe == command.spe and later.number > command.number
 
-    def of_signal(self, place):
+    def of_signal(self, place: int) -> List[str]:
         """Why a SNDSIG that was issued behind the command of one of the two steps didn't come behind it."""
         sent = self.signal_behind(place)
         if sent is None:
             return []
-        command, signal = (self.trace.commands[self.trace.steps[k].command_key()] for k in (place, sent))
+        command, signal = (self.trace.command_of(self.trace.steps[k]) for k in (place, sent))
         which = "first" if place == self.first else "second"
         when = f"and here it was delivered before the {which}" if sent < place else f"and only by chance was it delivered behind the {which}"
         name = f"the SNDSIG{MARKS[signal.mark]} of step {sent}, which lets {self.teller.who(self.first + self.second - place)} go on,"
@@ -200,7 +202,7 @@ class Race:
             return [f"{name} has no fence and no barrier: commands go in any order, those of one tag too, {when}"]
         return [f"{name} has a {signal.mark} that waits for commands of its own tag, {signal.tag}: the {which}'s has tag {command.tag}, {when}"]
 
-    def of_words(self):
+    def of_words(self) -> List[str]:
         """What the two sides did that could order them: steps that move lines whole, values of mailboxes, and signals."""
         words = [k for k in range(max(self.last, 0), self.second) if self.is_word(k)]
         taken = [k for k in range(self.anchor - 1, -1, -1) if self.is_word(k) and self.trace.steps[k].spe == self.two.spe][:1]
@@ -211,7 +213,7 @@ class Race:
         said += [f"  step {k}, {self.teller.word(k)}{self.remark(k, taken)} {self.teller.aside(k)}" for k in words[-2 * MOST :]]
         return ["what the two did that could order them:", *said]
 
-    def remark(self, place, taken):
+    def remark(self, place: int, taken: Sequence[int]) -> str:
         """Why one of these steps doesn't order the first before the second."""
         if place not in self.before:
             return f": too late, nothing that {self.other()} did before step {self.anchor} comes behind it"
@@ -220,7 +222,7 @@ class Race:
         has_lost = place in taken and self.trace.steps[place].number("status") == 1
         return f": and {self.other()} went on" if has_lost else ""
 
-    def is_word(self, place):
+    def is_word(self, place: int) -> bool:
         """Whether a step of one of the two sides passes something on or takes it."""
         line = self.trace.lines[place]
         passes = line.startswith("a ") or bool(self.trace.whole_lines(place)) or " | put " in line or " | take " in line
@@ -229,7 +231,7 @@ class Race:
 
     # ---- what would
 
-    def remedies(self):
+    def remedies(self) -> List[str]:
         """What would order them, each with its rule's name."""
         if self.same:
             return self.within_one()
@@ -245,25 +247,25 @@ class Race:
         said += self.mark_for_signal(self.second)
         return said + [self.word_between(self.first, self.anchor), self.word_between(self.second, self.begin, ", the other way round")]
 
-    def mark_for_signal(self, place):
+    def mark_for_signal(self, place: int) -> List[str]:
         """A mark on the SNDSIG with which the side of one of the two steps, of a queued command, let the other go on."""
         sent = self.signal_behind(place)
         if sent is None:
             return []
-        command, signal = (self.trace.commands[self.trace.steps[k].command_key()] for k in (place, sent))
+        command, signal = (self.trace.command_of(self.trace.steps[k]) for k in (place, sent))
         tag = "" if signal.tag == command.tag else f", with tag {command.tag}"
         way = "" if place == self.first else ", the other way round"
         return [f"Queue{way}: a fence or a barrier on the SNDSIG of step {sent} (SNDSIGF or SNDSIGB{tag}): it waits for the earlier commands of its tag"]
 
-    def barrier_for_last(self):
+    def barrier_for_last(self) -> List[str]:
         """A barrier on the first's command, where the last step that is ordered before the second is one of a later command of its tag."""
-        one, last = self.command(), self.trace.commands.get(self.trace.steps[self.last].command_key())
+        one, last = self.command(), self.trace.commands.get(self.trace.steps[self.last].command_key() or NO_COMMAND)
         if last is None or last.number <= one.number or last.tag != one.tag or last.spe != one.spe or one.kind in UNMARKED:
             return []
         base = name_of(one._replace(mark="-"))
         return [f"Queue: a barrier on the first's command ({base}B): the command of step {self.last} is a later one of its tag, and comes behind it then"]
 
-    def within_one(self):
+    def within_one(self) -> List[str]:
         until = f"before step {self.anchor}" + ("" if self.anchor == self.second else ", where the second's command is issued")
         if self.one.kind in OF_COMMANDS:
             tag = self.command().tag
@@ -273,11 +275,11 @@ class Race:
             return [f"AtomicSeen: its status, read (`rdch` of channel 27) {until}"]
         return [f"Issued: the first, before the second's command is issued in step {self.anchor}", f"or the other way round: {self.seen(self.second)} before step {self.first}"]
 
-    def fences(self):
+    def fences(self) -> List[str]:
         """A mark on the second's command, where it is a later queued one."""
         if self.two.kind not in OF_COMMANDS:
             return []
-        one, two = self.command(), self.trace.commands[self.two.command_key()]
+        one, two = self.command(), self.trace.command_of(self.two)
         if two.number < one.number:
             return []
         tag = "" if two.tag == one.tag else f", with tag {one.tag}"
@@ -286,15 +288,15 @@ class Race:
         base = name_of(two._replace(mark="-"))
         return [f"Queue: a fence or a barrier on the second's command ({base}F or {base}B{tag}): it waits for the earlier commands of its tag"]
 
-    def word_between(self, place, until, round_which=""):
+    def word_between(self, place: int, until: int, round_which: str = "") -> str:
         """A word of one side to the other, behind the step at a place, with the rules by which it orders."""
         here, there = (self.side(), self.other()) if place == self.first else (self.other(), self.side())
         rules, ways = FROM_HOST if self.trace.steps[place].spe is None else TO_HOST if there == "the host" else BETWEEN
         return f"{rules}{round_which}: {self.seen(place)}, then a word from {here} that {there} takes before step {until}, {ways}"
 
-    def seen(self, place):
+    def seen(self, place: int) -> str:
         """That a step is known to be done by its own side."""
         step, which = self.trace.steps[place], "first" if place == self.first else "second"
         if step.kind in OF_COMMANDS:
-            return f"a status of tag {self.trace.commands[step.command_key()].tag} that shows the {which}'s command (TagSeen)"
+            return f"a status of tag {self.trace.command_of(step).tag} that shows the {which}'s command (TagSeen)"
         return f"the {which}'s atomic status (AtomicSeen)" if step.kind == "atomic" else f"the {which}"

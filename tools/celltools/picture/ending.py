@@ -1,12 +1,16 @@
 """How a run ended: how well, and of what waits or has a fault what it waits for and which step was its last."""
 import dataclasses
 import enum
-from typing import Callable, Iterator, List, Optional, Tuple
+from typing import TYPE_CHECKING, Callable, Dict, Iterator, List, Optional, Tuple
 
 from celltools.order.graph import HOST
 from celltools.telling.faults import faults_of
 from celltools.telling.waiting import waiting_of
+from celltools.run.effects import Key
 from celltools.telling.words import name_of, with_article
+
+if TYPE_CHECKING:
+    from celltools.picture.run import Run
 
 TITLES = {"Stuck": "Why nothing goes on", "Budget": "Where it was when its budget was spent", "Open": "Where it stops"}
 WORDS = {"Budget": "Budget: all {count:,} steps are spent", "Open": "Open: another step is still allowed"}
@@ -29,12 +33,12 @@ class Ending:
     said: List[Said]  # of a run that ended well nothing
 
     @property
-    def told(self) -> dict:
+    def told(self) -> Dict[str, object]:
         """As the page has it."""
         return {"level": self.level.value, "words": self.words, "title": self.title, "said": self.said}
 
 
-def ending_of(run) -> Ending:
+def ending_of(run: "Run") -> Ending:
     """How a run ended."""
     words = list(words_of(run))
     is_well = words == ["AllStopped"]
@@ -42,7 +46,7 @@ def ending_of(run) -> Ending:
     return Ending(level, ", ".join(words), TITLES.get(run.end.word, "How it ended"), [] if is_well else list(said_of(run)))
 
 
-def words_of(run) -> Iterator[str]:
+def words_of(run: "Run") -> Iterator[str]:
     """The end word, with what else there is to know."""
     running, faults, halted = (spes_that(run, kind) for kind in ("is_running", "is_fault", "is_halted"))
     yield WORDS.get(run.end.word, run.end.word).format(count=run.count)
@@ -57,7 +61,7 @@ def words_of(run) -> Iterator[str]:
         yield f"the host did {done} of {actions} actions"
 
 
-def spes_that(run, kind: str) -> List[int]:
+def spes_that(run: "Run", kind: str) -> List[int]:
     """The processors that stood so at the end."""
     return [spe for spe, status in enumerate(run.end.spes) if getattr(status, kind)]
 
@@ -74,7 +78,7 @@ def agreed(spes: List[int], verb: str) -> str:
     return f"{verb}s" if len(spes) == 1 else verb
 
 
-def said_of(run) -> Iterator[Said]:
+def said_of(run: "Run") -> Iterator[Said]:
     """What each processor, command and the host waits for, has or did at the end."""
     yield from of_processors(run, "is_running", waiting_of)
     yield from of_processors(run, "is_fault", faults_of)
@@ -88,19 +92,19 @@ def said_of(run) -> Iterator[Said]:
         yield f"the host waits in its action {done}, {run.sites.action(done)}", last_of(run, HOST)
 
 
-def of_processors(run, kind: str, lines_of: Callable[..., List[str]]) -> Iterator[Said]:
+def of_processors(run: "Run", kind: str, lines_of: Callable[..., List[str]]) -> Iterator[Said]:
     """What is told of the processors that stood so, a line each."""
     spes = spes_that(run, kind)
     return zip(lines_of(run.machine, run.record), [last_of(run, spe) for spe in spes]) if spes else iter(())
 
 
-def last_of(run, chain: int) -> Optional[int]:
+def last_of(run: "Run", chain: int) -> Optional[int]:
     """The last step of a processor's program, or of the host's script; None where it made none."""
     found = run.order.chains.tobytes().rfind(chain.to_bytes(1, "little", signed=True))
     return None if found < 0 else found
 
 
-def command_wait(run, key):
+def command_wait(run: "Run", key: Key) -> str:
     """Why a command isn't done."""
     member = run.order.commands[key]
     name = f"{with_article(name_of(member.command))} of tag {member.command.tag}, command {key[1]} of processor {key[0]},"
@@ -110,7 +114,7 @@ def command_wait(run, key):
     return f"{name} isn't done" + (": it waits for an earlier command (Queue)" if held else "")
 
 
-def is_within(run, key, node):
+def is_within(run: "Run", key: Key, node: int) -> bool:
     """Whether a command is one of a set of commands."""
     sets, wanted = run.order.sets, run.order.commands[key].steps
     while node != wanted and len(sets[-node - 1]) > 1 and sets[-node - 1][-1] != wanted:

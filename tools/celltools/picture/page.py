@@ -6,13 +6,16 @@ import os
 import pathlib
 import re
 import zlib
+from typing import Dict, Iterable, Iterator, List, Optional, Sequence, Tuple
 
 from celltools.common.texts import shown
-from celltools.order.graph import NO_CHAIN, RULES
+from celltools.order.graph import NO_CHAIN, RULES, Order
 from celltools.picture.bars import Arrows, atomics, bars, slots
 from celltools.picture.ending import Level
 from celltools.picture.ranges import lane, overview, touched
+from celltools.picture.run import Run
 from celltools.picture.story import BEHIND, other_words, race_pairs, race_steps, race_words
+from celltools.run.effects import shared_bytes
 from celltools.source.channels import NAMES, channel_of
 
 HERE = pathlib.Path(__file__).resolve().parent
@@ -21,19 +24,21 @@ BLOCK = 2048            # steps in a block
 MOST_ROWS = 100000      # steps that have a row of their own at the beginning
 ALL_ARROWS = 20000      # steps up to which all arrows are kept; of more, those between rows
 MOST_EDGES = 400000     # of the order that the page has with it
+SourceLine = Tuple[object, int, str, Optional[int]]  # its file, number and text, and the channel of its instruction
+Code = List[Dict[int, int]]  # of each processor by address the number of such a line
 FETCHED = re.compile(r"^x (\d+) \| fetch \d+ (\d+) ", re.M)
 
 
-def packed(text):
+def packed(text: str) -> str:
     """A text as the page has it: deflated, in base 64."""
     return base64.b64encode(zlib.compress(text.encode(), 6)).decode()
 
 
-def jsoned(value):
+def jsoned(value: object) -> str:
     return json.dumps(value, separators=(",", ":"), ensure_ascii=False)
 
 
-def readable(value):
+def readable(value: object) -> object:
     """A value of which each text is as it is shown."""
     if isinstance(value, str):
         return shown(value)
@@ -42,21 +47,23 @@ def readable(value):
     return [readable(part) for part in value] if isinstance(value, (list, tuple)) else value
 
 
-def nearest(keys, focus):
+def nearest(keys: List[int], focus: int) -> List[int]:
     """As many rows as the page can hold, those nearest to what it opens at."""
     return keys if len(keys) <= MOST_ROWS else sorted(sorted(keys, key=lambda place: abs(place - focus))[:MOST_ROWS])
 
 
-def focus_of(run):
+def focus_of(run: Run) -> int:
     """The step at which the page opens: a race, the end of a run that didn't end well, or the beginning."""
     if run.pair:
         return run.pair[1]
     return 0 if run.ending.level is Level.GOOD else max(0, run.count - 1)
 
 
-def sites_of(run):
+def sites_of(run: Run) -> Tuple[List[SourceLine], Code]:
     """The lines of the sources that were executed, as file, number, text and channel, and of each processor and address which of them."""
-    lines, numbers, code = [], {}, [{} for _ in range(run.spes)]
+    lines: List[SourceLine] = []
+    numbers: Dict[SourceLine, int] = {}
+    code: Code = [{} for _ in range(run.spes)]
     for spe, address in sorted((int(spe), int(address)) for spe, address in set(FETCHED.findall(run.text))):
         site = run.sites.at(spe, address)
         line = (site.file, site.number, site.text, channel_of(site.word))
@@ -67,18 +74,18 @@ def sites_of(run):
     return lines, code
 
 
-def calls_of(run, keys, code):
+def calls_of(run: Run, keys: Iterable[int], code: Code) -> Dict[int, int]:
     """Of the rows that stand in a routine, the line that called it."""
     called = run.teller.called
-    found = {}
+    found: Dict[int, int] = {}
     for place in keys:
         if place in called:
             caller = run.trace.steps[called[place]]
-            found[place] = code[caller.spe][caller.fetch.at]
+            found[place] = code[caller.processor][caller.fetched.at]
     return found
 
 
-def graph_of(order):
+def graph_of(order: Order) -> Optional[Dict[str, object]]:
     """The order as the page has it: of each step that has edges its place, and (node, rule) pairs; the sets; and of the steps that are named the chain, if
     they have one. None where it is too long."""
     if sum(map(len, order.edges.values())) + sum(map(len, order.sets)) > MOST_EDGES:
@@ -90,17 +97,18 @@ def graph_of(order):
     return {"edges": edges, "sets": order.sets, "chains": chains}
 
 
-def story_of(run):
+def story_of(run: Run) -> Optional[Dict[str, object]]:
     """What the page says of a race, and which steps and pairs it shows of it."""
-    if not run.race:
+    race = run.race
+    if not race:
         return None
-    pairs = race_pairs(run)
-    shared = [[-1 if span.spe is None else span.spe, span.at, span.at + span.size, way, other] for way, other, span in run.shared()]
-    return {"first": run.pair[0], "second": run.pair[1], "pairs": [[i, j, RULES.index(rule)] for i, j, rule in pairs], "steps": race_steps(run, pairs),
-            "shared": shared, "words": race_words(run), "behind": BEHIND, "others": other_words(run)}
+    pairs = race_pairs(race)
+    shared = [[-1 if span.spe is None else span.spe, span.at, span.at + span.size, way, other] for way, other, span in shared_bytes(race.one, race.two)]
+    return {"first": race.first, "second": race.second, "pairs": [[i, j, RULES.index(rule)] for i, j, rule in pairs], "steps": race_steps(race, pairs),
+            "shared": shared, "words": race_words(run, race), "behind": BEHIND, "others": other_words(run, race)}
 
 
-def tables_of(run, keys, code):
+def tables_of(run: Run, keys: List[int], code: Code) -> Dict[str, object]:
     """What grows with the record, apart from its steps."""
     commands, atomic = bars(run), atomics(run, keys)
     rows, arrows = set(keys), Arrows(run).found
@@ -113,7 +121,7 @@ def tables_of(run, keys, code):
             "places": run.whole.places if run.whole else None}
 
 
-def facts_of(run, sources, code):
+def facts_of(run: Run, sources: Sequence[SourceLine], code: Code) -> Dict[str, object]:
     """The facts that the page begins with."""
     return {"machine": str(run.machine), "record": str(run.record), "verdict": run.verdict, "end": run.end.word, "count": run.count, "spes": run.spes,
             "script": [text for _, text in run.sites.script], "sources": sources, "code": code, "block": BLOCK, "rules": RULES,
@@ -121,12 +129,12 @@ def facts_of(run, sources, code):
             "ending": run.ending.told, "channels": NAMES, "whole": run.whole and run.whole.told, "overview": overview(run.trace.lines, run.spes), "touched": touched(run.text)}
 
 
-def blocks_of(run):
+def blocks_of(run: Run) -> List[str]:
     """The steps, in blocks."""
     return [packed("\n".join(run.trace.lines[start:start + BLOCK])) for start in range(0, run.count, BLOCK)]
 
 
-def page_of(run):
+def page_of(run: Run) -> Iterator[str]:
     """The page, in parts that follow one another."""
     sources, code = sites_of(run)
     keys = nearest(run.rows, focus_of(run))
@@ -141,6 +149,6 @@ def page_of(run):
     yield "<script>\n'use strict';\n" + "".join((HERE / f"{name}.js").read_text(encoding="utf-8") for name in SCRIPTS) + "</script>\n</body></html>\n"
 
 
-def safe(text):
+def safe(text: str) -> str:
     """A text that can't end the element that it stands in."""
     return text.replace("<", "\\u003c")

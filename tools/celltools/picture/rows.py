@@ -2,8 +2,13 @@
 and the last steps of what waits or has a fault at the end."""
 import bisect
 import re
+from typing import TYPE_CHECKING, Dict, Iterable, List, Optional, Sequence, Set, Tuple
 
-from celltools.run.effects import MEMORY_LINE, shared_bytes
+from celltools.order.reasons import Race
+from celltools.run.effects import MEMORY_LINE, Span, shared_bytes
+
+if TYPE_CHECKING:
+    from celltools.picture.run import Run
 
 # The fields of an instruction that make it a row; the channels whose count is one.
 TOLD = re.compile(r" \| (?:issue|tags|stalls|ack|atomic|atomicread|put|take|signal|ended|request|rdch 0|wrch [12]|rchcnt (?:0|3|4|24|25|27|29))(?: |$)", re.M)
@@ -13,7 +18,7 @@ STORED = re.compile(r" \| write mem (\d+) (\d+)")
 NEAR = 2  # of each instruction that touches the bytes of a race, the steps on each side of the two
 
 
-def own_rows(run):
+def own_rows(run: "Run") -> List[int]:
     """The places of the steps that have a row, in their order."""
     keys = {place for place, line in enumerate(run.trace.lines) if line[0] != "p" and (line[0] != "x" or TOLD.search(line))}
     keys -= polls(run) | counts(run.trace.lines)
@@ -23,47 +28,58 @@ def own_rows(run):
     keys.update(place for member in run.order.commands.values() for place in member.stalls)
     keys.update(place for _, place in run.ending.said if place is not None)
     if run.race:
-        keys.update(run.pair)
-        keys.update(touching(run))
+        keys.update((run.race.first, run.race.second))
+        keys.update(touching(run, run.race))
     return sorted(keys)
 
 
-def polls(run):
+def polls(run: "Run") -> Set[int]:
     """The steps of each GETLLAR that finds its line as the processor had it: its issue, itself, and the reading of its status."""
-    stored, had, issued, quiet, found = {}, {}, {}, set(), set()
+    seen = Polls()
     for place, line in enumerate(run.trace.lines):
         written = STORED.search(line)
         if written:
             first, size = map(int, written.groups())
-            stored.update(dict.fromkeys(range(first // MEMORY_LINE, (first + size - 1) // MEMORY_LINE + 1), place))
-        if line[0] == "a":
-            note_atomic(ATOMIC.match(line).groups(), place, (stored, had, issued, quiet, found))
+            seen.stored.update(dict.fromkeys(range(first // MEMORY_LINE, (first + size - 1) // MEMORY_LINE + 1), place))
+        atomic = ATOMIC.match(line)
+        if atomic:
+            seen.note_atomic(atomic[1], atomic[2], atomic[3], place)
         elif line[0] == "x" and " | atomic" in line:
             spe = line.split(" ", 2)[1]
             if " | atomic " in line:
-                issued[spe] = place
-            elif spe in quiet:
-                found.add(place)
-    return found
+                seen.issued[spe] = place
+            elif spe in seen.quiet:
+                seen.found.add(place)
+    return seen.found
 
 
-def note_atomic(told, place, kept):
-    """Keeps what an atomic command does for the search for polls."""
-    (spe, kind, number), (stored, had, issued, quiet, found) = told, kept
-    quiet.discard(spe)
-    if kind != "getllar":
-        had.pop(spe, None)
-        return
-    before = had.get(spe)
-    if before and before[0] == number and stored.get(int(number), -1) < before[1]:
-        found.update((place, issued[spe]))
-        quiet.add(spe)
-    had[spe] = number, place
+class Polls:
+    """What a search for polls has seen so far; processors and lines are named as the steps name them."""
+
+    def __init__(self) -> None:
+        self.stored: Dict[int, int] = {}  # of each line of main memory the last step that stored there
+        self.had: Dict[str, Tuple[str, int]] = {}  # of each processor the line of its last GETLLAR, and that step
+        self.issued: Dict[str, int] = {}  # and the issue of its last atomic command
+        self.quiet: Set[str] = set()  # the processors whose last atomic command is a poll
+        self.found: Set[int] = set()
+
+    def note_atomic(self, spe: str, kind: str, number: str, place: int) -> None:
+        """Keeps what an atomic command on a line does."""
+        self.quiet.discard(spe)
+        if kind != "getllar":
+            self.had.pop(spe, None)
+            return
+        before = self.had.get(spe)
+        if before and before[0] == number and self.stored.get(int(number), -1) < before[1]:
+            self.found.update((place, self.issued[spe]))
+            self.quiet.add(spe)
+        self.had[spe] = number, place
 
 
-def counts(lines):
+def counts(lines: Iterable[str]) -> Set[int]:
     """The counts of a channel that are read again by the same instruction, with nothing told in between."""
-    found, last = set(), {}
+    found: Set[int] = set()
+    last: Dict[str, Optional[str]] = {}
     for place, line in enumerate(lines):
         if line[0] != "x" or not TOLD.search(line):
             continue
@@ -75,23 +91,23 @@ def counts(lines):
     return found
 
 
-def touching(run):
+def touching(run: "Run", race: Race) -> Set[int]:
     """Of each instruction that touches the bytes of the race, the steps next to the two, the first and the last."""
-    shared = [span for _, _, span in shared_bytes(run.race.one, run.race.two)]
+    shared = [span for _, _, span in shared_bytes(race.one, race.two)]
     name = "mem" if shared[0].spe is None else str(shared[0].spe)
     wanted = re.compile(rf" \| (?:read|write) {name} ")
-    by_place = {}
+    by_place: Dict[str, List[int]] = {}
     for place, line in enumerate(run.trace.lines):
         if line[0] == "x" and wanted.search(line) and any(meets(span, other) for _, span in run.trace.steps[place].spans()[1:] for other in shared):
             by_place.setdefault(line.split(" ", 6)[5], []).append(place)
-    return {place for found in by_place.values() for place in next_to(found, run.pair)}
+    return {place for found in by_place.values() for place in next_to(found, (race.first, race.second))}
 
 
-def meets(one, other):
+def meets(one: Span, other: Span) -> bool:
     return one.spe == other.spe and one.at < other.at + other.size and other.at < one.at + one.size
 
 
-def next_to(places, pair):
+def next_to(places: Sequence[int], pair: Tuple[int, int]) -> Set[int]:
     """Of places, the first, the last, and those next to two steps."""
     kept = {places[0], places[-1]}
     for at in pair:

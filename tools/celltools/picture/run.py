@@ -2,15 +2,19 @@
 import dataclasses
 import functools
 import re
+from typing import TYPE_CHECKING, Iterable, List, Optional, Set, Tuple
 
 from celltools.order.graph import Order
 from celltools.order.reasons import Race
-from celltools.picture.ending import ending_of
+from celltools.picture.ending import Ending, ending_of
 from celltools.picture.rows import own_rows
-from celltools.run.effects import Trace, shared_bytes
-from celltools.run.runs import Refused, ask_tracer, verdict
+from celltools.run.effects import Key, Trace, shared_bytes
+from celltools.run.runs import Path, Refused, ask_tracer, verdict
 from celltools.source.sites import Sites
 from celltools.telling.words import Teller
+
+if TYPE_CHECKING:
+    from celltools.picture.short import Whole
 
 RACE = re.compile(r"race (\d+) (\d+)$")
 FAULTS = ("dmafault", "badword", "badchannel")  # how the statuses of faults begin
@@ -19,7 +23,7 @@ FAULTS = ("dmafault", "badword", "badchannel")  # how the statuses of faults beg
 class Status:
     """How a processor stood at the end."""
 
-    def __init__(self, words):
+    def __init__(self, words: List[str]) -> None:
         at = words.index("pc")
         self.text, self.pc = " ".join(words[2:at]), int(words[at + 1], 16)
         self.is_running = self.text == "running"
@@ -30,8 +34,11 @@ class Status:
 class End:
     """How a run stood at its end: its end word, the processors, how far the host came, and the commands that aren't done with what is told of them."""
 
-    def __init__(self, lines):
-        self.word, self.spes, self.host, self.outstanding, self.stalled = None, [], (0, 0), set(), set()
+    def __init__(self, lines: Iterable[str]) -> None:
+        self.word, self.host = "", (0, 0)
+        self.spes: List[Status] = []
+        self.outstanding: Set[Key] = set()
+        self.stalled: Set[Key] = set()
         for line in lines:
             words = line.split()
             if words[0] == "end":
@@ -41,9 +48,9 @@ class End:
             elif words[0] == "host":
                 self.host = int(words[1]), int(words[3])
             elif words[0] == "command":
-                self.add(tuple(map(int, words[1:3])), line)
+                self.add((int(words[1]), int(words[2])), line)
 
-    def add(self, key, line):
+    def add(self, key: Key, line: str) -> None:
         self.outstanding.add(key)
         if " | stalled" in line:
             self.stalled.add(key)
@@ -52,11 +59,11 @@ class End:
 class Run:
     """A run, and what is asked of it more than once; of a short record also the whole one that it is made of."""
 
-    def __init__(self, machine, record, pair=None, whole=None):
+    def __init__(self, machine: Path, record: Path, pair: Optional[Tuple[int, int]] = None, whole: Optional["Whole"] = None) -> None:
         self.machine, self.record, self.whole = machine, record, whole
         self.verdict = verdict(machine, record)[0]
         found = RACE.match(self.verdict)
-        self.pair = pair or (tuple(map(int, found.groups())) if found else None)
+        self.pair = pair or ((int(found[1]), int(found[2])) if found else None)
         self.trace = Trace(ask_tracer("effects", machine, record))
         self.count = len(self.trace.lines)
         self.end = End(ask_tracer("states", machine, record, str(self.count)))
@@ -65,16 +72,16 @@ class Run:
         self.spes = len(self.sites.of_processor)
 
     @functools.cached_property
-    def text(self):
+    def text(self) -> str:
         """The lines of all steps."""
         return "\n".join(self.trace.lines)
 
     @functools.cached_property
-    def teller(self):
+    def teller(self) -> Teller:
         return Teller(self.trace, self.sites)
 
     @functools.cached_property
-    def race(self):
+    def race(self) -> Optional[Race]:
         """The race that is drawn; None where there is none. Refused where the two steps that were asked for are none."""
         if self.pair is None:
             return None
@@ -89,19 +96,15 @@ class Run:
         return race
 
     @functools.cached_property
-    def ending(self):
+    def ending(self) -> Ending:
         """How the run ended; of a short record, how the whole run did."""
         return dataclasses.replace(self.whole.run.ending, said=[]) if self.whole else ending_of(self)
 
     @functools.cached_property
-    def rows(self):
+    def rows(self) -> List[int]:
         """The places of the steps that have a row."""
         return own_rows(self)
 
-    def shared(self):
-        """The bytes that the two steps of the race share, with what each does to them."""
-        return shared_bytes(self.race.one, self.race.two)
-
-    def steps_of(self, key):
+    def steps_of(self, key: Key) -> List[int]:
         """The places of the steps of a command."""
         return self.order.sets[-self.order.commands[key].steps - 1]

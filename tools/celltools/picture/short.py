@@ -3,7 +3,7 @@ rows before its race."""
 import dataclasses
 import os
 import tempfile
-from typing import List, Optional, Sequence
+from typing import Dict, List, Optional, Sequence, Tuple
 
 from celltools.picture.run import Run
 from celltools.run.snapshots import Snapshot
@@ -20,18 +20,19 @@ class Whole:
     places: Sequence[int]
 
     @property
-    def told(self) -> dict:
+    def told(self) -> Dict[str, object]:
         """As the page has it."""
         return {"record": str(self.run.record), "count": self.run.count, "pair": self.run.pair}
 
 
 def drawn(run: Run) -> Run:
     """The run that is drawn for a run: that of its short record, where it has many rows before its race and there is one; else itself."""
-    if not run.race or rows_before(run.rows, run.pair[1]) <= MOST_ROWS or run.pair[1] > MOST_STEPS:
+    pair = run.pair
+    if not run.race or pair is None or rows_before(run.rows, pair[1]) <= MOST_ROWS or pair[1] > MOST_STEPS:
         return run
     with tempfile.TemporaryDirectory(prefix="cell-short-") as folder:
-        witness = witness_of(run, folder)
-        if witness is None or len(witness.places) > run.pair[1]:
+        witness = witness_of(run, pair, folder)
+        if witness is None or len(witness.places) > pair[1]:
             return run
         record = Snapshot(os.path.join(folder, FIRST), f"the short record of {run.record}")
         with open(record, "w") as file:
@@ -45,8 +46,8 @@ def rows_before(rows: List[int], place: int) -> int:
     return len(before) - 2 + sum(later > row + 1 for row, later in zip(before, before[1:]))
 
 
-def witness_of(run: Run, folder: str) -> Optional[Witness]:
+def witness_of(run: Run, pair: Tuple[int, int], folder: str) -> Optional[Witness]:
     """The first record of tools/witness; None where each way of putting its steps is refused."""
-    race = Race(run.order, *run.pair)
+    race = Race(run.order, *pair)
     found = (judged(run.machine, folder, race, [*before, race.first, race.second]) for before in puts(race))
     return next((witness for witness in found if witness.is_taken), None)

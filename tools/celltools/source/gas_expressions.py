@@ -1,6 +1,7 @@
 """The expressions of GNU as: numbers, characters, names, operators with their ranks, and what they come to."""
 import collections
 import re
+from typing import Callable, Deque, Dict, NamedTuple, Optional, Tuple
 
 from celltools.source.language import value_of
 
@@ -14,14 +15,30 @@ SHOWN = 24  # characters of a number that is too large
 WRAP = 2**64  # GNU as computes modulo this; a shift right fills with zeros
 MOST_NESTED = 100  # parentheses, signs and names within one another
 
-Value = collections.namedtuple("Value", "name number")  # a label, or None, and what is added to it
+
+class Value(NamedTuple):
+    """A label, or None, and what is added to it."""
+    name: Optional[str]
+    number: int
+
+
+class Known:
+    """What an expression asks about names."""
+
+    def look_up(self, word: str, depth: int = 1) -> Value:
+        """The value of a name."""
+        raise NotImplementedError
+
+    def distance(self, left: str, right: str) -> int:
+        """How many bytes the first label stands behind the second."""
+        raise NotImplementedError
 
 
 class Unwritable(Exception):
     """Why a line can't be rewritten."""
 
 
-def number_value(word):
+def number_value(word: str) -> int:
     """The value of a number, a character or an octal of GNU as."""
     if word[0] == "'":
         if word[1] != "\\":
@@ -36,12 +53,12 @@ def number_value(word):
     return value
 
 
-def wrapped(number):
+def wrapped(number: int) -> int:
     """A sum as it is where it has at most 64 bits, so that what is outside the range of its line is refused there; else modulo that."""
     return number if abs(number) < WRAP else (number + WRAP // 2) % WRAP - WRAP // 2
 
 
-def divided(left, right):
+def divided(left: int, right: int) -> Tuple[int, int]:
     """The quotient toward zero, and the remainder that goes with it."""
     if right == 0:
         raise Unwritable("a division by zero")
@@ -49,7 +66,7 @@ def divided(left, right):
     return whole, left - whole * right
 
 
-def combined(mark, left, right):
+def combined(mark: str, left: Value, right: Value) -> Value:
     """What an operator makes of two values; only + and - take labels."""
     if mark == "+" and not (left.name and right.name):
         return Value(left.name or right.name, wrapped(left.number + right.number))
@@ -60,7 +77,7 @@ def combined(mark, left, right):
     a, b = left.number, right.number
     if mark in ("<<", ">>") and not 0 <= b < 64:
         raise Unwritable(f"a shift by {b}")
-    work = {
+    work: Dict[str, Callable[[], int]] = {
         "*": lambda: a * b, "/": lambda: divided(a, b)[0], "%": lambda: divided(a, b)[1], "<<": lambda: a << b,
         ">>": lambda: a % WRAP >> b, "|": lambda: a | b, "&": lambda: a & b, "^": lambda: a ^ b, "!": lambda: a | ~b,
     }  # fmt: skip
@@ -73,17 +90,17 @@ class Expression:
     `depth` is in how many names, signs and parentheses it stands.
     """
 
-    def __init__(self, text, names, depth=0):
-        self.words = collections.deque(ATOM.findall(text))
+    def __init__(self, text: str, names: Known, depth: int = 0) -> None:
+        self.words: Deque[str] = collections.deque(ATOM.findall(text))
         self.names, self.depth = names, depth
 
-    def value(self):
+    def value(self) -> Value:
         value = self.ranked(1)
         if self.words:
             raise Unwritable(f"`{self.words[0]}` in an expression")
         return value
 
-    def ranked(self, least):
+    def ranked(self, least: int) -> Value:
         value = self.prefixed()
         while self.words and RANKS.get(self.words[0], 0) >= least:
             mark = self.words.popleft()
@@ -94,7 +111,7 @@ class Expression:
             value = combined(mark, value, right)
         return value
 
-    def within(self, read):
+    def within(self, read: Callable[[], Value]) -> Value:
         """What is read one level deeper."""
         if self.depth == MOST_NESTED:
             raise Unwritable(f"more than {MOST_NESTED} parentheses, signs and names stand within one another")
@@ -103,7 +120,7 @@ class Expression:
         self.depth -= 1
         return value
 
-    def prefixed(self):
+    def prefixed(self) -> Value:
         if not self.words:
             raise Unwritable("an expression is missing")
         word = self.words.popleft()

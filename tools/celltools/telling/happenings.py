@@ -5,9 +5,9 @@ docs/PROFILE.md says when an event is raised and when a list stalls; tests/debug
 import collections
 import dataclasses
 import enum
-from typing import Dict, List, Optional
+from typing import Callable, Dict, List, Optional, Set, Union
 
-from celltools.run.effects import MEMORY_LINE, Command, Step, Trace, mailbox
+from celltools.run.effects import MEMORY_LINE, NO_COMMAND, Command, Step, Trace, mailbox
 from celltools.source.channels import EVENT_ACK, events_in
 from celltools.source.target_registers import ends_rightly
 from celltools.telling.executed import Executed
@@ -18,7 +18,7 @@ ELEMENT_BYTES = 8
 LOST, SIGNAL_1, SIGNAL_2, OUTBOUND, INTERRUPT, INBOUND, QUEUE, STALL, TAG = 0x400, 0x200, 0x100, 0x80, 0x40, 0x10, 0x8, 0x2, 0x1
 SIGNALS = {1: SIGNAL_1, 2: SIGNAL_2}
 ROOM = {"out": OUTBOUND, "intr": INTERRUPT}
-STALL_READ, STALL_ACK = "stalls", "ack"
+Key = Union[int, str, None]  # of what happens
 
 
 class Kind(enum.Enum):
@@ -39,7 +39,7 @@ class Happening:
     place: int
     kind: Kind
     spe: int
-    key: object
+    key: Key
     words: str
 
 
@@ -74,7 +74,7 @@ class Flow:
     def __init__(self) -> None:
         self.line: Optional[int] = None  # that is held
         self.counts: Dict[str, int] = collections.Counter()  # of the values in its mailboxes
-        self.ready: set = set()  # its signal registers that hold a value
+        self.ready: Set[int] = set()  # its signal registers that hold a value
         self.stalls = 0
         self.pending = 0
         self.outstanding: Dict[int, Outstanding] = {}
@@ -101,7 +101,7 @@ class Happenings:
             self.seen += 1
         return self.found.get(place, [])
 
-    def tell(self, kind: Kind, spe: int, key: object, words: str) -> None:
+    def tell(self, kind: Kind, spe: int, key: Key, words: str) -> None:
         self.found.setdefault(self.place, []).append(Happening(self.place, kind, spe, key, words))
 
     def raise_event(self, spe: int, bit: int) -> None:
@@ -131,7 +131,8 @@ class Happenings:
     def atomic(self, step: Step) -> None:
         """An atomic command: of its own processor no event is raised."""
         kind, _, number = step.told["atomic"]
-        flow, at, spe = self.flows[step.spe], int(number) * MEMORY_LINE, step.spe
+        spe, at = step.processor, int(number) * MEMORY_LINE
+        flow = self.flows[spe]
         name = f"processor {spe}'s reservation of the line at 0x"
         if step.writes and step.writes.spe is None:
             self.store(step, own=spe)
@@ -149,7 +150,10 @@ class Happenings:
 
     def store(self, step: Step, own: Optional[int]) -> None:
         """Bytes of main memory are written, which ends the reservations of their lines."""
-        first, end = step.writes.at // MEMORY_LINE * MEMORY_LINE, step.writes.at + step.writes.size
+        written = step.writes
+        if written is None:
+            return
+        first, end = written.at // MEMORY_LINE * MEMORY_LINE, written.at + written.size
         is_conditional = own is not None and step.told["atomic"][0] == "putllc"
         for spe in sorted(spe for spe, flow in self.flows.items() if flow.line is not None and first <= flow.line < end):
             if spe == own and is_conditional:
@@ -163,13 +167,14 @@ class Happenings:
 
     def issue(self, step: Step) -> None:
         command = step.issued()
-        self.flows[step.spe].outstanding[command.number] = Outstanding(command, 0 if command.kind in ("putl", "getl") else pieces_of(command))
+        if command:
+            self.flows[command.spe].outstanding[command.number] = Outstanding(command, 0 if command.kind in ("putl", "getl") else pieces_of(command))
 
     def of_command(self, step: Step) -> None:
-        flow = self.flows[step.spe]
-        one = flow.outstanding[step.command]
+        spe, number = step.command_key() or NO_COMMAND
+        one = self.flows[spe].outstanding[number]
         if step.kind == "retirement":
-            self.complete(step.spe, [step.command])
+            self.complete(spe, [number])
             return
         if step.kind == "piece":
             one.left -= 1
@@ -181,7 +186,7 @@ class Happenings:
         if one.is_list and not one.left and one.is_flagged:
             self.stall(step, one)
         if one.is_complete():
-            self.complete(step.spe, [step.command])
+            self.complete(spe, [number])
 
     def complete(self, spe: int, numbers: List[int]) -> None:
         """Commands are complete; a queue that was full isn't any more."""
@@ -195,26 +200,26 @@ class Happenings:
     # ---- stalls
 
     def stall(self, step: Step, one: Outstanding) -> None:
-        flow, tag = self.flows[step.spe], one.command.tag
+        flow, tag = self.flows[step.processor], one.command.tag
         one.is_stalled = True
         had, flow.stalls = flow.stalls, flow.stalls | 1 << tag
-        self.tell(Kind.STALL, step.spe, 1 << tag, f"command {step.command} of processor {step.spe}, of tag {tag}, stalls behind its element {one.read - 1}")
+        self.tell(Kind.STALL, step.processor, 1 << tag, f"command {step.command} of processor {step.processor}, of tag {tag}, stalls behind its element {one.read - 1}")
         if not had:
-            self.raise_event(step.spe, STALL)
+            self.raise_event(step.processor, STALL)
 
     def read_stalls(self, step: Step) -> None:
-        groups = step.number("stalls")
-        self.flows[step.spe].stalls = 0
-        self.tell(Kind.STALL, step.spe, groups, f"processor {step.spe} reads the stall status, 0x{groups:08x}, {tags(groups)}, which clears it")
+        groups = step.number("stalls") or 0
+        self.flows[step.processor].stalls = 0
+        self.tell(Kind.STALL, step.processor, groups, f"processor {step.processor} reads the stall status, 0x{groups:08x}, {tags(groups)}, which clears it")
 
     def acknowledge_stall(self, step: Step) -> None:
-        flow, tag = self.flows[step.spe], step.number("ack")
+        flow, tag = self.flows[step.processor], step.number("ack") or 0
         resumed = [number for number, one in flow.outstanding.items() if one.is_stalled and one.command.tag == tag]
         for number in resumed:
             flow.outstanding[number].is_stalled = False
         what = f"{'command' if len(resumed) == 1 else 'commands'} {', '.join(map(str, resumed))} no longer stalls" if resumed else "no list of it stalls"
-        self.tell(Kind.STALL, step.spe, 1 << tag if tag < 32 else 0, f"processor {step.spe} acknowledges the stall of tag {tag}: {what}")
-        self.complete(step.spe, [number for number in resumed if flow.outstanding[number].is_complete()])
+        self.tell(Kind.STALL, step.processor, 1 << tag if tag < 32 else 0, f"processor {step.processor} acknowledges the stall of tag {tag}: {what}")
+        self.complete(step.processor, [number for number in resumed if flow.outstanding[number].is_complete()])
 
     # ---- mailboxes and signals
 
@@ -248,25 +253,27 @@ class Happenings:
     # ---- events
 
     def write_channel(self, step: Step) -> None:
-        channel, value = (step.number("wrch", k) for k in (0, 1))
+        channel, value = (step.number("wrch", k) or 0 for k in (0, 1))
         if "ended" in step.told:
             return
         if channel == EVENT_ACK:
-            cleared = self.flows[step.spe].pending & value
-            self.flows[step.spe].pending &= ~value
+            cleared = self.flows[step.processor].pending & value
+            self.flows[step.processor].pending &= ~value
             pending = "which was pending" if cleared == value else f"of which {events_in(cleared)} was pending" if cleared else "which wasn't pending"
-            self.tell(Kind.EVENT, step.spe, value, f"acknowledges {events_in(value)} at processor {step.spe}, {pending}")
+            self.tell(Kind.EVENT, step.processor, value, f"acknowledges {events_in(value)} at processor {step.processor}, {pending}")
 
     def fixed(self, step: Step) -> None:
-        self.raise_event(step.spe, TAG)
+        self.raise_event(step.processor, TAG)
 
     # ---- faults
 
     def end(self, step: Step) -> None:
         """A processor runs no more: by a fault, but where its instruction is a stop or a halt."""
         if step.kind == "element" or not ends_rightly(self.executed.word(self.place)):
-            self.tell(Kind.FAULT, step.spe, None, f"a fault ends processor {step.spe}")
+            self.tell(Kind.FAULT, step.processor, None, f"a fault ends processor {step.processor}")
 
 
-BY_FIELD = {"issue": Happenings.issue, "stalls": Happenings.read_stalls, "ack": Happenings.acknowledge_stall, "put": Happenings.put, "take": Happenings.take,
-            "signal": Happenings.signal, "wrch": Happenings.write_channel, "fixed": Happenings.fixed, "ended": Happenings.end}
+BY_FIELD: Dict[str, Callable[[Happenings, Step], None]] = {
+    "issue": Happenings.issue, "stalls": Happenings.read_stalls, "ack": Happenings.acknowledge_stall, "put": Happenings.put, "take": Happenings.take,
+    "signal": Happenings.signal, "wrch": Happenings.write_channel, "fixed": Happenings.fixed, "ended": Happenings.end,
+}

@@ -109,7 +109,8 @@ def differing_lines(difference: Difference) -> Difference:
     first, second = ([line.strip() for line in lines if line not in others]
                      for lines, others in ((difference.first, difference.second), (difference.second, difference.first)))
     if first and len(first) == len(second):
-        first, second = zip(*map(differing_words, first, second))
+        pairs = list(map(differing_words, first, second))
+        first, second = [one for one, _ in pairs], [other for _, other in pairs]
     return Difference(difference.name, tuple(first) or ("nothing",), tuple(second) or ("nothing",))
 
 
@@ -150,7 +151,7 @@ class Both:
         run.place = self.count
         return run
 
-    def steps(self, number: int) -> List[Step]:
+    def steps(self, number: int) -> Sequence[Step]:
         """The two racing steps of a run, as they are made there."""
         return self.runs[number].trace.steps[self.count - 2:]
 
@@ -179,9 +180,9 @@ class Both:
         name = f"{{}}, when {step.line} {reader.way} them"
         if reader.way != "fetches":
             return of_bytes(self.names, reader.span, *self.bytes_of(reader.span, reader.places(self.count)), name)
-        words = self.bytes_of(step.fetch, reader.places(self.count))
-        first, second = ((f"{word.hex()}  {Disassembler().text(step.fetch.at, int.from_bytes(word, 'big'))}",) for word in words)
-        return Difference(name.format(self.names.range(step.fetch)), first, second)
+        words = self.bytes_of(step.fetched, reader.places(self.count))
+        first, second = ((f"{word.hex()}  {Disassembler().text(step.fetched.at, int.from_bytes(word, 'big'))}",) for word in words)
+        return Difference(name.format(self.names.range(step.fetched)), first, second)
 
     # ---- how the machine stands behind the two steps
 
@@ -212,7 +213,7 @@ class Both:
     def ends(self) -> Ends:
         shows = self.shows()
         first, second = (self.end(run, shows) for run in self.runs)
-        bytes_shown = [of_bytes(self.names, span_shown(show), *both) for show, *both in zip(shows, first.shown, second.shown)]
+        bytes_shown = [of_bytes(self.names, span_shown(show), *both) for show, both in zip(shows, zip(first.shown, second.shown))]
         found = [difference for difference in bytes_shown if difference.is_one]
         found += compared([*host_parts(first), *statuses(first), *registers(first)], [*host_parts(second), *statuses(second), *registers(second)])
         return Ends((first.end, second.end), found, len(shows))
@@ -221,7 +222,7 @@ class Both:
 def span_shown(show: str) -> Span:
     """The range of a `show` line."""
     _, place, *numbers = show.split()
-    at, size = (number_of(word) for word in numbers[-2:])
+    at, size = (number_of(word) or 0 for word in numbers[-2:])
     return Span(None if place == "mem" else number_of(numbers[0]), at, size)
 
 

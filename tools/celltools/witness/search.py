@@ -10,8 +10,8 @@ import re
 from typing import Callable, Dict, Iterator, List, Optional, Sequence, Tuple
 
 from celltools.order.graph import NO_CHAIN, Order
-from celltools.run.machine_state import actor_of
 from celltools.run.effects import Trace
+from celltools.run.machine_state import Actor, actor_of
 from celltools.run.records import record_text
 from celltools.run.runs import Path, Refused, ask_tracer, asked, said_of, verdict
 
@@ -130,7 +130,7 @@ class Free:
 
     def __init__(self, heads: Sequence[str], behind: Dict[Node, List[Node]], counts: Dict[Node, int]) -> None:
         self.actors, self.behind, self.counts = list(map(actor_of, heads)), behind, counts
-        self.places: Dict[tuple, List[int]] = {}
+        self.places: Dict[Actor, List[int]] = {}
         for node in [node for node, count in counts.items() if not count]:
             self.let(node)
 
@@ -151,7 +151,7 @@ class Free:
             if not self.counts[other]:
                 yield other
 
-    def take(self, actor: tuple) -> int:
+    def take(self, actor: Actor) -> int:
         """Takes an actor's first free step."""
         place = heapq.heappop(self.places[actor])
         if not self.places[actor]:
@@ -163,9 +163,11 @@ class Free:
 
 def by_actors(race: Race) -> List[int]:
     """The steps before the race so that an actor goes on as long as it may, and then the one whose step came first in the record."""
-    free, actor, places = Free(race.heads, *waiting(race)), None, []
+    free = Free(race.heads, *waiting(race))
+    actor: Optional[Actor] = None
+    places: List[int] = []
     while free.places:
-        if actor not in free.places:
+        if actor is None or actor not in free.places:
             actor = min(free.places, key=lambda one: free.places[one][0])
         places.append(free.take(actor))
     return places
