@@ -7,6 +7,7 @@ import select
 import shutil
 import signal
 import time
+from typing import Any, Dict, List, Optional
 
 PROGRAMS = ("chromium", "chromium-browser", "google-chrome", "chrome")
 WORDS = ("--headless=new", "--no-sandbox", "--disable-gpu", "--hide-scrollbars", "--remote-debugging-pipe")
@@ -17,16 +18,19 @@ NAMED_KEYS = {"Enter": (13, "\r"), "Escape": (27, ""), "Tab": (9, ""), "End": (3
               "ArrowRight": (39, "")}  # each with its code and what it types
 
 
+Told = Dict[str, Any]  # what the protocol tells, as JSON has it
+
+
 class Silent(Exception):
     """The browser doesn't answer, as on a machine with too little room for it."""
 
 
-def program():
+def program() -> Optional[str]:
     """The browser that there is; None where there is none."""
     return next(filter(None, map(shutil.which, PROGRAMS)), None)
 
 
-def pipe():
+def pipe() -> List[int]:
     """The two ends of a pipe, with numbers that are none of the browser's."""
     ends = os.pipe()
     high = [fcntl.fcntl(end, fcntl.F_DUPFD_CLOEXEC, FROM_BROWSER + 1) for end in ends]
@@ -38,26 +42,27 @@ def pipe():
 class Browser:
     """A browser with two pages, which are opened anew for each look: one in the background, where nothing is painted, and one in front, which takes keys."""
 
-    def __init__(self, name, folder, seconds):
+    def __init__(self, name: str, folder: str, seconds: float) -> None:
         self.seconds, self.number, self.kept = seconds, 0, b""
         theirs_in, self.asking = pipe()
         self.answering, theirs_out = pipe()
-        quiet = [(os.POSIX_SPAWN_OPEN, number, os.devnull, os.O_WRONLY, 0) for number in (1, 2)]
-        files = [(os.POSIX_SPAWN_DUP2, theirs_in, TO_BROWSER), (os.POSIX_SPAWN_DUP2, theirs_out, FROM_BROWSER)]
+        quiet = ((os.POSIX_SPAWN_OPEN, number, os.devnull, os.O_WRONLY, 0) for number in (1, 2))
+        files = ((os.POSIX_SPAWN_DUP2, theirs_in, TO_BROWSER), (os.POSIX_SPAWN_DUP2, theirs_out, FROM_BROWSER))
         words = [name, *WORDS, f"--user-data-dir={folder}", "about:blank"]
-        self.process = os.posix_spawn(name, words, os.environ, file_actions=quiet + files)
+        self.process = os.posix_spawn(name, words, os.environ, file_actions=[*quiet, *files])
         os.close(theirs_in)
         os.close(theirs_out)
-        self.session, self.sessions = None, {}
-        self.requests = []  # the addresses that pages, their frames and workers asked for, from hear_requests on
+        self.session: Optional[str] = None
+        self.sessions: Dict[bool, str] = {}
+        self.requests: List[str] = []  # the addresses that pages, their frames and workers asked for, from hear_requests on
 
-    def end(self):
+    def end(self) -> None:
         os.close(self.asking)
         os.close(self.answering)
         os.kill(self.process, signal.SIGKILL)
         os.waitpid(self.process, 0)
 
-    def open(self, address, width, is_in_front=False):
+    def open(self, address: str, width: int, is_in_front: bool = False) -> None:
         """Opens a page in a window of that width."""
         self.session = self.sessions.get(is_in_front)
         if self.session is None:
@@ -66,14 +71,14 @@ class Browser:
         self.call("Emulation.setDeviceMetricsOverride", width=width, height=HEIGHT, deviceScaleFactor=1, mobile=False)
         self.call("Page.navigate", url=address)
 
-    def hear_requests(self):
+    def hear_requests(self) -> None:
         """Begins to hear what pages ask for, with the frames and workers that they make."""
         self.requests = []
         self.open("about:blank", 1, is_in_front=True)
         self.call("Network.enable")
         self.call("Target.setAutoAttach", autoAttach=True, waitForDebuggerOnStart=False, flatten=True)
 
-    def hear(self, told):
+    def hear(self, told: Told) -> None:
         """Takes in what the browser tells without being asked."""
         if told.get("method") == "Network.requestWillBeSent":
             self.requests.append(told["params"]["request"]["url"])
@@ -82,25 +87,25 @@ class Browser:
             asked = {"id": self.number, "method": "Network.enable", "params": {}, "sessionId": told["params"]["sessionId"]}
             self.write(json.dumps(asked).encode() + b"\0")
 
-    def key(self, name, modifiers=0):
+    def key(self, name: str, modifiers: int = 0) -> None:
         """Presses a key and lets it go: one of NAMED_KEYS, or a letter."""
         code, text = NAMED_KEYS.get(name, (0, name))
         self.call("Input.dispatchKeyEvent", type="keyDown", key=name, text=text, windowsVirtualKeyCode=code, modifiers=modifiers)
         self.call("Input.dispatchKeyEvent", type="keyUp", key=name, windowsVirtualKeyCode=code, modifiers=modifiers)
 
-    def click(self, x, y):
+    def click(self, x: float, y: float) -> None:
         """Clicks at a point of the window."""
         for kind in ("mousePressed", "mouseReleased"):
             self.call("Input.dispatchMouseEvent", type=kind, x=x, y=y, button="left", clickCount=1)
 
-    def answer(self, script):
+    def answer(self, script: str) -> Any:
         """What a script answers, at once or by a promise."""
         answer = self.call("Runtime.evaluate", expression=script, awaitPromise=True, returnByValue=True)
         if "exceptionDetails" in answer:
             raise Silent(str(answer["exceptionDetails"]))
         return answer["result"].get("value")
 
-    def call(self, method, **words):
+    def call(self, method: str, **words: object) -> Told:
         """The answer to one request."""
         self.number += 1
         number, asked = self.number, {"id": self.number, "method": method, "params": words}
@@ -114,16 +119,17 @@ class Browser:
             if told.get("id") == number:
                 if "error" in told:
                     raise Silent(f"{method}: {told['error']}")
-                return told["result"]
+                found: Told = told["result"]
+                return found
 
-    def write(self, said):
+    def write(self, said: bytes) -> None:
         try:
             while said:
                 said = said[os.write(self.asking, said):]
         except BrokenPipeError as why:
             raise Silent("it ended") from why
 
-    def message(self, end):
+    def message(self, end: float) -> bytes:
         """What the browser says next, as long as the time isn't over."""
         while b"\0" not in self.kept:
             if not select.select([self.answering], [], [], max(0, end - time.monotonic()))[0]:

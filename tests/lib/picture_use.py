@@ -4,23 +4,27 @@ import json
 import pathlib
 import re
 import time
-from typing import Callable, Dict, Iterator, List
+from typing import Any, Callable, Dict, Iterator, List, Sequence, Tuple
 
 from lib.browser import NAMED_KEYS, SHIFT, Browser, Silent
+from lib.picture_page import Page
 
 WIDTHS = (1400, 900)
 SECONDS = 60   # that a page may take for what it was asked
 NEAR = 2       # pixels by which a row that stays may move
 MOST_TABS = 99
 AMBER, RED, GREEN = "rgb(240, 180, 41)", "rgb(198, 70, 0)", "rgb(0, 127, 95)"
+Seen = Dict[str, Any]  # what picture_using.js sees, as JSON has it
+Count = Callable[[Page], int]  # how many steps of a page a search has to find
 SEEN = (pathlib.Path(__file__).resolve().parent / "picture_using.js").read_text()
 
 
 class Reader:
     """Somebody who reads a page, and tells what is wrong."""
 
-    def __init__(self, browser: Browser, page, path: pathlib.Path, width: int) -> None:
-        self.browser, self.page, self.width, self.said = browser, page, width, []
+    def __init__(self, browser: Browser, page: Page, path: pathlib.Path, width: int) -> None:
+        self.browser, self.page, self.width = browser, page, width
+        self.said: List[str] = []
         browser.open(path.as_uri(), width, is_in_front=True)
         self.settle("document.body && document.body.dataset.ready === 'yes'")
         browser.answer("scrollTo(0, 0); document.getElementById('scroll').focus()")
@@ -33,7 +37,7 @@ class Reader:
                 raise Silent(f"the page doesn't come so far that {condition}")
             time.sleep(0.01)
 
-    def keys(self, *names: str) -> Dict:
+    def keys(self, *names: str) -> Seen:
         """Presses keys, one after the other, a capital with Shift, and types words; what is seen then."""
         for name in names:
             if len(name) == 1 or name in NAMED_KEYS:
@@ -43,16 +47,17 @@ class Reader:
             self.settle("document.getElementById('scroll').getAttribute('aria-busy') !== 'true'")
         return self.seen()
 
-    def click(self, selector: str) -> Dict:
+    def click(self, selector: str) -> Seen:
         """Clicks at the middle of the first node of a kind."""
         node = f"document.querySelector({json.dumps(selector)})"
         self.browser.click(*self.browser.answer(f"(box => [box.left + box.width / 2, box.top + box.height / 2])({node}.getBoundingClientRect())"))
         self.settle("document.getElementById('scroll').getAttribute('aria-busy') !== 'true'")
         return self.seen()
 
-    def seen(self) -> Dict:
+    def seen(self) -> Seen:
         self.browser.answer("new Promise(done => requestAnimationFrame(() => requestAnimationFrame(done)))")
-        return self.browser.answer(SEEN)
+        found: Seen = self.browser.answer(SEEN)
+        return found
 
     def expect(self, what: str, wanted: object, found: object) -> None:
         if wanted != found:
@@ -70,7 +75,7 @@ class Reader:
                 return True
         return False
 
-    def go(self, place: int) -> Dict:
+    def go(self, place: int) -> Seen:
         return self.keys("g", str(place), "Enter")
 
 
@@ -111,7 +116,7 @@ def columns(reader: Reader) -> None:
         kept(reader, "`c` twice", before, after)
 
 
-def kept(reader: Reader, what: str, before: Dict, after: Dict) -> None:
+def kept(reader: Reader, what: str, before: Seen, after: Seen) -> None:
     """That the step that is chosen stays where it was on the screen."""
     reader.expect(f"the chosen step behind {what}", before["chosen"], after["chosen"])
     if after["top"] is None or abs(before["top"] - after["top"]) > NEAR:
@@ -171,7 +176,7 @@ def waiting(reader: Reader) -> None:
     reader.expect_in("Enter on the last step", f"step {place},", reader.keys("Enter")["chosen"])
 
 
-def values(*pairs: tuple) -> Callable[[Reader], None]:
+def values(*pairs: Tuple[str, str]) -> Callable[[Reader], None]:
     """That steps tell what they took, read or signalled: of each a pattern of its line, and what its words have."""
     def look(reader: Reader) -> None:
         for pattern, words in pairs:
@@ -187,7 +192,7 @@ def values(*pairs: tuple) -> Callable[[Reader], None]:
 class Found:
     """A search, and how many steps it has to find."""
     text: str
-    count: Callable[[object], int]
+    count: Count
 
 
 def searches(*wanted: Found) -> Callable[[Reader], None]:
@@ -208,7 +213,7 @@ def searches(*wanted: Found) -> Callable[[Reader], None]:
     return look
 
 
-def go_on(reader: Reader, at: int, count: int, found: Dict) -> None:
+def go_on(reader: Reader, at: int, count: int, found: Seen) -> None:
     """The next hit, by a key, and back again."""
     reader.keys("Escape")
     following = reader.keys("n")
@@ -220,29 +225,30 @@ def go_on(reader: Reader, at: int, count: int, found: Dict) -> None:
 
 # ---- what a search has to find, by the lines of the steps
 
-def lines_with(pattern: str) -> Callable[[object], int]:
+def lines_with(pattern: str) -> Count:
     """How many steps have a pattern."""
     return lambda page: sum(bool(re.search(pattern, line)) for line in page.lines)
 
 
-def steps_of_line(name: str) -> Callable[[object], int]:
+def steps_of_line(name: str) -> Count:
     """How many instructions come from a line of a source."""
     file, number = name.rsplit(":", 1)
 
-    def count(page) -> int:
+    def count(page: Page) -> int:
         sites = {(spe, int(at)) for spe, code in enumerate(page.facts["code"]) for at, line in code.items()
                  if page.facts["sources"][line][0].endswith(file) and page.facts["sources"][line][1] == int(number)}
-        return sum(bool(found) and (int(found[1]), int(found[2])) in sites for found in map(re.compile(r"x (\d+) \| fetch \d+ (\d+) ").match, page.lines))
+        fetches = map(re.compile(r"x (\d+) \| fetch \d+ (\d+) ").match, page.lines)
+        return sum((int(found[1]), int(found[2])) in sites for found in fetches if found)
     return count
 
 
-def steps_touching(place: str, low: int, high: int) -> Callable[[object], int]:
+def steps_touching(place: str, low: int, high: int) -> Count:
     """How many steps touch bytes of a place, which is a pattern: `mem`, the number of a store, or any."""
     span = re.compile(rf" \| (?:fetch|read|write) ({place}) (\d+) (\d+)")
     return lambda page: sum(any(int(at) < high and low < int(at) + int(size) for _, at, size in span.findall(line)) for line in page.lines)
 
 
-def uses(looks: List[Callable[[Reader], None]], browser: Browser, page, path: pathlib.Path) -> Iterator[str]:
+def uses(looks: Sequence[Callable[[Reader], None]], browser: Browser, page: Page, path: pathlib.Path) -> Iterator[str]:
     """What goes wrong with a page at each width."""
     for width in WIDTHS:
         reader = Reader(browser, page, path, width)
@@ -254,7 +260,7 @@ def uses(looks: List[Callable[[Reader], None]], browser: Browser, page, path: pa
 # ---- what each page is used for
 
 RACY = [numbers, neighbours, columns, only, race_in_view]
-USES = {
+USES: Dict[str, Sequence[Callable[[Reader], None]]] = {
     "mail_race": [*RACY, searches(
         Found("receiver.s:12", steps_of_line("receiver.s:12")), Found("0x84", steps_touching(r"\S+", 0x84, 0x85)), Found("$ch21", lines_with(" wrch 21 ")),
         Found("takes inbox", lines_with(r"^x .*\| take \d+ in ")), Found("into its outbox", lines_with(r"^x .*\| put \d+ out")), Found("lost", lambda page: 0))],

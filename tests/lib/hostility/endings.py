@@ -3,12 +3,13 @@ never with a traceback.
 """
 import concurrent.futures
 import os
+import pathlib
 import random
 import signal
 import subprocess
 import tempfile
 import time
-from typing import Iterator, List, NamedTuple, Sequence
+from typing import Iterator, List, NamedTuple, Optional, Sequence
 
 from celltools.common.repository import ROOT
 from lib.hostility.rows import TRACEBACK, Row
@@ -45,10 +46,14 @@ LATEST = 0.2  # seconds from a start to its interrupt
 SECONDS = 120  # a bound for what never ends, also on a busy machine
 
 
-def redirected(name, how, words, status, said="", printed=None):
+def link_examples(folder: pathlib.Path) -> None:
+    (folder / "examples").symlink_to(ROOT / "examples")
+
+
+def redirected(name: str, how: str, words: Sequence[str], status: int, said: str = "", printed: Optional[str] = None) -> Row:
     """A row of a call with its standard files as a shell has them."""
     return Row(f"{words[0]} {name}", ["tests/lib/hostility/redirect", how, *words], status, said, printed, files=FILES, standard_input=TYPED,
-               before=lambda folder: (folder / "examples").symlink_to(ROOT / "examples"))
+               before=link_examples)
 
 
 ROWS = [

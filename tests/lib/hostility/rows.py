@@ -47,8 +47,8 @@ def ended(words: Sequence[str], folder: pathlib.Path, seconds: float, megabytes:
           environment: Optional[Mapping[str, str]] = None) -> Optional[Ended]:
     """A command that has ended, in a folder; None where it doesn't end in time, which ends it with whatever it started."""
     command = ["sh", "-c", LIMITED, "sh", str(1024 * megabytes), *words]
-    pipes = {"stdin": subprocess.PIPE, "stdout": subprocess.PIPE, "stderr": subprocess.PIPE}
-    with subprocess.Popen(command, cwd=folder, env={**os.environ, **(environment or {})}, start_new_session=True, **pipes) as process:
+    with subprocess.Popen(command, cwd=folder, env={**os.environ, **(environment or {})}, start_new_session=True, stdin=subprocess.PIPE,
+                          stdout=subprocess.PIPE, stderr=subprocess.PIPE) as process:
         try:
             output, error = process.communicate(standard_input, timeout=seconds)
         except subprocess.TimeoutExpired:

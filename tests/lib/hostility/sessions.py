@@ -5,7 +5,7 @@ import stat
 import sys
 import tempfile
 import threading
-from typing import Iterator, List, Mapping, Optional, Sequence
+from typing import Any, Iterator, List, Mapping, Optional, Sequence
 
 from celltools.common.repository import ROOT
 from celltools.common.texts import lines_in, number_of, shown
@@ -39,10 +39,11 @@ def with_comments(*comments: str) -> bytes:
 ODD_FILES = {**FILES, "m.cell": ODD_COMMENT + MACHINE, "s.s": with_comments("# въход, Ångström", HIDING)}
 
 
-def session(name: str, commands: Sequence[str], printed: str, status: int = 0, words: Sequence[str] = ("m.cell",), **how) -> Row:
-    """A whole session of tools/debug."""
+def session(name: str, commands: Sequence[str], printed: str, status: int = 0, words: Sequence[str] = ("m.cell",), **how: Any) -> Row:
+    """A whole session of tools/debug; `how` is all else that a Row has."""
+    how.setdefault("files", FILES)
     given = "".join(f"{command}\n" for command in commands).encode("utf-8", "surrogateescape")
-    return Row(name, ("tools/debug", *words), status, printed=printed, standard_input=given, **{"files": FILES, **how})
+    return Row(name, ("tools/debug", *words), status, printed=printed, standard_input=given, **how)
 
 
 # ---- what is written, and what stays as it is

@@ -1,6 +1,6 @@
 """Calls of tools/witness: what it writes and what it never writes over, and records that have no race, or of which an order is refused."""
 import pathlib
-from typing import Optional
+from typing import Any, Callable, Optional
 
 from celltools.common.repository import ROOT
 from lib.hostility.rows import Row
@@ -35,7 +35,7 @@ WAITS = r"(?s)the second order is refused \([^()]*\): its step 7, x 0 \(step 8 o
 BOTH, USAGE, TAKEN = "both end AllStopped", "Usage: tools/witness", "is there, so nothing is written"
 
 
-def has_only(*names: str):
+def has_only(*names: str) -> Callable[[pathlib.Path], Optional[str]]:
     """What is wrong in a folder that has other files than those of FILES and these."""
     def wrong(folder: pathlib.Path) -> Optional[str]:
         found = {path.name for path in folder.iterdir()}
@@ -54,8 +54,9 @@ def are_records(folder: pathlib.Path) -> Optional[str]:
     return f"{wrong} aren't records" if wrong else None
 
 
-def witness(name: str, *words: str, status=0, said="", printed: Optional[str] = None, **how) -> Row:
-    return Row(name, ("tools/witness", *words), status, said, printed, **{"files": FILES, **how})
+def witness(name: str, *words: str, status: int = 0, said: str = "", printed: Optional[str] = None, **how: Any) -> Row:  # `how`: all else that a Row has
+    how.setdefault("files", FILES)
+    return Row(name, ("tools/witness", *words), status, said, printed, **how)
 
 
 def has_first_alone(folder: pathlib.Path) -> Optional[str]:

@@ -1,7 +1,7 @@
 """The words of the programs' command lines: bytes that aren't UTF-8, numbers in other spellings, and files without an end."""
 import pathlib
 import subprocess
-from typing import Dict, Iterator, Sequence, Tuple, Union
+from typing import Dict, Iterator, List, Sequence, Tuple, Union
 
 from celltools.common.repository import ROOT, built
 from lib.hostility.rows import Row
@@ -69,13 +69,14 @@ ROWS = [*NAMES, *NO_FORMS, *NUMBERS, *ENDLESS]
 
 def status_of(program: str, words: Sequence[str]) -> int:
     """The status of a program whose own name isn't UTF-8."""
-    command = [b"\xff", *words]
+    command: List[Union[str, bytes]] = [b"\xff", *words]
     return subprocess.run(command, executable=pathlib.Path(ROOT, program), stdin=subprocess.DEVNULL, capture_output=True, timeout=10).returncode
 
 
 def a_program_of_any_name() -> Iterator[str]:
     """The name of the program is no word of its."""
-    for program, words, wanted in ((CELL, ["asm", "/dev/null"], 0), (HUNT, [], 2), (TRACER, ["alone", "missing.cell"], 3)):
+    calls: Sequence[Tuple[str, Sequence[str], int]] = ((CELL, ["asm", "/dev/null"], 0), (HUNT, [], 2), (TRACER, ["alone", "missing.cell"], 3))
+    for program, words, wanted in calls:
         found = status_of(program, words)
         if found != wanted:
             yield f"{program} {' '.join(words)}: the status is {found}, not {wanted}"

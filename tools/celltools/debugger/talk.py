@@ -1,10 +1,9 @@
 """Reads a debugger's commands, from a terminal or from a script, and prints its answers."""
 import os
 import sys
-from typing import Callable, Iterable, Iterator, List, Optional, Sequence
+from typing import TYPE_CHECKING, Callable, Iterable, Iterator, List, Optional, Sequence
 
 from celltools.common.texts import decoded, say
-from celltools.debugger.debugger import Debugger
 from celltools.debugger.grammar import WIDTHS
 from celltools.debugger.help import COMMANDS
 from celltools.debugger.places import Wrong
@@ -12,12 +11,15 @@ from celltools.debugger.things import KINDS
 from celltools.run.runs import Refused
 from celltools.source.channels import NAMES
 
+if TYPE_CHECKING:
+    from celltools.debugger.debugger import Debugger
+
 MOST_SCRIPT_LINE = 100_000  # bytes
 REPEATED = {"step", "next", "back", "reverse", "last", "s", "n"}  # commands that an empty line at a terminal repeats
 DELIMITERS = " \t"
 
 
-def words_to_complete(debugger: Debugger) -> List[str]:
+def words_to_complete(debugger: "Debugger") -> List[str]:
     """What may stand in a command."""
     labels = {label for of_one in debugger.sites.labels for label in of_one}
     paths = {str(site.file) for sites in debugger.sites.of_processor for site in sites.values()}
@@ -26,7 +28,7 @@ def words_to_complete(debugger: Debugger) -> List[str]:
     return sorted({*labels, *files, *actors, *(f"${number}" for number in range(128)), *NAMES.values(), *KINDS, *WIDTHS, "mem", "ls", "pc", "if", "as"})
 
 
-def completer(debugger: Debugger, position: Callable[[], int]) -> Callable[[str, int], Optional[str]]:
+def completer(debugger: "Debugger", position: Callable[[], int]) -> Callable[[str, int], Optional[str]]:
     """What completes the word that is being typed, which begins at a position: a command where it is the first."""
     others = words_to_complete(debugger)
 
@@ -37,7 +39,7 @@ def completer(debugger: Debugger, position: Callable[[], int]) -> Callable[[str,
     return complete
 
 
-def prepare_terminal(debugger: Debugger) -> None:
+def prepare_terminal(debugger: "Debugger") -> None:
     """Lets Python's own line editing complete words and keep a history, where it is there."""
     try:
         import readline
@@ -48,7 +50,7 @@ def prepare_terminal(debugger: Debugger) -> None:
     readline.parse_and_bind("tab: complete")
 
 
-def typed(debugger: Debugger, read: Callable[[str], str] = input) -> Iterator[str]:
+def typed(debugger: "Debugger", read: Callable[[str], str] = input) -> Iterator[str]:
     """The lines of a terminal; an empty one repeats a step. `read` shows a prompt and reads a line."""
     before, is_warned = "", False
     while True:
@@ -72,7 +74,7 @@ def typed(debugger: Debugger, read: Callable[[str], str] = input) -> Iterator[st
         yield before
 
 
-def given(debugger: Debugger) -> Iterator[str]:
+def given(debugger: "Debugger") -> Iterator[str]:
     """The lines of a script, which are printed as they come."""
     for line in iter(read_line, ""):
         say(f"{debugger.prompt()}{line.rstrip()}")
@@ -87,7 +89,7 @@ def read_line() -> str:
     return decoded(line)
 
 
-def answered(debugger: Debugger, line: str) -> bool:
+def answered(debugger: "Debugger", line: str) -> bool:
     """Prints the answer to a line, and says whether it was right. Whatever a command meets, the session goes on: its steps are worth more than the command."""
     is_right = False
     said: Sequence[object] = []
@@ -105,7 +107,7 @@ def answered(debugger: Debugger, line: str) -> bool:
     return is_right
 
 
-def talk(debugger: Debugger, said: Iterable[str] = ()) -> int:
+def talk(debugger: "Debugger", said: Iterable[str] = ()) -> int:
     """A session, with its exit status, which begins by saying these lines. Refused where standard input is no script."""
     is_terminal = sys.stdin.isatty()
     status = 0
