@@ -3,7 +3,7 @@ import os
 import pathlib
 import stat
 import tempfile
-from typing import Iterator, Optional, Sequence
+from typing import Any, Callable, Dict, Iterator, Optional, Sequence
 
 from celltools.common.repository import ROOT
 from lib.hostility.rows import Row, ended
@@ -17,7 +17,7 @@ MACHINE = "cell-machine 1\nlines 1\nbudget 1000\nspe\n"
 # a program that uses the store to its end, as examples/races/reuse_race.s does it with less
 FULL = (ROOT / "examples" / "races" / "reuse_race.s").read_bytes() + b"\t.org 0x3ffe0\nstack:\t.space 32\n"
 FULL_MACHINE = f"{MACHINE}source full.s\nshow mem 0 32\n".encode()
-OF_FULL = {"files": {"full.s": FULL, "full.cell": FULL_MACHINE}, "examples": ["races/reuse_race.out"]}
+OF_FULL: Dict[str, Any] = {"files": {"full.s": FULL, "full.cell": FULL_MACHINE}, "examples": ["races/reuse_race.out"]}  # of a Row
 RECORDED = ["reuse_race.out"]
 PLACED = r"""start:	.org 4	# moves on by four bytes
 a: b:	il $3,1 /* an "instruction" */ # and "more
@@ -42,16 +42,20 @@ LABELS = "^0x00000 start\n0x00004 a\n0x00004 b\n0x00010 c\n0x0008b d\n0x0008d e\
 WHOLE = b"\tstop\t0\t# a.s:1\n"
 OLD = b"\tlnop\t# what stood there\n"
 
+# What a Row does with its folder before and after the call; `more`, below, is all else that a Row has.
+Before = Callable[[pathlib.Path], None]
+After = Callable[[pathlib.Path], Optional[str]]
 
-def make_fifo(name: str):
+
+def make_fifo(name: str) -> Before:
     return lambda folder: os.mkfifo(folder / name)
 
 
-def make_link(target: str, name: str):
+def make_link(target: str, name: str) -> Before:
     return lambda folder: (folder / name).symlink_to(target)
 
 
-def is_left(name: str, wanted: bytes, mode: Optional[int] = None):
+def is_left(name: str, wanted: bytes, mode: Optional[int] = None) -> After:
     """What is wrong with a file in the folder: its bytes, its mode, or that a hidden file was left beside it."""
 
     def fault(folder: pathlib.Path) -> Optional[str]:
@@ -67,7 +71,7 @@ def is_left(name: str, wanted: bytes, mode: Optional[int] = None):
     return fault
 
 
-def is_still_a_link(name: str):
+def is_still_a_link(name: str) -> After:
     return lambda folder: None if (folder / name).is_symlink() else f"{name} is no link any more"
 
 
@@ -75,26 +79,26 @@ def link_twice(folder: pathlib.Path) -> None:
     os.link(folder / "whole.s", folder / "other.s")
 
 
-def make_mode(mode: int):
+def make_mode(mode: int) -> Before:
     return lambda folder: (folder / "whole.s").chmod(mode)
 
 
-def rewritten(name: str, text: str, status: int, **more) -> Row:
+def rewritten(name: str, text: str, status: int, **more: Any) -> Row:
     """A row of from_gas on one source."""
     return Row(f"from_gas: {name}", ["tools/from_gas", "a.s"], status, files={"a.s": text.encode("latin1")}, **more)
 
 
-def explained(name: str, file: str, text: str, **more) -> Row:
+def explained(name: str, file: str, text: str, **more: Any) -> Row:
     """A row of explain on one faulty file."""
     return Row(f"explain: {name}", ["tools/explain", file], 1, files={file: text.encode("latin1")}, **more)
 
 
-def written(name: str, target: str, status: int = 0, **more) -> Row:
+def written(name: str, target: str, status: int = 0, **more: Any) -> Row:
     """A row of from_gas -o, where whole.s was there before."""
     return Row(f"from_gas -o: {name}", ["tools/from_gas", "-o", target, "a.s"], status, files={"a.s": b" stop\n", "whole.s": OLD}, **more)
 
 
-def full(tool: str, record: Sequence[str], status: int, **more) -> Row:
+def full(tool: str, record: Sequence[str], status: int, **more: Any) -> Row:
     """A row of a tool on the program that fills the store."""
     return Row(f"{tool}: a program that fills the store", [f"tools/{tool}", "full.cell", *record], status, **OF_FULL, **more)
 
@@ -164,8 +168,9 @@ OF_PLACES = [
     Row("listing: lines of all kinds", ["tools/listing", "a.s"], 0, printed=LABELS, files={"a.s": PLACED.encode()}),
     Row("listing: what a terminal obeys", ["tools/listing", "a.s"], 0, printed=r"# \\x1b\[31m \\x9b " + "\u0436$",
         files={"a.s": b" stop 1 # \x1b[31m \x9b \xd0\xb6\n"}),
-    Row("listing: a number of 5,000 digits", ["tools/listing", "a.s"], 1, said="^cell: source 0, line 1: BadNumber", files={"a.s": LONG_NUMBERS.encode()}),
-    Row("listing: a file without an end", ["tools/listing", "/dev/zero"], 1, said="^cell: source 0 is too long"),
+    Row("listing: a number of 5,000 digits", ["tools/listing", "a.s"], 1, said="^listing: a.s:1: BadNumber\n    tools/explain a.s ", files={"a.s": LONG_NUMBERS.encode()}),
+    Row("listing: a file without an end", ["tools/listing", "/dev/zero"], 1, said="^listing: /dev/zero: cell: source 0 is too long"),
+    Row("listing: a machine file", ["tools/listing", "a.cell"], 1, said="^listing: a.cell is a machine file: name one of its sources", files={"a.cell": MACHINE.encode()}),
     Row("listing: a folder", ["tools/listing", "/"], 2, said="^listing: /: Is a directory"),
     Row("listing: what can't be read", ["tools/listing", UNREADABLE], 2, said=f"^listing: {UNREADABLE}: Input/output error"),
     Row("listing: a name that isn't UTF-8", ["tools/listing", "a\udcff.s"], 2, said=r"^listing: a\\xff.s: No such file"),

@@ -8,6 +8,7 @@ import sys
 from typing import TYPE_CHECKING, Iterable, List, Sequence, Union
 
 from celltools.common.repository import LAUNCH, built
+from celltools.common.texts import bytes_of, decoded
 
 Path = Union[str, "os.PathLike[str]"]
 if TYPE_CHECKING:
@@ -17,15 +18,27 @@ UNPROVED = 3  # what it answers where the programs are to be run unproved
 # What to do next, by what `cell` says of a run.
 ADVICE = [
     (r"its name is not UTF-8", "give it another name, or a link: ln -s FILE NAME"),
-    (r"cannot read machine file", "names are taken from the folder in which the tool is called"),
+    (r"cannot read machine file", "there is no {machine} that can be read: names are taken from the folder in which the tool is called"),
+    (r"cannot read source (\d+)", "it is {source}: tools/explain {machine} says why"),
+    (r"source (\d+)", "it is {source}: tools/explain {machine} says it in words"),
     (r"machine file|source|is not in the table", "tools/explain {machine} says it in words"),
-    (r"cannot read record file", "keep what a run prints in a file: ./cell run {machine} > FILE"),
+    (r"cannot read record file", "there is no {record} that can be read: keep what a run prints in a file, ./cell run {machine} > FILE"),
     (r"record file", "tools/explain {record} says it in words"),
     (r"step (\d+) is not allowed", "the record isn't one of this machine file as it is now: run it again, or look at the states before that step: "
                                    "tools/states {machine} {record} {number}"),
     (r"states differ", "the record was made with another machine file, or was changed: run it again: ./cell run {machine} > FILE"),
 ]
 NO_RUN = re.compile(r"step (\d+) is not allowed|states differ")
+# And where a file stands in the place of another, by what it is and what `cell` says of it.
+MACHINE, RECORD, SOURCE = "cell-machine", "cell-record", "source"
+MISPLACED = {
+    (MACHINE, RECORD): "{machine} is a record: name its machine file first, and then the record",
+    (MACHINE, SOURCE): "{machine} is a source: name a machine file that has the line `source {machine}`",
+    (RECORD, MACHINE): "{record} is a machine file: name a record of its run behind it, which `./cell run {record} > FILE` makes",
+    (RECORD, SOURCE): "{record} is a source: name a record, which `./cell run {machine} > FILE` makes",
+}
+FAULTY = {MACHINE: "machine file, line", RECORD: "record file, line"}
+SOURCE_LINE = re.compile(r"^[ \t]*source[ \t]+([^\s#]+)", re.M)
 
 
 class Refused(Exception):
@@ -46,12 +59,42 @@ def said_of(done: "Done") -> str:
     return lines[0].strip() if lines else f"it ended with status {done.returncode}, and said nothing"
 
 
-def next_step(said: str, machine: object, record: object) -> str:
+def what_is(path: Path) -> str:
+    """What a file is, by its name or how it begins; nothing where that can't be told."""
+    if str(path).endswith((".s", ".S")):
+        return SOURCE
+    try:
+        data = bytes_of(path, len(MACHINE))
+    except OSError:
+        return ""
+    return next((head for head in (MACHINE, RECORD) if data.startswith(head.encode())), "")
+
+
+def misplaced(said: str, machine: Path, record: Path) -> str:
+    """What to do where one of the two files is of another kind than it has to be; nothing where both are right."""
+    wanted, path = (MACHINE, machine) if FAULTY[MACHINE] in said else (RECORD, record)
+    return MISPLACED.get((wanted, what_is(path)), "") if FAULTY[wanted] in said else ""
+
+
+def source_named(machine: Path, number: str) -> str:
+    """The source of a number, as a machine file names it."""
+    try:
+        names = SOURCE_LINE.findall(decoded(bytes_of(machine)))
+    except OSError:
+        names = []
+    return str(names[int(number)]) if number.isdecimal() and int(number) < len(names) else "a source"
+
+
+def next_step(said: str, machine: Path, record: Path) -> str:
     """What to do where `cell` says that, as an ending of the sentence."""
+    advice = misplaced(said, machine, record)
+    if advice:
+        return "\n    " + advice.format(machine=machine, record=record)
     for pattern, advice in ADVICE:
         found = re.search(pattern, said)
         if found:
-            return "\n    " + advice.format(machine=machine, record=record, number=found[1] if found.groups() else "")
+            number = found[1] if found.groups() else ""
+            return "\n    " + advice.format(machine=machine, record=record, number=number, source=source_named(machine, number))
     return ""
 
 

@@ -1,0 +1,46 @@
+"""Wrong words of the kind that people type: a misspelt name, files the wrong way round or of another kind, a source that isn't there or is faulty, empty files.
+Each tool names the file, with its line where there is one, and says what to do.
+"""
+from typing import List, Sequence
+
+from lib.hostility.rows import Row
+
+MACHINE = b"cell-machine 1\nlines 1\nbudget 100\nspe\nsource s.s\n"
+FILES = {
+    "m.cell": MACHINE, "s.s": b"_start:\til $3,1\n\tstop 1\n", "m.out": b"cell-record 2\nx 0 2\nsteps 2\n",
+    "other.cell": b"cell-machine 1\nlines 1\nbudget 100\nspe\nsource lost.s\n", "bad.cell": MACHINE.replace(b"s.s", b"bad.s"), "bad.s": b"\n\til $3\n",
+    "empty.cell": b"", "empty.out": b"", "empty.s": b"",
+}
+TOOLS = ("race", "picture", "states", "witness", "debug")  # each takes a machine file and a record
+
+
+def mistaken(name: str, words: Sequence[str], said: str, status: int = 2) -> Row:
+    """A call that is refused, and prints nothing."""
+    return Row(f"{words[0]}: {name}", words, status, said, printed="", files=FILES)
+
+
+def of_both(name: str, machine: str, record: str, said: str) -> List[Row]:
+    """The same call of all tools that take a machine file and a record."""
+    return [mistaken(name, [f"tools/{tool}", machine, record], f"^{tool}: (.*\n)*.*{said}") for tool in TOOLS]
+
+
+NO_MACHINE, NO_RECORD = "there is no n.cell that can be read: names are taken from the folder", "n.out"
+ROWS = [
+    *of_both("a misspelt machine file", "n.cell", "m.out", NO_MACHINE),
+    *of_both("a misspelt record", "m.cell", "n.out", NO_RECORD),
+    *of_both("a source that isn't there", "other.cell", "m.out", "it is lost.s: tools/explain other.cell says why"),
+    *of_both("a faulty source", "bad.cell", "m.out", "source 0, line 2: BadOperand\n    it is bad.s: tools/explain bad.cell says it in words"),
+    *of_both("an empty machine file", "empty.cell", "m.out", "machine file, line 1\n    tools/explain empty.cell says it in words"),
+    *of_both("an empty record", "m.cell", "empty.out", "tools/explain empty.out says it in words|empty.out has no line `steps N`"),
+    *of_both("a source in the place of a machine file", "s.s", "m.out", "s.s is a source: name a machine file that has the line `source s.s`"),
+    *of_both("both the wrong way round", "m.out", "m.cell", "m.out is a record: name its machine file first|m.cell has no line `steps N`"),
+    *of_both("a machine file in the place of a record", "m.cell", "m.cell", "m.cell is a machine file: name a record|m.cell has no line `steps N`"),
+    mistaken("a misspelt source", ["tools/listing", "n.s"], "^listing: n.s: No such file"),
+    mistaken("a faulty source", ["tools/listing", "bad.s"], "^listing: bad.s:2: BadOperand\n    tools/explain bad.s says it in words", 1),
+    mistaken("a machine file", ["tools/listing", "m.cell"], "^listing: m.cell is a machine file: name one of its sources", 1),
+    mistaken("a misspelt source", ["tools/from_gas", "n.s"], "^from_gas: n.s: No such file"),
+    mistaken("a misspelt file", ["tools/explain", "n.cell"], "^explain: n.cell: No such file"),
+    mistaken("an empty file", ["tools/hunts", "empty.out"], "^hunts: empty.out:1: no line of what `./hunt MACHINE --json` prints"),
+    mistaken("a target where nothing can be written", ["tools/from_gas", "-o", "/proc/none/whole.s", "s.s"], "^from_gas: /proc/none/whole.s: No such file"),
+    mistaken("a run of a faulty machine file", ["tools/race", "--run", "1", "bad.cell"], "it is bad.s: tools/explain bad.cell says it in words"),
+]
