@@ -1,13 +1,16 @@
 """A headless browser that is launched once and asked by its own protocol, over two pipes: it opens pages, one after the other, answers what a script finds, and
 takes keys and clicks."""
+import contextlib
 import fcntl
 import json
 import os
+import pathlib
 import select
 import shutil
 import signal
+import tempfile
 import time
-from typing import Any, Dict, List, Optional
+from typing import Any, Dict, Iterator, List, Optional
 
 PROGRAMS = ("chromium", "chromium-browser", "google-chrome", "chrome")
 WORDS = ("--headless=new", "--no-sandbox", "--disable-gpu", "--hide-scrollbars", "--remote-debugging-pipe")
@@ -28,6 +31,16 @@ class Silent(Exception):
 def program() -> Optional[str]:
     """The browser that there is; None where there is none."""
     return next(filter(None, map(shutil.which, PROGRAMS)), None)
+
+
+@contextlib.contextmanager
+def folder_of(prefix: str) -> Iterator[pathlib.Path]:
+    """A folder in which browsers work, which may write there while it is taken away."""
+    folder = tempfile.mkdtemp(prefix=prefix)
+    try:
+        yield pathlib.Path(folder)
+    finally:
+        shutil.rmtree(folder, ignore_errors=True)
 
 
 def pipe() -> List[int]:

@@ -7,7 +7,7 @@ import signal
 import subprocess
 import tempfile
 import time
-from typing import Iterator
+from typing import Callable, Dict, Iterator
 
 from celltools.common.repository import ROOT
 from lib.hostility.rows import Ended, Row, ended, shown
@@ -146,8 +146,10 @@ def shipped_programs_are_taken() -> Iterator[str]:
             found = without_kit(folder, *words)
             if found.status or found.error or found.output != output:
                 yield "\n".join([f"{' '.join(words)} doesn't run the program of bin/", *shown(found)])
-    changes = {"a source that changed": lambda folder: (folder / "crates" / "hunt" / "src" / "new.rt").touch(),
-               "a program that changed": lambda folder: (folder / "bin" / "hunt").write_bytes(b"#!/bin/sh\n")}
+    changes: Dict[str, Callable[[pathlib.Path], object]] = {
+        "a source that changed": lambda folder: (folder / "crates" / "hunt" / "src" / "new.rt").touch(),
+        "a program that changed": lambda folder: (folder / "bin" / "hunt").write_bytes(b"#!/bin/sh\n"),
+    }
     for what, change in changes.items():
         with released() as folder:
             change(folder)
