@@ -144,7 +144,7 @@ export function check(made) {
     const [verdict] = importOf('celltools.run.runs').verdict(made.project.machine, RECORD), pair = PAIR.exec(verdict);
     if (!pair) return { verdict, pair: null, words: [] };
     const drawn = drawnRun(made), { race_words } = importOf('celltools.picture.story');
-    return { verdict, pair: [+pair[1], +pair[2]], words: race_words(drawn).map(([title, lines]) => ({ title, lines: [...lines] })) };
+    return { verdict, pair: [+pair[1], +pair[2]], words: race_words(drawn, drawn.race).map(([title, lines]) => ({ title, lines: [...lines] })) };
   });
 }
 /** The picture of a run, a page of its own. @param {Made} made */

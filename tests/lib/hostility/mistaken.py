@@ -1,8 +1,14 @@
 """Wrong words of the kind that people type: a misspelt name, files the wrong way round or of another kind, a source that isn't there or is faulty, empty files.
 Each tool names the file, with its line where there is one, and says what to do.
 """
-from typing import List, Sequence
+import os
+import pathlib
+import pty
+import subprocess
+import tempfile
+from typing import Iterator, List, Sequence
 
+from celltools.common.repository import ROOT
 from lib.hostility.rows import Row
 
 MACHINE = b"cell-machine 1\nlines 1\nbudget 100\nspe\nsource s.s\n"
@@ -44,3 +50,19 @@ ROWS = [
     mistaken("a target where nothing can be written", ["tools/from_gas", "-o", "/proc/none/whole.s", "s.s"], "^from_gas: /proc/none/whole.s: No such file"),
     mistaken("a run of a faulty machine file", ["tools/race", "--run", "1", "bad.cell"], "it is bad.s: tools/explain bad.cell says it in words"),
 ]
+
+
+def a_terminal_gets_no_page() -> Iterator[str]:
+    """A page of tools/picture is written to a file, and never to a terminal."""
+    with tempfile.TemporaryDirectory(prefix="cell-hostile-") as room:
+        for name, data in FILES.items():
+            pathlib.Path(room, name).write_bytes(data)
+        ours, theirs = pty.openpty()
+        done = subprocess.run([ROOT / "tools" / "picture", "m.cell", "m.out"], cwd=room, stdin=subprocess.DEVNULL, stdout=theirs, stderr=subprocess.PIPE, timeout=60)
+        os.close(theirs)
+        os.close(ours)
+    if done.returncode != 2 or b">page.html" not in done.stderr:
+        yield f"status {done.returncode}, and it says {done.stderr!r}"
+
+
+CHECKS = [a_terminal_gets_no_page]
