@@ -17,6 +17,7 @@ WHOLE, ENGINE = PAGE / "cell.html", PAGE / "cell.wasm"
 POLICY = ("default-src 'none'; script-src 'unsafe-inline' 'wasm-unsafe-eval' blob:; worker-src blob:; style-src 'unsafe-inline'; frame-src 'self' blob:; "
           "connect-src 'none'; form-action 'none'; base-uri 'none'")
 SECONDS = 60  # that an answer may take
+MADE = "made by tools/dev/page of page/, tools/, docs/ and examples/: edit these, and call it again"
 PACKED = re.compile(r'(<script id="(?:engine|worker)" type="text/plain">)([^<]*)(</script>)')
 
 
@@ -57,7 +58,7 @@ def behind(name: str, *before: str) -> str:
 def parts(engine: bytes) -> Iterator[str]:
     """The page, in parts that follow one another."""
     made = scripts()
-    yield '<!doctype html>\n<html lang="en"><head><meta charset="utf-8"><meta name="viewport" content="width=device-width">\n<title>cell</title>\n'
+    yield f'<!doctype html>\n<!-- {MADE} -->\n<html lang="en"><head><meta charset="utf-8"><meta name="viewport" content="width=device-width">\n<title>cell</title>\n'
     yield f'<meta http-equiv="Content-Security-Policy" content="{POLICY}">\n<meta name="referrer" content="no-referrer">\n'
     yield f"<style>\n{colours()}{text_of('page.css')}</style></head>\n"
     yield f'<body data-seconds="{SECONDS}">\n{text_of("page.html")}'
