@@ -9,6 +9,9 @@ PROCESSOR = re.compile(r"spe (\d+) (.+) pc 0x([0-9a-f]+) queued (\d+)")
 
 # ---- images
 
+Json = Dict[str, Any]  # an object as JSON has it, whose members are of any kind
+
+
 @dataclasses.dataclass(frozen=True)
 class Segment:
     """Bytes that lie together in an image: `kind` is `code` or `bytes`."""
@@ -187,11 +190,11 @@ def site_of(text: str) -> Site:
     return Site(letter, action=int(number)) if letter == "h" else Site(letter, int(number), int(rest[1], 16))
 
 
-def count_of(members: Dict[str, Any]) -> Count:
+def count_of(members: Json) -> Count:
     return Count(members["runs"], members["first"])
 
 
-def race_of(line: Dict[str, Any]) -> Race:
+def race_of(line: Json) -> Race:
     first, second = map(site_of, line["race"].split(" | ")[1:])
     return Race(first, second, count_of(line))
 

@@ -149,7 +149,7 @@ RUNS = [Row(f"{tool}: {what}", (f"tools/{tool}", *words), 2, said, files=FILES) 
     ("a run beyond the last", ("--run", "4294967296", "m.cell"), rf"(?m)^Usage: tools/{tool} "),
     ("a run and a record", ("m.cell", "m.out", "--run", "0", "1", "2"), rf"(?m)^Usage: tools/{tool} "),
     ("a seed without a run", ("m.cell", "m.out", "--seed", "2"), rf"(?m)^Usage: tools/{tool} "),
-    ("a run of what is no machine file", ("--run", "0", "s.s"), rf"(?m)^{tool}: hunt: machine file, line \d+\n +tools/explain s\.s"),
+    ("a run of what is no machine file", ("--run", "0", "s.s"), rf"(?m)^{tool}: hunt: machine file, line \d+\n +s\.s is a source: name a machine file"),
 )]
 
 # ---- files that are none, have no end, or change

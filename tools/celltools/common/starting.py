@@ -17,6 +17,7 @@ import sys  # noqa: E402
 TYPE_CHECKING = False  # but for a checker of types
 if TYPE_CHECKING:
     import typing
+    Read = typing.TypeVar("Read")
 
 OLDEST = (3, 9)  # of the Pythons that the programs are written for
 MISUSED = 2
@@ -26,14 +27,14 @@ CLOSED = (os.O_WRONLY, os.O_RDONLY, os.O_WRONLY)  # how a standard file is opene
 class StandardInput(io.FileIO):
     """Standard input, whose faults name it."""
 
-    def readinto(self, buffer: "typing.Any") -> "typing.Any":
+    def readinto(self, buffer: "typing.Any") -> "typing.Optional[int]":  # whatever can be written into, for which Python 3.9 has no name
         return named(super().readinto, buffer)
 
-    def readall(self) -> "typing.Any":
+    def readall(self) -> bytes:
         return named(super().readall)
 
 
-def named(read: "typing.Callable[..., typing.Any]", *buffer: "typing.Any") -> "typing.Any":
+def named(read: "typing.Callable[..., Read]", *buffer: object) -> "Read":
     """What a function reads of standard input."""
     try:
         return read(*buffer)
@@ -67,13 +68,12 @@ def open_closed() -> None:
 
 def name_encodings() -> None:
     """Has all texts in UTF-8. What isn't is shown as `\\xff`, and what can't be written, as it is escaped in Python."""
-    how: "typing.Any" = {"encoding": "utf-8", "errors": "backslashreplace"}
-    sys.stdin = io.TextIOWrapper(io.BufferedReader(StandardInput(0, closefd=False)), **how)
+    sys.stdin = io.TextIOWrapper(io.BufferedReader(StandardInput(0, closefd=False)), encoding="utf-8", errors="backslashreplace")
     sys.stdout = sys.stdout or open(1, "w", closefd=False)
     sys.stderr = sys.stderr or open(2, "w", closefd=False)
     for stream in sys.stdout, sys.stderr:
         if isinstance(stream, io.TextIOWrapper):
-            stream.reconfigure(**how)
+            stream.reconfigure(encoding="utf-8", errors="backslashreplace")
 
 
 refuse_old()

@@ -22,6 +22,8 @@ FAULTS = ("badword", "badchannel", "dmafault")
 MOST_SPENT = 3  # ends of runs that spent the budget of which it is told what the processors did
 MOST_EXPLAINED = 8  # other ends of which that is told
 
+Json = Dict[str, Any]  # an object as JSON has it, whose members are of any kind
+
 
 @dataclasses.dataclass
 class Count:
@@ -37,7 +39,7 @@ class Count:
 @dataclasses.dataclass
 class Told:
     """A line behind the head: its members, in their order, and its count."""
-    members: Dict[str, Any]
+    members: Json
     count: Count
 
     @property
@@ -45,7 +47,7 @@ class Told:
         return next(what for what in TELLING if what in self.members and (what != "end" or "result" not in self.members))
 
     @property
-    def same(self) -> Tuple[Any, ...]:
+    def same(self) -> Tuple[object, ...]:
         """What two lines have in common that tell the same."""
         return (self.what, *(self.members[name] for name in TELLING[self.what]))
 
@@ -54,7 +56,7 @@ class Told:
 class Hunt:
     """A hunt of the runs from `start` on: how many there are, and what they tell."""
     file: str  # from which it was read
-    machine: Dict[str, Any]
+    machine: Json
     seed: int
     start: int
     runs: int
@@ -94,7 +96,7 @@ def has_fault(ending: str) -> bool:
 
 # ---- reading
 
-def object_of(file: str, number: int, line: bytes) -> Dict[str, Any]:
+def object_of(file: str, number: int, line: bytes) -> Json:
     """The object of a line."""
     try:
         found = json.loads(line)
@@ -105,19 +107,19 @@ def object_of(file: str, number: int, line: bytes) -> Dict[str, Any]:
     return found
 
 
-def told_of(members: Dict[str, Any]) -> Told:
+def told_of(members: Json) -> Told:
     """A line behind the head. KeyError and StopIteration where it is none."""
     told = Told({name: value for name, value in members.items() if name not in ("runs", "first")}, Count(members["runs"], members["first"]))
     told.same  # noqa: B018  (it has what tells it apart)
     return told
 
 
-def kinds_of(members: Dict[str, Any]) -> Dict[str, int]:
+def kinds_of(members: Json) -> Dict[str, int]:
     """The kinds of the last line. KeyError and TypeError where it is another."""
     return {digest: runs + 0 for digest, runs in dict(members[KINDS]).items()}
 
 
-def hunt_of(file: str, start: int, objects: List[Dict[str, Any]]) -> Hunt:
+def hunt_of(file: str, start: int, objects: List[Json]) -> Hunt:
     """The hunt that the objects of a file tell, of which the first stands on line `start`."""
     number = start
     try:
@@ -169,7 +171,7 @@ def refuse_gaps(hunts: List[Hunt]) -> None:
 
 def joined(told: Iterable[Told]) -> List[Told]:
     """Lines that tell the same as one, at the place of the first."""
-    found: Dict[Tuple[Any, ...], Told] = {}
+    found: Dict[Tuple[object, ...], Told] = {}
     for line in told:
         earlier = found.get(line.same)
         found[line.same] = line if earlier is None else Told(earlier.members, earlier.count.added(line.count))
@@ -212,15 +214,16 @@ def json_lines(hunt: Hunt) -> Iterator[str]:
     """The lines that `./hunt MACHINE --json` prints of the hunt."""
     yield json_line(hunt.machine)
     counts = {name: dataclasses.asdict(count) for name, count in hunt.flaws.items()}
-    yield json_line({"hunt": 1, "seed": hunt.seed, "from": hunt.start, "runs": hunt.runs, "expects": hunt.expects, "all_stopped": hunt.all_stopped,
-                     "left_out": hunt.left_out, **counts})
+    head: Json = {"hunt": 1, "seed": hunt.seed, "from": hunt.start, "runs": hunt.runs, "expects": hunt.expects, "all_stopped": hunt.all_stopped,
+                  "left_out": hunt.left_out}
+    yield json_line({**head, **counts})
     for told in hunt.told:
         added = {name: value for name, value in told.members.items() if name in ADDED}
         yield json_line({**{name: value for name, value in told.members.items() if name not in ADDED}, **dataclasses.asdict(told.count), **added})
     yield json_line({KINDS: hunt.kinds})
 
 
-def json_line(value: Any) -> str:
+def json_line(value: object) -> str:
     """A value as hunt writes it: without spaces, and of a string all but the plain characters by their numbers. Its strings have a character a byte."""
     if isinstance(value, dict):
         return "{" + ",".join(f"{json_line(name)}:{json_line(member)}" for name, member in value.items()) + "}"

@@ -1,8 +1,8 @@
 """What a hunt found as SARIF 2.1.0, the OASIS standard's form for the results of tools that look for faults."""
 import re
-from typing import Any, Dict, Iterator, List, Optional, Tuple
+from typing import Iterator, List, Optional, Tuple
 
-from celltools.hunt.outputs import Count, Hunt, Told
+from celltools.hunt.outputs import Count, Hunt, Json, Told
 
 SCHEMA = "https://json.schemastore.org/sarif-2.1.0.json"
 RULES = {
@@ -20,14 +20,14 @@ HALT = re.compile(r"\d+ halted")
 RUNNING = re.compile(r"\d+ running\b")
 
 
-def location(place: Optional[str], machine: str) -> Dict[str, Any]:
+def location(place: Optional[str], machine: str) -> Json:
     """A place `FILE:LINE`, or the machine file where none is known."""
     found = PLACE.fullmatch(place or "")
     file, line = (found[1], int(found[2])) if found else (machine, 1)
     return {"physicalLocation": {"artifactLocation": {"uri": file}, "region": {"startLine": line}}}
 
 
-def result(rule: str, text: str, places: List[Optional[str]], machine: str) -> Dict[str, Any]:
+def result(rule: str, text: str, places: List[Optional[str]], machine: str) -> Json:
     """A result at the first place, with the others beside it."""
     told = {"ruleId": rule, "level": "error", "message": {"text": text}, "locations": [location(places[0] if places else None, machine)]}
     if places[1:]:
@@ -39,13 +39,13 @@ def often(count: Count, runs: int) -> str:
     return f"in {count.runs} of {runs} runs, the first is run {count.first}"
 
 
-def parts_of(told: Told, member: str) -> List[Tuple[str, Any]]:
+def parts_of(told: Told, member: str) -> List[Tuple[str, Optional[str]]]:
     """The parts of a line, each with its place or None."""
     parts = told.members[member].split(" | ")[1:]
     return list(zip(parts, told.members.get("places") or [None] * len(parts)))
 
 
-def race_results(hunt: Hunt) -> Iterator[Dict[str, Any]]:
+def race_results(hunt: Hunt) -> Iterator[Json]:
     for race in hunt.telling("race"):
         parts = parts_of(race, "race")
         text = f"race of {' and '.join(part for part, _ in parts)}: {often(race.count, hunt.runs)}"
@@ -63,7 +63,7 @@ def rules_of(ending: str) -> Iterator[Tuple[str, "re.Pattern[str]"]]:
             yield rule, words
 
 
-def end_results(hunt: Hunt) -> Iterator[Dict[str, Any]]:
+def end_results(hunt: Hunt) -> Iterator[Json]:
     for told in hunt.telling("end"):
         for rule, words in rules_of(told.members["end"]):
             places = [place for part, place in parts_of(told, "end") if words.match(part)]
@@ -71,13 +71,13 @@ def end_results(hunt: Hunt) -> Iterator[Dict[str, Any]]:
             yield result(rule, "\n".join([text, *told.members.get("words", ())]), places, hunt.machine["machine"])
 
 
-def missed_results(hunt: Hunt) -> Iterator[Dict[str, Any]]:
+def missed_results(hunt: Hunt) -> Iterator[Json]:
     for told in hunt.telling("missed"):
         text = f"expected is the line `{told.members['missed']}`, which is missing {often(told.count, hunt.runs)}"
         yield result("missed", text, [], hunt.machine["machine"])
 
 
-def sarif_of(hunt: Hunt) -> Dict[str, Any]:
+def sarif_of(hunt: Hunt) -> Json:
     """The log of a hunt."""
     rules = [{"id": rule, "shortDescription": {"text": text}} for rule, text in RULES.items()]
     return {

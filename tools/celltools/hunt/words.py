@@ -2,10 +2,10 @@
 should be what its processors wait for, or what their faults were. Of the objects of --json it adds the same as members, `places` and `words`."""
 import hashlib
 import re
-from typing import Any, Dict, Iterator, List, Optional
+from typing import Iterator, List, Optional
 
 from celltools.common.texts import MOST_BYTES, bytes_of
-from celltools.hunt.outputs import Explained, has_fault
+from celltools.hunt.outputs import Explained, Json, has_fault
 from celltools.run.hunted import record_of_hunt
 from celltools.run.runs import Refused
 from celltools.run.snapshots import Snapshot
@@ -69,7 +69,7 @@ def sum_of_files(machine: str, others: List[str]) -> str:
     return whole.hexdigest()
 
 
-def completed(members: Dict[str, Any], sites: Sites, explainer: Explainer) -> Dict[str, Any]:
+def completed(members: Json, sites: Sites, explainer: Explainer) -> Json:
     """An object of --json with its places and words."""
     if "race" in members and "key" in members:
         return {**members, "places": places_of(sites, members["race"])}

@@ -186,7 +186,7 @@ def parameters(arguments: ast.arguments, scope: Scope, skip: int = 0) -> str:
     return ", ".join(parts)
 
 
-def comprehension(node: Any, scope: Scope) -> str:
+def comprehension(node: Any, scope: Scope) -> str:  # `node`: of each kind that ast has of them, which have no class in common
     """A comprehension, of each kind: a generator, of which the outermost iterable is taken at once."""
     inner = scope.within()
     is_dict = isinstance(node, ast.DictComp)
