@@ -15,6 +15,7 @@ MACHINE = b"cell-machine 1\nlines 1\nbudget 100\nspe\nsource s.s\n"
 FILES = {
     "m.cell": MACHINE, "s.s": b"_start:\til $3,1\n\tstop 1\n", "m.out": b"cell-record 2\nx 0 2\nsteps 2\n",
     "other.cell": b"cell-machine 1\nlines 1\nbudget 100\nspe\nsource lost.s\n", "bad.cell": MACHINE.replace(b"s.s", b"bad.s"), "bad.s": b"\n\til $3\n",
+    "quoted.cell": MACHINE.replace(b"s.s", b'"s.s"'), "blank.cell": MACHINE.replace(b"s.s", b"my s.s"),
     "empty.cell": b"", "empty.out": b"", "empty.s": b"",
 }
 TOOLS = ("race", "picture", "states", "witness", "debug")  # each takes a machine file and a record
@@ -32,6 +33,8 @@ def of_both(name: str, machine: str, record: str, said: str) -> List[Row]:
 
 NO_MACHINE, NO_RECORD = "there is no n.cell that can be read: names are taken from the folder", "n.out"
 ROWS = [
+    Row("explain: a name in quotes", ["tools/explain", "quoted.cell"], 1, printed="^quoted.cell:5: there is no file `\"s.s\"`: .*, and stand without quotes$", files=FILES),
+    Row("explain: a name with a blank", ["tools/explain", "blank.cell"], 1, printed="^blank.cell:5: the form is `source NAME`; a name has no blanks$", files=FILES),
     *of_both("a misspelt machine file", "n.cell", "m.out", NO_MACHINE),
     *of_both("a misspelt record", "m.cell", "n.out", NO_RECORD),
     *of_both("a source that isn't there", "other.cell", "m.out", "it is lost.s: tools/explain other.cell says why"),

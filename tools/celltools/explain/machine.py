@@ -137,6 +137,8 @@ def hint_of_form(name: str, form: Sequence[str], count: int) -> str:
     """What is to be known of a line's form, behind the form itself."""
     if name in OF_SIGNALS:
         return f": {OF_SIGNALS[name]}"
+    if name == "source" and count > len(form):
+        return "; a name has no blanks"
     return "; the bytes stand together, without blanks" if "HEX" in form and count > len(form) else ""
 
 
@@ -306,7 +308,8 @@ def source_text(source: str) -> bytes:
             raise Refused(f"`{source}` is no regular file, and isn't looked at")
         return bytes_of(source)
     except FileNotFoundError:
-        raise Refused(f"there is no file `{source}`: names are taken from the folder in which cell is called") from None
+        quotes = ", and stand without quotes" if source[:1] in ("'", '"') else ""
+        raise Refused(f"there is no file `{source}`: names are taken from the folder in which cell is called{quotes}") from None
     except OSError as why:
         raise Refused(f"`{source}`: {why.strerror}") from None
 
