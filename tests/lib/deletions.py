@@ -2,6 +2,9 @@
 
 The machine files of tests/deletions are clean programs of the kinds that are written for the Cell. The loop has eyes of its own: it reads end words, statuses
 and shown bytes from the records, and asks `cell check` for races. Nothing of it is asked of the hunt.
+
+A run that hangs spends its budget, which is what takes long. So these machines have few processors, and a budget above what the longest of the clean runs
+takes, but not by much: with another seed a processor that polls may spend more.
 """
 import dataclasses
 import json
