@@ -3,3 +3,5 @@ pub mod StepsLaws
 pub mod TellLaws
 pub mod RangesLaws
 pub mod AnswersLaws
+pub mod NumbersLaws
+pub mod ChoicesLaws

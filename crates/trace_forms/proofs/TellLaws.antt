@@ -22,7 +22,7 @@ use Rattle.trace_forms.specs.declared.words.Ask.TheVariants.{Effects}
 use Rattle.trace_forms.specs.declared.ranges.Layout.TheVariants.{Bars}
 use Rattle.trace_forms.specs.Words.{Word, asked, go}
 use Rattle.trace_forms.specs.Answers.{Comes}
-use Rattle.trace_forms.specs.Choices.{start}
+use Rattle.trace_forms.specs.Choices.{start, with_choices}
 use Rattle.trace_forms.specs.Files.{StepsRefuse, StandsFor, HasRecord, HasChoices}
 use Rattle.trace_forms.specs.Told.{Adds, AddsChosen, Came, Goes, RefusesRest, Tells, TellsStanding, TellsBefore, TellsLine, TellsLines, Told, first_run}
 use Rattle.trace_forms.proofs.StepsLaws.{refuses_rest, refuses_all, none_some}
@@ -150,9 +150,10 @@ more_chosen m l n out mid new a b =
       b.3 ∙ ap (λ t. t ++ lines_in l ys) a.3 ∙ append_assoc out (lines_in m xs) (lines_in l ys) ∙ ap (λ (x : Ran). out ++ (lines_in m xs ++ lines_in x ys)) at ∙ ap (λ t. out ++ t) (sym (lines_more m xs ys a.2)),
     )
 
-pub goes : (m n : Ran) (first mid out new may : List ℕ) → first ≡ [] → AddsChosen m n first mid → Adds (TellsStanding n) mid out → new ≡ out ++ may → Goes m new
-goes m n first mid out new may none a b last = record {
+pub goes : (numbers : List ℕ) (m n : Ran) (first mid out new may : List ℕ) → first ≡ [] → AddsChosen m n first mid → n ≡ with_choices m numbers → Adds (TellsStanding n) mid out → new ≡ out ++ may → Goes numbers m new
+goes numbers m n first mid out new may none a chosen b last = record {
   steps = a.0;
+  chosen = sym chosen ∙ a.1;
   standing = b.0;
   tells = subst (λ (x : Ran). TellsStanding x b.0) a.1 b.1;
   may = may;
@@ -198,7 +199,7 @@ pub tells_comes : (files : List File) (machine record_file : Word) (ask : Ask) (
 tells_comes files machine record_file ask old new setup steps (Ok text) stood has t = (setup, steps, stood, has, t)
 tells_comes files machine record_file ask old new setup steps (Err fault) stood has t = inr (inr (setup, steps, stood, has, t))
 
-pub goes_comes : (files : List File) (machine record_file choices : Word) (count : ℕ) (old new : Ledger) (setup : Opening) (steps : List Step) (result : Result (Vec ℕ Global) Fault) → StandsFor files machine setup → HasRecord files record_file steps
-    → HasChoices files choices → Came Goes setup steps count result → Comes files (go machine record_file count choices) old new result
-goes_comes files machine record_file choices count old new setup steps (Ok text) stood has chosen t = (setup, steps, stood, has, chosen, t.0, t.1)
-goes_comes files machine record_file choices count old new setup steps (Err fault) stood has chosen t = inr (inr (inr (setup, steps, stood, has, t)))
+pub goes_comes : (files : List File) (machine record_file choices : Word) (count : ℕ) (old new : Ledger) (setup : Opening) (steps : List Step) (numbers : List ℕ) (result : Result (Vec ℕ Global) Fault) → StandsFor files machine setup
+    → HasRecord files record_file steps → HasChoices files choices numbers → Came (Goes numbers) setup steps count result → Comes files (go machine record_file count choices) old new result
+goes_comes files machine record_file choices count old new setup steps numbers (Ok text) stood has chosen t = (setup, steps, numbers, stood, has, chosen, t.0, t.1)
+goes_comes files machine record_file choices count old new setup steps numbers (Err fault) stood has chosen t = inr (inr (inr (setup, steps, stood, has, t)))

@@ -2,13 +2,11 @@
 use Rattle.std.specs.Prelude.{◌≡◌, ◌⊎◌, ◌≤◌, ◌↔◌, ℕ, List, Some, Vec, Result, Ok, Err, length}
 use Rattle.std.specs.Option.{ForSome}
 use Rattle.std.specs.declared.alloc.Global.{Global}
-use Rattle.cell_base.specs.declared.format.Format.TheVariants.{Two}
 use Rattle.cell_base.specs.declared.steps.Step.{Step}
-use Rattle.cell_base.specs.Records.{spelling}
 use Rattle.cell_io.specs.Files.{File}
 use Rattle.cell_io.specs.Store.{Ledger, NoneFell, Rose}
 use Rattle.cell_machine.specs.Opening.{Opening}
-use Rattle.cell_machine.specs.Run.{Ran, IsRun}
+use Rattle.cell_machine.specs.Run.{Ran}
 use Rattle.cell_forms.specs.Answer.{Sinks}
 use Rattle.cell_forms.specs.Output.{Took, TookPart}
 use Rattle.cell_forms.specs.Promises.{Stores}
@@ -18,20 +16,22 @@ use Rattle.trace_forms.specs.declared.fault.Fault.TheVariants.{Usage, WriteFault
 use Rattle.trace_forms.specs.declared.fault.Status.{Status}
 use Rattle.trace_forms.specs.declared.fault.Status.TheVariants.{Done, Refused}
 use Rattle.trace_forms.specs.Words.{Spoken, alone, choose, asked, go, no_form}
-use Rattle.trace_forms.specs.Told.{first_run, Tells, Goes}
+use Rattle.trace_forms.specs.Choices.{start, with_choices, TakesTurns}
+use Rattle.trace_forms.specs.Told.{first_run, Tells, TellsRecord, Goes}
 use Rattle.trace_forms.specs.Files.{StandsFor, HasRecord, HasChoices, MachineRefuses, RecordRefuses, ChoicesRefuse, RecordedRefuse, count_of, FailsAtMachine, FailsAtRecord, FailsAtChoices, IsOfFiles}
 
 -- ---- what may be written
 
 -- the text that words ask for, with the files
 abbrev pub Writes : List File → Spoken → List ℕ → Type 0
-Writes files (alone machine) text = (m : Ran) × StandsFor files machine m.setup × PrintsSteps m text
-Writes files (choose machine choices) text = (m : Ran) × StandsFor files machine m.setup × HasChoices files choices × IsRun m.setup m.steps × (text ≡ spelling Two m.steps)
+Writes files (alone machine) text = (m : Ran) × StandsFor files machine m.setup × TakesTurns m × PrintsSteps m text
+Writes files (choose machine choices) text =
+    (setup : Opening) × (numbers : List ℕ) × StandsFor files machine setup × HasChoices files choices numbers × TellsRecord (with_choices (start setup) numbers) text
 Writes files (asked machine record_file ask) text =
     (setup : Opening) × (steps : List Step) × StandsFor files machine setup × HasRecord files record_file steps × Tells setup steps ask text
 Writes files (go machine record_file count choices) text =
-    (setup : Opening) × (steps : List Step) × StandsFor files machine setup × HasRecord files record_file steps × HasChoices files choices
-    × (count ≤ length steps) × Goes (first_run setup steps count) text
+    (setup : Opening) × (steps : List Step) × (numbers : List ℕ) × StandsFor files machine setup × HasRecord files record_file steps × HasChoices files choices numbers
+    × (count ≤ length steps) × Goes numbers (first_run setup steps count) text
 Writes files no_form text = ⊥
 
 -- why nothing is written

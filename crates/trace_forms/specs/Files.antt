@@ -1,5 +1,6 @@
 -- What the files that the words name stand for, or why they are refused.
-use Rattle.std.specs.Prelude.{◌≡◌, ℕ, ◌+◌, ◌<◌, List, Option, Some, None, Result, Ok, Err, take, length}
+use Rattle.std.specs.Prelude.{◌≡◌, ℕ, ◌+◌, ◌<◌, List, Option, Some, None, Vec, Result, Ok, Err, take, length}
+use Rattle.std.specs.declared.alloc.Global.{Global}
 use Rattle.cell_base.specs.declared.steps.Step.{Step}
 use Rattle.cell_io.specs.Files.{File}
 use Rattle.cell_io.specs.Store.{Ledger, FailedAt}
@@ -18,6 +19,7 @@ use Rattle.trace_forms.specs.declared.fault.Fault.TheVariants.{Usage, Input, Too
 use Rattle.trace_forms.specs.declared.words.Ask.{Ask}
 use Rattle.trace_forms.specs.declared.words.Ask.TheVariants.{Flows, Before}
 use Rattle.trace_forms.specs.Words.{Word}
+use Rattle.trace_forms.specs.Numbers.{HasNumbers, LacksNumbers}
 
 -- the machine file and its sources stand for this setup
 abbrev pub StandsFor : List File → Word → Opening → Type 0
@@ -27,9 +29,13 @@ StandsFor files machine setup = Settles files (run_task machine) (Ok (run_of set
 abbrev pub HasRecord : List File → Word → List Step → Type 0
 HasRecord files name steps = (text : List ℕ) × (given files name record_limit ≡ whole text) × ((r : Reading) × (r.steps ≡ steps) × BeginsWith text r)
 
--- the choice file was read whole
-abbrev pub HasChoices : List File → Word → Type 0
-HasChoices files name = (text : List ℕ) × (given files name record_limit ≡ whole text)
+-- the choice file was read whole, and this holds of its text
+abbrev pub ForChoices : List File → Word → (List ℕ → Type 0) → Type 0
+ForChoices files name P = (text : List ℕ) × (given files name record_limit ≡ whole text) × P text
+
+-- the choice file has these numbers
+abbrev pub HasChoices : List File → Word → List ℕ → Type 0
+HasChoices files name numbers = ForChoices files name (λ text. HasNumbers text numbers)
 
 -- ---- refusals
 
@@ -52,7 +58,7 @@ RecordRefuses files name old new other = ⊥
 abbrev pub ChoicesRefuse : List File → Word → Ledger → Ledger → Fault → Type 0
 ChoicesRefuse files name old new ReadFault = FailedAt name old new
 ChoicesRefuse files name old new TooLong = given files name record_limit ≡ too_long
-ChoicesRefuse files name old new Choices = HasChoices files name
+ChoicesRefuse files name old new Choices = ForChoices files name LacksNumbers
 ChoicesRefuse files name old new Memory = Unit {0}
 ChoicesRefuse files name old new other = ⊥
 
@@ -88,9 +94,15 @@ abbrev pub RecordComes : List File → Word → Ledger → Ledger → Result Rea
 RecordComes files name old new (Ok r) = HasRecord files name r.steps
 RecordComes files name old new (Err fault) = RecordRefuses files name old new fault
 
-abbrev pub ChoicesCome : {X : Type 0} → List File → Word → Ledger → Ledger → Result X Fault → Type 0
-ChoicesCome files name old new (Ok numbers) = HasChoices files name
+abbrev pub ChoicesCome : List File → Word → Ledger → Ledger → Result (Vec ℕ Global) Fault → Type 0
+ChoicesCome files name old new (Ok numbers) = HasChoices files name numbers.items
 ChoicesCome files name old new (Err fault) = ChoicesRefuse files name old new fault
+
+-- the text of the choice file, or why there is none
+abbrev pub ChoiceTextComes : List File → Word → Ledger → Ledger → Result (Vec ℕ Global) Fault → Type 0
+ChoiceTextComes files name old new (Ok text) = given files name record_limit ≡ whole text.items
+ChoiceTextComes files name old new (Err Choices) = ⊥
+ChoiceTextComes files name old new (Err fault) = ChoicesRefuse files name old new fault
 
 -- ---- whatever the store tells
 
@@ -132,8 +144,9 @@ ReadsRecord text (Err (Input (BadRecord line))) = IsFault text line
 ReadsRecord text (Err Memory) = Unit {0}
 ReadsRecord text (Err other) = ⊥
 
--- a word is no number, or memory is short
-abbrev pub IsOfNumbers : Fault → Type 0
-IsOfNumbers Choices = Unit {0}
-IsOfNumbers Memory = Unit {0}
-IsOfNumbers fault = ⊥
+-- what is read of the text of a choice file
+abbrev pub ReadsNumbers : List ℕ → Result (Vec ℕ Global) Fault → Type 0
+ReadsNumbers text (Ok numbers) = HasNumbers text numbers.items
+ReadsNumbers text (Err Choices) = LacksNumbers text
+ReadsNumbers text (Err Memory) = Unit {0}
+ReadsNumbers text (Err other) = ⊥

@@ -3,7 +3,8 @@ use Rattle.std.specs.Prelude.{◌≡◌, ℕ, zero, suc, ◌+◌, ◌-◌, ◌<�
 use Rattle.std.specs.declared.alloc.Global.{Global}
 use Rattle.std.specs.Fmt.{decimal}
 use Rattle.cell_base.specs.declared.steps.Step.{Step}
-use Rattle.cell_base.specs.Records.{line_feed}
+use Rattle.cell_base.specs.declared.format.Format.TheVariants.{Two}
+use Rattle.cell_base.specs.Records.{line_feed, spelling}
 use Rattle.cell_machine.specs.Opening.{Opening}
 use Rattle.cell_machine.specs.Run.{Ran, IsRun, state_of, next_of}
 use Rattle.run_record.specs.Replayed.{IsRefusedAt}
@@ -19,7 +20,7 @@ use Rattle.trace_forms.specs.declared.words.Ask.{Ask}
 use Rattle.trace_forms.specs.declared.words.Ask.TheVariants.{Effects, States, BeforeEach, Flows, Before}
 use Rattle.trace_forms.specs.declared.fault.Fault.{Fault}
 use Rattle.trace_forms.specs.declared.fault.Fault.TheVariants.{Input, TooShort, Memory}
-use Rattle.trace_forms.specs.Choices.{start}
+use Rattle.trace_forms.specs.Choices.{start, with_choices}
 use Rattle.trace_forms.specs.Files.{StepsRefuse, count_of}
 use Rattle.trace_forms.specs.Ranges.{ranges}
 
@@ -58,13 +59,18 @@ pub record TellsStanding (m : Ran) (text : List ℕ) : Type 0 where
   pub lines : List (Option ℕ)
   pub told : IsSomeAnd (state_of m) (λ M. text ≡ states ++ flows_of lines M)
 
--- what further steps do; and then how the machine stands, and what may be done next
-pub record Goes (m : Ran) (text : List ℕ) : Type 0 where
+-- what the further steps do that numbers choose; and then how the machine stands, and what may be done next
+pub record Goes (numbers : List ℕ) (m : Ran) (text : List ℕ) : Type 0 where
   pub steps : List Step
+  pub chosen : with_choices m numbers ≡ record m { steps = m.steps ++ steps }
   pub standing : List ℕ
   pub tells : TellsStanding (record m { steps = m.steps ++ steps }) standing
   pub may : List ℕ
   pub told : text ≡ lines_in m steps ++ standing ++ may
+
+-- the record of a run
+abbrev pub TellsRecord : Ran → List ℕ → Type 0
+TellsRecord m text = IsRun m.setup m.steps × (text ≡ spelling Two m.steps)
 
 -- ---- what is asked of the run of a record
 

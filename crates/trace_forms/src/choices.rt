@@ -1,35 +1,59 @@
 //! Choice files: numbers between blanks.
 
-ghost use Rattle.std.specs.Prelude.{◌≡◌, IfErr, OnOk};
+ghost use Rattle.std.specs.Prelude.{◌≡◌, ◌++◌, ◌∷◌, [], IfErr, MatchOption, OnOk};
 ghost use Rattle.std.specs.Option.{ForSome};
 ghost use Rattle.cell_io.specs.Store.{NoneFell};
-ghost use Rattle.trace_forms.specs.Files.{ChoicesCome, FailsAtChoices, IsOfFiles, IsOfNumbers};
+ghost use Rattle.trace_forms.specs.Files.{ChoicesCome, ChoiceTextComes, FailsAtChoices, IsOfFiles, ReadsNumbers};
+ghost use Rattle.trace_forms.specs.Numbers.{IsNumber, value_of};
 
 use crate::fault::Fault;
 use cell_io::{FetchFault, Fetched, Store};
-use std::alloc::Global;
+use std::alloc::{AllocError, Global};
 use std::str;
 
 /// How long a choice file may be, in bytes.
 const CHOICES_LIMIT: usize = 33_554_432;
 
-/// The numbers of a text.
-fn numbers_in(alloc: Global, text: &[u8]) -> Result<Vec<u64>, Fault>
-    ensures { IfErr result IsOfNumbers }
+/// The number that a word is.
+fn number_of(word: &str) -> Option<u64>
+    ensures { MatchOption result (¬ (IsNumber word.now)) (λ n. IsNumber word.now × (n ≡ value_of word.now)) }
+{
+    match word.parse::<u64>() {
+        Ok(number) => Some(number),
+        Err(_) => None,
+    }
+}
+
+/// Adds a number.
+fn add_number(numbers: &mut Vec<u64>, number: u64) -> Result<(), AllocError>
+    ensures { OnOk result (numbers.new.items ≡ numbers.old.items ++ number ∷ []) }
+{
+    numbers.push(number)?;
+    Ok(())
+}
+
+/// The numbers that the words of a text are.
+fn numbers_of(alloc: Global, text: &str) -> Result<Vec<u64>, Fault>
+    ensures { ReadsNumbers text.now result }
 {
     let mut numbers = Vec::new(alloc);
-    let Ok(text) = str::from_utf8(text) else {
-        return Err(Fault::Choices);
-    };
     for word in text.split_whitespace() {
-        let Ok(number) = word.parse::<u64>() else {
+        let Some(number) = number_of(word) else {
             return Err(Fault::Choices);
         };
-        if numbers.push(number).is_err() {
-            return Err(Fault::Memory);
-        }
+        add_number(&mut numbers, number)?;
     }
     Ok(numbers)
+}
+
+/// The numbers of a text.
+fn numbers_in(alloc: Global, text: &[u8]) -> Result<Vec<u64>, Fault>
+    ensures { ReadsNumbers text.now result }
+{
+    match str::from_utf8(text) {
+        Ok(text) => numbers_of(alloc, text),
+        Err(_) => Err(Fault::Choices),
+    }
 }
 
 /// The text of a choice file.
@@ -39,7 +63,7 @@ fn read_text<T: Store>(alloc: Global, files: &mut T, name: &str) -> Result<Vec<u
     ensures kept { OnOk result (T.ledger files.new ≡ T.ledger files.old) }
     ensures input { IfErr result IsOfFiles }
     ensures cause { IfErr result (FailsAtChoices name.now (T.ledger files.old) (T.ledger files.new)) }
-    ensures comes { ForSome (T.files files.old) (λ told. ChoicesCome told name.now (T.ledger files.old) (T.ledger files.new) result) }
+    ensures comes { ForSome (T.files files.old) (λ told. ChoiceTextComes told name.now (T.ledger files.old) (T.ledger files.new) result) }
 {
     let mut bytes = Vec::new(alloc);
     match files.fetch(alloc, name, CHOICES_LIMIT, &mut bytes) {

@@ -1,8 +1,9 @@
 //! Runs on one thread, by choices.
 
-ghost use Rattle.std.specs.Prelude.{◌≡◌, ◌≤◌, IfSome, IsSome};
+ghost use Rattle.std.specs.Prelude.{◌≡◌, ◌≤◌, ◌+◌, false, IfNone, IfSome, IsSome, IsTrue, length};
+ghost use Rattle.cell_base.specs.declared.steps.Step.{Step as AStep};
 ghost use Rattle.cell_machine.specs.Run.{next_of};
-ghost use Rattle.trace_forms.specs.Choices.{actor_of, chosen_in};
+ghost use Rattle.trace_forms.specs.Choices.{actor_of, chosen_in, start, with_choice, with_choices, TakesTurns};
 
 use cell_base::{Actor, Step};
 use cell_machine::Machine;
@@ -25,6 +26,7 @@ pub fn actor_of(spes: u8, number: u64) -> Actor
 pub fn chosen(machine: &Machine, number: u64) -> Option<Step>
     ensures chosen { result ≡ chosen_in machine.now number }
     ensures allowed { IfSome result (λ s. IsSome (next_of machine.now s)) }
+    ensures none { IfNone result ((s : AStep) → next_of machine.now s ≡ None) }
 {
     let spes = machine.setup().spes();
     let actors = 2 * u64::from(spes) + 1;
@@ -38,7 +40,11 @@ pub fn chosen(machine: &Machine, number: u64) -> Option<Step>
 
 /// Makes the step that the number chooses, and says whether one is allowed.
 fn make_chosen(machine: &mut Machine, number: u64) -> bool
-    ensures { machine.new.setup ≡ machine.old.setup }
+    ensures made { machine.new ≡ with_choice machine.old number }
+    ensures setup { machine.new.setup ≡ machine.old.setup }
+    ensures longer { IsTrue result → length machine.new.steps ≡ length machine.old.steps + 1 }
+    ensures same { result ≡ false → machine.new ≡ machine.old }
+    ensures over { result ≡ false → (s : AStep) → next_of machine.old s ≡ None }
 {
     match chosen(machine, number) {
         Some(step) => machine.step(step).is_ok(),
@@ -48,7 +54,7 @@ fn make_chosen(machine: &mut Machine, number: u64) -> bool
 
 /// Makes the step that each number chooses, where one is allowed.
 pub fn run_chosen(machine: &mut Machine, numbers: &[u64])
-    ensures { machine.new.setup ≡ machine.old.setup }
+    ensures { machine.new ≡ with_choices machine.old numbers.now }
 {
     for number in numbers {
         make_chosen(machine, *number);
@@ -57,11 +63,13 @@ pub fn run_chosen(machine: &mut Machine, numbers: &[u64])
 
 /// Makes the run that the numbers from 0 on choose to its end: the actors take turns.
 pub fn run_alone(machine: &mut Machine)
-    ensures { machine.new.setup ≡ machine.old.setup }
+    requires { machine.old ≡ start machine.old.setup }
+    ensures setup { machine.new.setup ≡ machine.old.setup }
+    ensures turns { TakesTurns machine.new }
 {
-    for number in 0..u64::MAX {
+    for number in 0..u64::from(machine.setup().budget()) {
         if !make_chosen(machine, number) {
-            break;
+            return;
         }
     }
 }

@@ -1,13 +1,10 @@
 //! What is told of runs: records, states, what steps do, and what flow controllers hold.
 
 ghost use Rattle.std.specs.Prelude.{◌≡◌, ◌≤◌, ◌<◌, take, length, IfErr, IfOk, OnOk};
-ghost use Rattle.cell_base.specs.declared.format.Format.TheVariants.{Two};
-ghost use Rattle.cell_base.specs.Records.{spelling};
-ghost use Rattle.cell_machine.specs.Run.{IsRun};
 ghost use Rattle.cell_forms.specs.Checks.{TellsEnd};
 ghost use Rattle.cell_forms.specs.Runs.{PrintsSteps};
-ghost use Rattle.trace_forms.specs.Choices.{start};
-ghost use Rattle.trace_forms.specs.Told.{Adds, AddsChosen, Came, Goes, IsShort, TellsStanding, Told, ToldBehind};
+ghost use Rattle.trace_forms.specs.Choices.{start, with_choice, with_choices};
+ghost use Rattle.trace_forms.specs.Told.{Adds, AddsChosen, Came, Goes, IsShort, TellsRecord, TellsStanding, Told, ToldBehind};
 
 use crate::allowed::allowed_text;
 use crate::before::{before_text, each_text};
@@ -33,8 +30,7 @@ fn put_states(alloc: Global, out: &mut Vec<u8>, machine: &Machine) -> Result<(),
 
 /// The record of a machine's run.
 pub fn run_record(alloc: Global, machine: &Machine) -> Result<Vec<u8>, AllocError>
-    ensures text { IfOk result (λ text. text.items ≡ spelling Two machine.now.steps) }
-    ensures run { IsRun machine.now.setup machine.now.steps }
+    ensures { IfOk result (λ text. TellsRecord machine.now text.items) }
 {
     match record_text(alloc, machine.steps()) {
         Ok(text) => Ok(text),
@@ -184,7 +180,8 @@ fn put_choice(
     reserved: &mut Reserved,
     number: u64,
 ) -> Result<(), AllocError>
-    ensures { OnOk result (AddsChosen machine.old machine.new out.old.items out.new.items) }
+    ensures lines { OnOk result (AddsChosen machine.old machine.new out.old.items out.new.items) }
+    ensures chosen { OnOk result (machine.new ≡ with_choice machine.old number) }
 {
     let Some(step) = chosen(machine, number) else {
         return Ok(());
@@ -202,7 +199,8 @@ fn put_chosen(
     reserved: &mut Reserved,
     numbers: &[u64],
 ) -> Result<(), AllocError>
-    ensures { OnOk result (AddsChosen machine.old machine.new out.old.items out.new.items) }
+    ensures lines { OnOk result (AddsChosen machine.old machine.new out.old.items out.new.items) }
+    ensures chosen { OnOk result (machine.new ≡ with_choices machine.old numbers.now) }
 {
     for number in numbers {
         put_choice(out, machine, reserved, *number)?;
@@ -217,7 +215,7 @@ fn going_text(
     reserved: &mut Reserved,
     numbers: &[u64],
 ) -> Result<Vec<u8>, AllocError>
-    ensures { IfOk result (λ text. Goes machine.old text.items) }
+    ensures { IfOk result (λ text. Goes numbers.now machine.old text.items) }
 {
     let mut out = Vec::new(alloc);
     put_chosen(&mut out, machine, reserved, numbers)?;
@@ -235,7 +233,7 @@ fn going_behind(
     numbers: &[u64],
 ) -> Result<Vec<u8>, Fault>
     requires { machine.old ≡ start machine.old.setup }
-    ensures { ToldBehind Goes machine.old.setup steps.now result }
+    ensures { ToldBehind (Goes numbers.now) machine.old.setup steps.now result }
 {
     let mut reserved = Reserved::new();
     if follow(machine, &mut reserved, steps).is_some() {
@@ -256,7 +254,7 @@ pub fn go_on(
     numbers: &[u64],
 ) -> Result<Vec<u8>, Fault>
     requires { machine.old ≡ start machine.old.setup }
-    ensures { Came Goes machine.old.setup steps.now count result }
+    ensures { Came (Goes numbers.now) machine.old.setup steps.now count result }
 {
     match first_steps(steps, u64::from(count)) {
         Ok(first) => going_behind(alloc, machine, first, numbers),

@@ -1,12 +1,17 @@
-use Rattle.std.proofs.Common.{◌∙◌, sym, subst}
-use Rattle.trace_forms.specs.Files.{StandsFor}
+use Rattle.std.proofs.Common.{◌≡◌, ◌∙◌, ap, subst, rules}
+use Rattle.cell_machine.specs.Run.{Ran}
+use Rattle.trace_forms.specs.Choices.{with_choices}
+use Rattle.trace_forms.specs.Told.{TellsRecord}
 use Rattle.trace_forms.proofs.program.chosen_text.Goals as goal
 
 pub returns-in-Ok-clause-comes : goal.returns-in-Ok-clause-comes
-returns-in-Ok-clause-comes g c = λ told is. (
-  c.run_chosen.new.machine,
-  subst (StandsFor told c.args.machine.now) (sym c.run_chosen.ensures) (c.in_ok-machine.ensures.comes told is),
-  c.in_ok-numbers.ensures.comes told (c.read_start.ensures.same ∙ is),
-  c.run_record.ensures.run,
-  c.in-Ok.ensures.text,
-)
+returns-in-Ok-clause-comes g c = λ told is.
+    (let numbers = c.in_ok-numbers.numbers.items in
+    let same : c.as_slice.result.now ≡ numbers = search rules in
+    let made = c.run_chosen.ensures ∙ ap (with_choices c.in_ok-machine.machine) same ∙ ap (λ (m : Ran). with_choices m numbers) c.in_ok-machine.ensures.starts in (
+      c.in_ok-machine.machine.setup,
+      numbers,
+      c.in_ok-machine.ensures.comes told is,
+      c.in_ok-numbers.ensures.comes told (c.read_start.ensures.same ∙ is),
+      subst (λ (m : Ran). TellsRecord m c.in-Ok.text.items) made c.in-Ok.ensures,
+    ))

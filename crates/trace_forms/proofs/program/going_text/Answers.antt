@@ -1,10 +1,11 @@
-use Rattle.std.proofs.Common.{◌∙◌, sym, subst}
-use Rattle.trace_forms.specs.Files.{HasRecord}
+use Rattle.std.proofs.Common.{◌≡◌, ◌∙◌, sym, subst, rules}
+use Rattle.trace_forms.specs.Files.{HasRecord, HasChoices}
 use Rattle.trace_forms.proofs.TellLaws.{goes_comes}
 use Rattle.trace_forms.proofs.program.going_text.Goals as goal
 
 pub returns-clause-comes : goal.returns-clause-comes
 returns-clause-comes g c = λ told is.
-    goes_comes told c.args.machine.now c.args.record_file.now c.args.choices.now c.args.count _ _ c.in_ok-machine.machine.setup c.steps.result.now c.go_on.result (c.in_ok-machine.ensures.comes told is)
+    (let same : c.as_slice.result.now ≡ c.in_ok-numbers.numbers.items = search rules in
+    goes_comes told c.args.machine.now c.args.record_file.now c.args.choices.now c.args.count _ _ c.in_ok-machine.machine.setup c.steps.result.now c.as_slice.result.now c.go_on.result (c.in_ok-machine.ensures.comes told is)
     (subst (HasRecord told c.args.record_file.now) (sym c.steps.ensures) (c.in_ok-recorded.ensures.comes told (c.read_start.ensures.same ∙ is)))
-    (c.in_ok-numbers.ensures.comes told (c.read_recorded.ensures.same ∙ c.read_start.ensures.same ∙ is)) c.go_on.ensures
+    (subst (HasChoices told c.args.choices.now) (sym same) (c.in_ok-numbers.ensures.comes told (c.read_recorded.ensures.same ∙ c.read_start.ensures.same ∙ is))) c.go_on.ensures)
