@@ -1,1 +1,5 @@
 pub mod Answers
+pub mod Asked
+pub mod Missing
+pub mod Question
+pub mod Reading

@@ -1,7 +1,7 @@
 //! What is answered: a text, and the exit status.
 
-ghost use Rattle.std.specs.Prelude.{◌≡◌};
-ghost use Rattle.cell_page.specs.Answers.{text_of};
+ghost use Rattle.std.specs.Prelude.{◌≡◌, ◌++◌, IfOk, Some, codes};
+ghost use Rattle.cell_page.specs.Answers.{IsLineOf, IsShort, Refuses, text_of};
 
 use std::alloc::{AllocError, Global};
 use std::fmt::Display;
@@ -19,18 +19,28 @@ pub struct Answer {
     code: u8,
 }
 
+/// What a program tells, in a line behind its name.
+fn line_with(alloc: Global, program: &str, told: &str) -> Result<Vec<u8>, AllocError>
+    ensures { IfOk result (λ text. text.items ≡ program.now ++ codes ": " ++ told.now) }
+{
+    let mut line = program.as_bytes().to_vec(alloc)?;
+    line.extend_from_slice(b": ")?;
+    line.extend_from_slice(told.as_bytes())?;
+    Ok(line)
+}
+
 /// The line of a refusal by a program.
-fn line_of<F: Display + Drop>(
-    alloc: Global,
-    program: &str,
-    fault: F,
-) -> Result<Vec<u8>, AllocError> {
-    let line = format!(in alloc; "{program}: {fault}\n")?;
-    line.as_bytes().to_vec(alloc)
+fn line_of<F: Display + Drop>(alloc: Global, program: &str, fault: F) -> Result<Vec<u8>, AllocError>
+    ensures { IfOk result (λ text. IsLineOf program.now text.items) }
+{
+    let told = format!(in alloc; "{fault}\n")?;
+    line_with(alloc, program, told.as_str())
 }
 
 impl Answer {
-    pub fn new(text: Vec<u8>, code: u8) -> Answer {
+    pub fn new(text: Vec<u8>, code: u8) -> Answer
+        ensures { result ≡ record { text = Some text; code = code } }
+    {
         Answer {
             text: Some(text),
             code,
@@ -38,7 +48,9 @@ impl Answer {
     }
 
     /// There is no memory.
-    pub fn short() -> Answer {
+    pub fn short() -> Answer
+        ensures { IsShort result }
+    {
         Answer {
             text: None,
             code: SHORT,
@@ -46,7 +58,9 @@ impl Answer {
     }
 
     /// A program does nothing, for this fault.
-    pub fn refusal<F: Display + Drop>(alloc: Global, program: &str, fault: F, code: u8) -> Answer {
+    pub fn refusal<F: Display + Drop>(alloc: Global, program: &str, fault: F, code: u8) -> Answer
+        ensures { Refuses program.now code result }
+    {
         match line_of(alloc, program, fault) {
             Ok(text) => Answer::new(text, code),
             Err(_) => Answer::short(),

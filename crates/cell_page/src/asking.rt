@@ -1,18 +1,27 @@
 //! The answer to words with files.
 
-ghost use Rattle.std.specs.Prelude.{IfOk, false};
+ghost use Rattle.std.specs.Prelude.{◌≡◌, Some, false, map, string_bytes};
 ghost use Rattle.cell_io.specs.Files.{HasDifferentNames};
+ghost use Rattle.cell_base.specs.Words.{lines_of};
+ghost use Rattle.cell_forms.specs.Words.{spoken as cell_spoken, AsksForNoRun};
+ghost use Rattle.hunt_forms.specs.Words.{spoken as hunt_spoken};
+ghost use Rattle.trace_forms.specs.Words.{said as trace_said};
+ghost use Rattle.cell_page.specs.Asked.{asked_by, without_runs};
+ghost use Rattle.cell_page.specs.Answers.{IsAnswerTo, IsOf, IsOfCell, IsOfHunt, IsOfTrace, RefusesCell, RefusesHunt, RefusesTrace, TellsCell, TellsHunt, TellsTrace};
+ghost use Rattle.cell_page.specs.Reading.{ReadsBoth};
 
 use crate::answer::Answer;
 use crate::bundle::{BundleError, files_of, words_of};
+use crate::given_files::GivenFiles;
 use crate::text_sink::TextSink;
 use cell_forms::{Fault as CellFault, Form as CellForm, Status as CellStatus, cell_quiet, form_of};
-use cell_io::{MemFile, MemStore, Store};
+use cell_io::MemFile;
 use hunt_forms::{Fault as HuntFault, Progress, Status as HuntStatus, hunt_quiet};
 use hunt_tally::Hunted;
 use std::alloc::Global;
 use trace_forms::{
-    Fault as TraceFault, Form as TraceForm, Status as TraceStatus, trace, trace_form,
+    Fault as TraceFault, Form as TraceForm, Status as TraceStatus, form_of as trace_form_of,
+    trace_form,
 };
 
 /// How many runs of a hunt are made before their reports are taken in.
@@ -38,79 +47,131 @@ impl Progress for Unseen {
     fn end(&mut self) {}
 }
 
-/// What `cell` does with these words, but that those that ask for a run aren't a form.
-fn quiet<T: Store>(
-    alloc: Global,
-    words: &[String],
-    files: &mut T,
-    out: &mut TextSink,
-) -> CellStatus {
-    match form_of(words) {
-        CellForm::Run { .. } | CellForm::Gen { .. } => CellStatus::Refused(CellFault::Usage),
-        _ => cell_quiet(alloc, words, files, out),
+/// How a refusal of `cell` is told.
+fn refused_by_cell(alloc: Global, fault: CellFault) -> Answer
+    ensures { RefusesCell fault result }
+{
+    match fault {
+        CellFault::Memory => Answer::short(),
+        CellFault::WriteFault => Answer::short(),
+        _ => Answer::refusal(alloc, "cell", fault, CellStatus::Refused(fault).code()),
     }
 }
 
-/// The answer of `cell`.
-fn cell_answer<T: Store>(alloc: Global, words: &[String], files: &mut T) -> Answer {
-    let mut out = TextSink::new(alloc);
-    let status = quiet(alloc, words, files, &mut out);
+/// How a status of `cell` is told, with what was put.
+fn told_by_cell(alloc: Global, status: CellStatus, out: TextSink) -> Answer
+    ensures { TellsCell status (Some out.text.items) result }
+{
     match status {
-        CellStatus::Refused(CellFault::Memory | CellFault::WriteFault) => Answer::short(),
-        CellStatus::Refused(fault) => Answer::refusal(alloc, "cell", fault, status.code()),
+        CellStatus::Refused(fault) => refused_by_cell(alloc, fault),
         _ => Answer::new(out.into_text(), status.code()),
     }
 }
 
-/// The answer of `hunt`, all of whose runs are made by the caller.
-fn hunt_answer<T: Store>(alloc: Global, words: &[String], files: &mut T) -> Answer {
+/// What `cell` answers to words that ask for no run.
+fn cell_answer(alloc: Global, words: &[String], files: Vec<MemFile>) -> Answer
+    requires quiet { AsksForNoRun (cell_spoken (map string_bytes words.now)) }
+    requires different { HasDifferentNames files.items }
+    ensures { IsOfCell files.items (cell_spoken (map string_bytes words.now)) result }
+{
+    let mut files = GivenFiles::new(alloc, files);
     let mut out = TextSink::new(alloc);
-    let status = hunt_quiet(alloc, words, files, &mut out, &mut Unseen);
+    let status = cell_quiet(alloc, words, &mut files, &mut out);
+    told_by_cell(alloc, status, out)
+}
+
+/// How a refusal of `hunt` is told.
+fn refused_by_hunt(alloc: Global, fault: HuntFault) -> Answer
+    ensures { RefusesHunt fault result }
+{
+    match fault {
+        HuntFault::Memory => Answer::short(),
+        HuntFault::WriteFault => Answer::short(),
+        _ => Answer::refusal(alloc, "hunt", fault, HuntStatus::Refused(fault).code()),
+    }
+}
+
+/// How a status of `hunt` is told, with what was put.
+fn told_by_hunt(alloc: Global, status: HuntStatus, out: TextSink) -> Answer
+    ensures { TellsHunt status (Some out.text.items) result }
+{
     match status {
-        HuntStatus::Refused(HuntFault::Memory | HuntFault::WriteFault) => Answer::short(),
-        HuntStatus::Refused(fault) => Answer::refusal(alloc, "hunt", fault, status.code()),
+        HuntStatus::Refused(fault) => refused_by_hunt(alloc, fault),
         _ => Answer::new(out.into_text(), status.code()),
     }
 }
 
-/// The answer of run_trace with this status and this text.
-fn traced(alloc: Global, status: TraceStatus, out: TextSink) -> Answer {
+/// What `hunt` answers, all of whose runs are made by the caller.
+fn hunt_answer(alloc: Global, words: &[String], files: Vec<MemFile>) -> Answer
+    requires { HasDifferentNames files.items }
+    ensures { IsOfHunt files.items (hunt_spoken (map string_bytes words.now)) result }
+{
+    let mut files = GivenFiles::new(alloc, files);
+    let mut out = TextSink::new(alloc);
+    let status = hunt_quiet(alloc, words, &mut files, &mut out, &mut Unseen);
+    told_by_hunt(alloc, status, out)
+}
+
+/// How a refusal of run_trace is told.
+fn refused_by_trace(alloc: Global, fault: TraceFault) -> Answer
+    ensures { RefusesTrace fault result }
+{
+    match fault {
+        TraceFault::Memory => Answer::short(),
+        TraceFault::WriteFault => Answer::short(),
+        _ => Answer::refusal(
+            alloc,
+            "run_trace",
+            fault,
+            TraceStatus::Refused(fault).code(),
+        ),
+    }
+}
+
+/// How a status of run_trace is told, with what was put.
+fn told_by_trace(alloc: Global, status: TraceStatus, out: TextSink) -> Answer
+    ensures { TellsTrace status (Some out.text.items) result }
+{
     match status {
-        TraceStatus::Refused(TraceFault::Memory | TraceFault::WriteFault) => Answer::short(),
-        TraceStatus::Refused(fault) => Answer::refusal(alloc, "run_trace", fault, status.code()),
+        TraceStatus::Refused(fault) => refused_by_trace(alloc, fault),
         TraceStatus::Done => Answer::new(out.into_text(), status.code()),
     }
 }
 
-/// The answer of run_trace.
-fn trace_answer<T: Store>(alloc: Global, words: &[String], files: &mut T) -> Answer {
+/// What run_trace answers.
+fn trace_answer(alloc: Global, form: TraceForm<'_>, files: Vec<MemFile>) -> Answer
+    requires { HasDifferentNames files.items }
+    ensures { IsOfTrace files.items (trace_said form.entry) result }
+{
+    let mut files = GivenFiles::new(alloc, files);
     let mut out = TextSink::new(alloc);
-    let status = trace(alloc, words, files, &mut out);
-    traced(alloc, status, out)
+    let status = trace_form(alloc, form, &mut files, &mut out);
+    told_by_trace(alloc, status, out)
 }
 
-/// A run of a machine file to its end, in which the actors take turns.
-fn run_answer<T: Store>(alloc: Global, machine: &str, files: &mut T) -> Answer {
-    let mut out = TextSink::new(alloc);
-    let status = trace_form(alloc, TraceForm::Alone { machine }, files, &mut out);
-    traced(alloc, status, out)
-}
-
-/// The answer to these words.
-fn answer_with<T: Store>(alloc: Global, words: &[String], files: &mut T) -> Answer {
-    match words {
-        [form, more @ ..] if form.as_str() == "hunt" => hunt_answer(alloc, more, files),
-        [form, more @ ..] if form.as_str() == "trace" => trace_answer(alloc, more, files),
-        [form, machine] if form.as_str() == "run" => run_answer(alloc, machine.as_str(), files),
+/// What `cell` answers, but that a run is one in which the actors take turns, and no machine is generated.
+fn answer_of_cell(alloc: Global, words: &[String], files: Vec<MemFile>) -> Answer
+    requires { HasDifferentNames files.items }
+    ensures { IsOf files.items (without_runs (cell_spoken (map string_bytes words.now))) result }
+{
+    match form_of(words) {
+        CellForm::Run { machine } => trace_answer(alloc, TraceForm::Alone { machine }, files),
+        CellForm::Gen { .. } => cell_answer(alloc, &words[..0], files),
         _ => cell_answer(alloc, words, files),
     }
 }
 
-/// The answer to what couldn't be read.
-fn unread(alloc: Global, error: BundleError) -> Answer {
-    match error {
-        BundleError::Form => Answer::refusal(alloc, "cell", CellFault::Usage, 2),
-        BundleError::Memory => Answer::short(),
+/// The answer to these words.
+fn answer_with(alloc: Global, words: &[String], files: Vec<MemFile>) -> Answer
+    requires { HasDifferentNames files.items }
+    ensures { IsOf files.items (asked_by (map string_bytes words.now)) result }
+{
+    match words {
+        [form, more @ ..] if form.as_str() == "hunt" => hunt_answer(alloc, more, files),
+        [form, more @ ..] if form.as_str() == "trace" => {
+            trace_answer(alloc, trace_form_of(more), files)
+        }
+        _ => answer_of_cell(alloc, words, files),
     }
 }
 
@@ -120,7 +181,7 @@ fn read_both(
     words: &[u8],
     files: &[u8],
 ) -> Result<(Vec<String>, Vec<MemFile>), BundleError>
-    ensures { IfOk result (λ both. HasDifferentNames both.1.items) }
+    ensures { ReadsBoth words.now files.now result }
 {
     let words = words_of(alloc, words)?;
     let files = files_of(alloc, files)?;
@@ -128,12 +189,12 @@ fn read_both(
 }
 
 /// The answer to words with files, both as bytes.
-pub fn answer_to(alloc: Global, words: &[u8], files: &[u8]) -> Answer {
+pub fn answer_to(alloc: Global, words: &[u8], files: &[u8]) -> Answer
+    ensures { IsAnswerTo words.now files.now result }
+{
     match read_both(alloc, words, files) {
-        Ok((words, files)) => {
-            let mut store = MemStore::new(files, Vec::new(alloc));
-            answer_with(alloc, words.as_slice(), &mut store)
-        }
-        Err(error) => unread(alloc, error),
+        Ok((words, files)) => answer_with(alloc, words.as_slice(), files),
+        Err(BundleError::Form) => Answer::refusal(alloc, "cell", CellFault::Usage, 2),
+        Err(BundleError::Memory) => Answer::short(),
     }
 }

@@ -1,7 +1,13 @@
 //! What comes in: the words, and the files.
 
-ghost use Rattle.std.specs.Prelude.{◌≡◌, ◌<◌, ◌≤◌, ◌++◌, ◌∷◌, IfOk, IfSome, find, is_none, length};
+ghost use Rattle.std.specs.Prelude.{◌≡◌, ◌<◌, ◌≤◌, ◌++◌, ◌∷◌, [], ℕ, List, Ok, IfOk, IfSome, OnOk, Option, Some, find, is_none, length, map, string_bytes};
+ghost use Rattle.std.specs.List.{position};
+ghost use Rattle.std.specs.Str.{IsUtf8};
+ghost use Rattle.cell_base.specs.Numbers.{Reads};
+ghost use Rattle.cell_base.specs.Words.{is_feed};
 ghost use Rattle.cell_io.specs.Files.{HasDifferentNames, are_different, is_called};
+ghost use Rattle.cell_page.specs.Question.{line_at, number_line, file_at};
+ghost use Rattle.cell_page.specs.Reading.{IsText, KeepsFile, ReadsWords, ReadsAll, ReadsFiles};
 
 use cell_base::line_text::{first_line, number_at};
 use cell_io::MemFile;
@@ -17,19 +23,29 @@ pub enum BundleError {
 }
 
 impl From<AllocError> for BundleError {
+    ghost from_gives = { λ _ error. error ≡ Memory };
+
+    ghost use Rattle.cell_page.specs.declared.bundle.BundleError.TheVariants.{Memory};
+
     fn from(_: AllocError) -> BundleError {
         BundleError::Memory
     }
 }
 
 impl<T: Drop> From<AllocFailed<T>> for BundleError {
+    ghost from_gives = { λ _ error. error ≡ Memory };
+
+    ghost use Rattle.cell_page.specs.declared.bundle.BundleError.TheVariants.{Memory};
+
     fn from(_: AllocFailed<T>) -> BundleError {
         BundleError::Memory
     }
 }
 
 /// These bytes as a text.
-fn text_of(alloc: Global, bytes: &[u8]) -> Result<String, BundleError> {
+fn text_of(alloc: Global, bytes: &[u8]) -> Result<String, BundleError>
+    ensures { IsText bytes.now result }
+{
     match str::from_utf8(bytes) {
         Ok(text) => Ok(String::from_str(alloc, text)?),
         Err(_) => Err(BundleError::Form),
@@ -37,7 +53,9 @@ fn text_of(alloc: Global, bytes: &[u8]) -> Result<String, BundleError> {
 }
 
 /// The words, which stand one on a line.
-pub fn words_of(alloc: Global, bytes: &[u8]) -> Result<Vec<String>, BundleError> {
+pub fn words_of(alloc: Global, bytes: &[u8]) -> Result<Vec<String>, BundleError>
+    ensures { ReadsWords bytes.now result }
+{
     let mut words = Vec::new(alloc);
     let mut rest = bytes;
     while !rest.is_empty() {
@@ -48,17 +66,24 @@ pub fn words_of(alloc: Global, bytes: &[u8]) -> Result<Vec<String>, BundleError>
     Ok(words)
 }
 
+/// The place of the first line feed.
+fn feed_at(bytes: &[u8]) -> Option<usize>
+    ensures { result ≡ position is_feed bytes.now }
+{
+    bytes.iter().position(|b| *b == b'\n')
+}
+
 /// The bytes up to the first line feed, and those behind it.
 fn line_at(bytes: &[u8]) -> Option<(&[u8], &[u8])>
-    ensures { IfSome result (λ x. bytes.now ≡ x.0.now ++ 10 ∷ x.1.now) }
+    ensures { Reads (λ x. (x.0.now, x.1.now)) result (line_at bytes.now) }
 {
-    let end = bytes.iter().position(|b| *b == b'\n')?;
+    let end = feed_at(bytes)?;
     Some((&bytes[..end], &bytes[end + 1..]))
 }
 
 /// A number on a line of its own, and the bytes behind it.
 fn number_line(bytes: &[u8]) -> Option<(u32, &[u8])>
-    ensures { IfSome result (λ x. length x.1.now ≤ length bytes.now) }
+    ensures { Reads (λ x. (x.0, x.1.now)) result (number_line bytes.now) }
 {
     let (digits, behind) = line_at(bytes)?;
     let (number, more) = number_at(digits, u32::MAX)?;
@@ -71,7 +96,7 @@ fn number_line(bytes: &[u8]) -> Option<(u32, &[u8])>
 
 /// The name and the bytes of the file at the front, and what is behind it.
 fn file_at(bytes: &[u8]) -> Option<(&[u8], &[u8], &[u8])>
-    ensures { IfSome result (λ x. length x.2.now < length bytes.now) }
+    ensures { Reads (λ x. (record { name = x.0.now; bytes = x.1.now }, x.2.now)) result (file_at bytes.now) }
 {
     let (name, behind) = line_at(bytes)?;
     let (count, behind) = number_line(behind)?;
@@ -88,7 +113,9 @@ fn keep_file(
     files: &mut Vec<MemFile>,
     name: &[u8],
     own: &[u8],
-) -> Result<(), BundleError> {
+) -> Result<(), BundleError>
+    ensures { KeepsFile (record { name = name.now; bytes = own.now }) files.old.items files.new.items result }
+{
     let file = MemFile {
         name: text_of(alloc, name)?,
         bytes: own.to_vec(alloc)?,
@@ -98,7 +125,9 @@ fn keep_file(
 }
 
 /// The files, whose names may be the same.
-fn all_files(alloc: Global, bytes: &[u8]) -> Result<Vec<MemFile>, BundleError> {
+fn all_files(alloc: Global, bytes: &[u8]) -> Result<Vec<MemFile>, BundleError>
+    ensures { ReadsAll bytes.now result }
+{
     let mut files = Vec::new(alloc);
     let mut rest = bytes;
     while !rest.is_empty() {
@@ -140,7 +169,7 @@ fn are_different(files: &[MemFile]) -> bool
 
 /// The files.
 pub fn files_of(alloc: Global, bytes: &[u8]) -> Result<Vec<MemFile>, BundleError>
-    ensures { IfOk result (λ files. HasDifferentNames files.items) }
+    ensures { ReadsFiles bytes.now result }
 {
     let files = all_files(alloc, bytes)?;
     if are_different(files.as_slice()) {

@@ -3,11 +3,12 @@
 #![tactic(auto)]
 
 ghost use Rattle.cell_page.specs.declared.answer.Answer.{Answer as AnAnswer};
-ghost use Rattle.cell_page.specs.Answers.{Given};
+ghost use Rattle.cell_page.specs.Answers.{Given, IsAnswerTo};
 
 mod answer;
 mod asking;
 mod bundle;
+mod given_files;
 mod text_sink;
 
 use answer::Answer;
@@ -38,7 +39,7 @@ pub extern "C" fn cell_answer(
     out: &mut [u8],
     written: &mut usize,
 ) -> u32
-    ensures { (answer : AnAnswer) × Given answer out.old out.new written.new result }
+    ensures { (answer : AnAnswer) × IsAnswerTo words.now files.now answer × Given answer out.old out.new written.new result }
 {
     let answer = answer_to(alloc, words, files);
     give(&answer, out, written)

@@ -1,6 +1,6 @@
 //! An output that keeps all of its text.
 
-ghost use Rattle.std.specs.Prelude.{Some};
+ghost use Rattle.std.specs.Prelude.{◌≡◌, [], Some};
 
 use cell_io::{Sink, SinkFault};
 use std::alloc::Global;
@@ -13,7 +13,10 @@ pub struct TextSink {
 }
 
 impl TextSink {
-    pub fn new(alloc: Global) -> TextSink {
+    pub fn new(alloc: Global) -> TextSink
+        ensures text { result.text.items ≡ [] }
+        ensures faults { result.faults ≡ 0 }
+    {
         TextSink {
             text: Vec::new(alloc),
             faults: 0,
@@ -21,7 +24,9 @@ impl TextSink {
     }
 
     /// All that was put.
-    pub fn into_text(self) -> Vec<u8> {
+    pub fn into_text(self) -> Vec<u8>
+        ensures { result ≡ self.text }
+    {
         self.text
     }
 }

@@ -1,0 +1,3 @@
+pub mod BundleLaws
+pub mod WordsLaws
+pub mod AnswersLaws
