@@ -1,7 +1,6 @@
 -- Words that are read one behind the other.
-use Rattle.std.proofs.Common.{◌≡◌, ◌∙◌, ℕ, List, [], ◌∷◌, ◌++◌, length, Result, Ok, Err, refl, sym, ap, subst, append_assoc, append-nil}
+use Rattle.std.proofs.Common.{◌≡◌, ◌∙◌, ℕ, List, [], ◌∷◌, ◌++◌, length, Err, sym, ap, subst, append_assoc, append-nil}
 use Rattle.std.specs.Str.{IsUtf8}
-use Rattle.std.proofs.lemmas.List.{nil_from_length}
 use Rattle.cell_base.specs.Words.{lines_of}
 use Rattle.cell_base.proofs.WordLaws.{no_lines}
 use Rattle.cell_page.specs.declared.bundle.BundleError.{BundleError}

@@ -1,4 +1,4 @@
-use Rattle.std.proofs.Common.{◌∙◌, sym, ap, arith, refl, get_or, take}
+use Rattle.std.proofs.Common.{◌∙◌, sym, ap, arith, refl, get_or}
 use Rattle.std.proofs.lemmas.List.Sums.{fold_more}
 use Rattle.trace_forms.specs.Choices.{with_choice}
 use Rattle.trace_forms.proofs.TellLaws.{none_chosen, more_chosen}
