@@ -60,7 +60,11 @@ def a_terminal_gets_no_page() -> Iterator[str]:
     with tempfile.TemporaryDirectory(prefix="cell-hostile-") as room:
         for name, data in FILES.items():
             pathlib.Path(room, name).write_bytes(data)
-        ours, theirs = pty.openpty()
+        try:
+            ours, theirs = pty.openpty()
+        except OSError as why:
+            print(f"mistaken: a_terminal_gets_no_page: skipped, since no terminal can be made here: {why}")
+            return
         done = subprocess.run([ROOT / "tools" / "picture", "m.cell", "m.out"], cwd=room, stdin=subprocess.DEVNULL, stdout=theirs, stderr=subprocess.PIPE, timeout=60)
         os.close(theirs)
         os.close(ours)
