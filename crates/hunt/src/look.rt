@@ -15,8 +15,10 @@ const STANDS: u128 = 100;
 /// How many runs a thread makes before the first look: one of each way of a hunt, so that all threads have as much to do.
 const FIRST_SHARE: u32 = 4;
 
-/// How many runs a thread makes at most before the next look.
+/// How many runs a thread makes at most before the next look, and how many times as many as before the last one.
 const MOST_SHARE: u32 = 4096;
+
+const MOST_TIMES: u128 = 32;
 
 /// Shows how far a hunt is, finds out how many runs fit between two looks, and ends the hunt once a file is there.
 #[derive(Drop)]
@@ -45,6 +47,14 @@ fn since(rt: &HostRuntime, then: Option<Instant>) -> u128 {
         },
         None => 0,
     }
+}
+
+/// How many runs a thread makes next, when so many took so many milliseconds: those that keep it busy until the next look, so that there are few.
+fn next_share(share: u32, took: u128) -> u32 {
+    let share = u128::from(share);
+    let fitting = share * BUSY / took.max(1);
+    let next = fitting.min(share * MOST_TIMES).max(1);
+    u32::try_from(next).unwrap_or(MOST_SHARE).min(MOST_SHARE)
 }
 
 impl<'a> Look<'a> {
@@ -98,13 +108,10 @@ impl<'a> Look<'a> {
 impl<'a> Progress for Look<'a> {
     ghost stopped = { λ s. s.is_stopped };
 
-    /// Twice as many as before while they take less than half of the time that threads are to be busy, and half as many where they take longer.
+    /// By what the last ones took.
     fn share(&mut self) -> u32 {
-        let took = since(self.rt, self.busy);
-        if self.busy.is_some() && took > BUSY {
-            self.share = (self.share / 2).max(1);
-        } else if self.busy.is_some() && took < BUSY / 2 {
-            self.share = (self.share.saturating_mul(2)).min(MOST_SHARE);
+        if self.busy.is_some() {
+            self.share = next_share(self.share, since(self.rt, self.busy));
         }
         self.busy = Instant::now(self.rt).ok();
         self.share
