@@ -22,7 +22,7 @@ use Rattle.cell_machine.specs.declared.processor.Processor.{Processor}
 use Rattle.cell_machine.specs.declared.signals.Reach.{Reach}
 use Rattle.cell_machine.specs.Kept.{IsKept}
 use Rattle.cell_machine.specs.MovesShown.{reading}
-use Rattle.cell_machine.specs.Shows.{IsBounded, CanStep, CanIssue, ShowsSpe, ShowsMemory, IsSignal, Makes, Reaches}
+use Rattle.cell_machine.specs.Shows.{IsBounded, CanStep, CanGo, CanIssue, ShowsSpe, ShowsMemory, IsSignal, Makes, Reaches}
 use Rattle.cell_machine.proofs.Same.{some_same}
 use Rattle.cell_machine.proofs.SpeShown.{first_of_both, second_of_both, not_of, get-either, begins-at, begins-none, part-facts, present-plain}
 use Rattle.cell_machine.proofs.MovesShown.{present-list}
@@ -170,6 +170,9 @@ pub kept-of : (lines : ℕ) (c : Processor) → CanStep lines c → IsKept c.com
 kept-of lines c can =
     let q = can.shows.queue in
     record { calls = q.calls; stands = q.stands; numbered = let e = ap length q.moves.done.issued in let few = can.bounded.few in omega arith }
+
+pub can-kept : (processors : List Processor) (memory : SharedMemory) → CanGo processors memory → All (λ c. IsKept c.commands.queue) processors
+can-kept processors memory can k d h = kept-of can.lines _ (can.each k d h)
 
 pub can-lines : (lines n : ℕ) (c : Processor) → lines ≡ n → CanStep lines c → CanStep n c
 can-lines lines n c same can = subst (λ k. CanStep k c) same can

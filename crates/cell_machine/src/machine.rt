@@ -1,12 +1,12 @@
 //! The whole machine.
 
-ghost use Rattle.std.specs.Prelude.{◌≡◌, ◌+◌, ◌*◌, ◌<◌, ◌≤◌, ◌↔◌, [], ◌∷◌, ◌++◌, Some, None, length, IfOk, IsOk, OnErr, IsSome, IsSomeAnd, IfSome, IfNone, MatchBool, All, slice_get};
+ghost use Rattle.std.specs.Prelude.{◌≡◌, ◌+◌, ◌*◌, ◌<◌, ◌≤◌, ◌↔◌, [], ◌∷◌, ◌++◌, Some, None, true, is_some, length, IfOk, IsOk, OnErr, IsSome, IsSomeAnd, IfSome, IfNone, MatchBool, All, slice_get};
 ghost use Rattle.std.specs.Bool.{OnFalse};
 ghost use Rattle.cell_base.specs.Records.{AreSteps};
 ghost use Rattle.cell_base.specs.declared.steps.Step.{Step};
-ghost use Rattle.cell_base.specs.declared.steps.Step.TheVariants.{Atomic, Piece};
+ghost use Rattle.cell_base.specs.declared.steps.Step.TheVariants.{Atomic, Exec, Piece};
 ghost use Rattle.cell_machine.specs.State.{State};
-ghost use Rattle.cell_machine.specs.Next.{act, closed_in};
+ghost use Rattle.cell_machine.specs.Next.{act, closed_in, next};
 ghost use Rattle.cell_machine.specs.Moves.{outstanding};
 ghost use Rattle.cell_machine.specs.Exec.{asks};
 ghost use Rattle.cell_machine.specs.Shown.{line_held_by, shown_from};
@@ -73,6 +73,20 @@ impl Model for Machine {
     ghost invariant = { λ a. IsMachine a.setup a.steps.items (vec_capacity a.steps) a.processors.items a.memory a.host };
 }
 
+/// Makes the next instruction of a processor, or leaves all as it is where it isn't allowed.
+#[inline(always)]
+fn act_exec(processors: &mut [Processor], memory: &SharedMemory, spe: u8) -> bool
+    requires many { length processors.old ≤ 16 }
+    requires can { CanGo processors.old memory.now }
+    ensures made { (host : Progress) (M : State) → Shows processors.old memory.now host M → AreSettled M.spes → MatchBool result (IsSomeAnd (act M (Exec spe)) (λ N. Shows processors.new memory.now host (closed_in M (Exec spe) N))) (act M (Exec spe) ≡ None) }
+    ensures refused { OnFalse result (processors.new ≡ processors.old) }
+{
+    if spe as usize >= processors.len() {
+        return false;
+    }
+    processors[spe as usize].exec_step(memory.bytes.lines())
+}
+
 /// Copies or delivers the piece, or leaves all as it is where it isn't allowed.
 fn act_piece(
     processors: &mut [Processor],
@@ -130,12 +144,7 @@ fn act(processors: &mut [Processor], memory: &mut SharedMemory, host: &mut Host,
 {
     let lines = memory.bytes.lines();
     match s {
-        Step::Exec { spe } => {
-            if spe as usize >= processors.len() {
-                return false;
-            }
-            processors[spe as usize].exec_step(lines)
-        }
+        Step::Exec { spe } => act_exec(processors, memory, spe),
         Step::Piece {
             spe,
             cmd,
@@ -188,6 +197,15 @@ fn first_step(processors: &[Processor], host: &Host) -> Option<Step>
     if of_spus.is_some() {
         return of_spus;
     }
+    first_of_others(processors, host)
+}
+
+/// The same where no instruction is allowed.
+fn first_of_others(processors: &[Processor], host: &Host) -> Option<Step>
+    requires many { length processors.now ≤ 16 }
+    requires kept { All (λ c. IsKept c.commands.queue) processors.now }
+    ensures { (memory : SharedMemory) (M : State) → Shows processors.now memory host.now M → slice_get (all_of_spus M) 0 ≡ None → result ≡ first_allowed M }
+{
     let of_mfcs = first_of_mfcs(processors);
     if of_mfcs.is_some() {
         return of_mfcs;
@@ -273,6 +291,105 @@ fn nth_step(processors: &[Processor], host: &Host, actor: Actor, choice: u64) ->
             processor.pick_of_mfc(spe, choice)
         }
         Actor::Host => first_of_host(processors, host),
+    }
+}
+
+/// Does a step that is allowed, and answers it.
+fn act_allowed(
+    processors: &mut [Processor],
+    memory: &mut SharedMemory,
+    host: &mut Host,
+    s: Step,
+) -> Option<Step>
+    requires many { length processors.old ≤ 16 }
+    requires fit { IsFit (length processors.old) memory.old host.old }
+    requires can { CanGo processors.old memory.old }
+    ensures done { (M : State) → Shows processors.old memory.old host.old M → AreSettled M.spes → is_some (next M s) ≡ true → result ≡ Some s }
+    ensures made { (M : State) → Shows processors.old memory.old host.old M → AreSettled M.spes → IfSome result (λ t. IsSomeAnd (act M t) (λ N. Shows processors.new memory.new host.new (closed_in M t N))) }
+    ensures refused { IfNone result ((processors.new ≡ processors.old) × (memory.new ≡ memory.old) × (host.new ≡ host.old)) }
+    ensures size { HasSameSize memory.old.locks memory.new.locks }
+    ensures script { host.new.script ≡ host.old.script }
+{
+    if act(processors, memory, host, s) {
+        Some(s)
+    } else {
+        None
+    }
+}
+
+/// Does the step that the actor has for this choice, and answers it, or leaves all as it is where it has none.
+/// An instruction is made at once: where it isn't allowed, nothing has changed.
+#[inline(always)]
+fn act_picked(
+    processors: &mut [Processor],
+    memory: &mut SharedMemory,
+    host: &mut Host,
+    actor: Actor,
+    choice: u64,
+) -> Option<Step>
+    requires many { length processors.old ≤ 16 }
+    requires fit { IsFit (length processors.old) memory.old host.old }
+    requires can { CanGo processors.old memory.old }
+    ensures picked { (M : State) → Shows processors.old memory.old host.old M → AreSettled M.spes → result ≡ picked M actor choice }
+    ensures made { (M : State) → Shows processors.old memory.old host.old M → AreSettled M.spes → IfSome result (λ s. IsSomeAnd (act M s) (λ N. Shows processors.new memory.new host.new (closed_in M s N))) }
+    ensures refused { IfNone result ((processors.new ≡ processors.old) × (memory.new ≡ memory.old) × (host.new ≡ host.old)) }
+    ensures size { HasSameSize memory.old.locks memory.new.locks }
+    ensures script { host.new.script ≡ host.old.script }
+{
+    match actor {
+        Actor::Spu(spe) => {
+            if act_exec(processors, memory, spe) {
+                Some(Step::Exec { spe })
+            } else {
+                None
+            }
+        }
+        _ => {
+            let step = nth_step(processors, host, actor, choice)?;
+            act_allowed(processors, memory, host, step)
+        }
+    }
+}
+
+/// Makes the first allowed instruction, and answers it, or leaves all as it is where none is allowed.
+#[inline(always)]
+fn act_first_of_spus(processors: &mut [Processor], memory: &SharedMemory) -> Option<Step>
+    requires many { length processors.old ≤ 16 }
+    requires can { CanGo processors.old memory.now }
+    ensures first { (host : Progress) (M : State) → Shows processors.old memory.now host M → AreSettled M.spes → result ≡ slice_get (all_of_spus M) 0 }
+    ensures made { (host : Progress) (M : State) → Shows processors.old memory.now host M → AreSettled M.spes → IfSome result (λ s. IsSomeAnd (act M s) (λ N. Shows processors.new memory.now host (closed_in M s N))) }
+    ensures refused { IfNone result (processors.new ≡ processors.old) }
+{
+    for spe in 0..processors.len() as u8 {
+        if act_exec(processors, memory, spe) {
+            return Some(Step::Exec { spe });
+        }
+    }
+    None
+}
+
+/// Does the first allowed step of the first actor that has one, and answers it, or leaves all as it is where none is allowed.
+#[inline(always)]
+fn act_first(
+    processors: &mut [Processor],
+    memory: &mut SharedMemory,
+    host: &mut Host,
+) -> Option<Step>
+    requires many { length processors.old ≤ 16 }
+    requires fit { IsFit (length processors.old) memory.old host.old }
+    requires can { CanGo processors.old memory.old }
+    ensures first { (M : State) → Shows processors.old memory.old host.old M → AreSettled M.spes → result ≡ first_allowed M }
+    ensures made { (M : State) → Shows processors.old memory.old host.old M → AreSettled M.spes → IfSome result (λ s. IsSomeAnd (act M s) (λ N. Shows processors.new memory.new host.new (closed_in M s N))) }
+    ensures refused { IfNone result ((processors.new ≡ processors.old) × (memory.new ≡ memory.old) × (host.new ≡ host.old)) }
+    ensures size { HasSameSize memory.old.locks memory.new.locks }
+    ensures script { host.new.script ≡ host.old.script }
+{
+    match act_first_of_spus(processors, memory) {
+        Some(step) => Some(step),
+        None => {
+            let step = first_of_others(processors, host)?;
+            act_allowed(processors, memory, host, step)
+        }
     }
 }
 
@@ -526,6 +643,46 @@ impl Machine {
             return None;
         }
         first_step(&self.processors, &self.host)
+    }
+
+    /// Makes the step that `pick` answers, and answers it. None exactly where `pick` answers None; then nothing changes.
+    /// It takes no memory.
+    pub fn step_as(&mut self, actor: Actor, choice: u64) -> Option<Step>
+        ensures picked { result ≡ picked_of self.old actor choice }
+        ensures made { IfSome result (λ s. self.new ≡ record self.old { steps = self.old.steps ++ s ∷ [] }) }
+        ensures allowed { IfSome result (λ s. IsSome (next_of self.old s)) }
+        ensures complete { IsSomeAnd (state_of self.old) MissesNone }
+        ensures none { IfNone result (self.new ≡ self.old) }
+    {
+        if self.steps.len() >= self.setup.budget() as usize {
+            return None;
+        }
+        let step = act_picked(
+            &mut self.processors,
+            &mut self.memory,
+            &mut self.host,
+            actor,
+            choice,
+        )?;
+        let _ = self.steps.push(step);
+        Some(step)
+    }
+
+    /// Makes the step that `any_step` answers, and answers it. None exactly where `any_step` answers None; then nothing changes.
+    /// It takes no memory.
+    pub fn step_any(&mut self) -> Option<Step>
+        ensures first { result ≡ first_of self.old }
+        ensures made { IfSome result (λ s. self.new ≡ record self.old { steps = self.old.steps ++ s ∷ [] }) }
+        ensures allowed { IfSome result (λ s. IsSome (next_of self.old s)) }
+        ensures none { IfNone result ((s : Step) → next_of self.old s ≡ None) }
+        ensures same { IfNone result (self.new ≡ self.old) }
+    {
+        if self.steps.len() >= self.setup.budget() as usize {
+            return None;
+        }
+        let step = act_first(&mut self.processors, &mut self.memory, &mut self.host)?;
+        let _ = self.steps.push(step);
+        Some(step)
     }
 
     /// What a step would do, None exactly where `step` would refuse it: the bytes that it fetches, reads and writes, what it tells, and

@@ -12,11 +12,11 @@ use crate::fields::{
     put_atomic, put_command, put_named, put_number, put_slot, put_status, put_word,
 };
 use crate::looking::{After, Before, look_after, look_before};
-use crate::record::put_step;
 use crate::reserving::Reserved;
 use cell_base::{ChannelOp, Step};
 use cell_channels::{MFC_WR_TAG_MASK, MFC_WR_TAG_UPDATE};
 use cell_machine::{Effect, Machine, Note, Place, Span};
+use cell_report::put_step;
 use std::alloc::AllocError;
 
 /// The numbers of the mailboxes in a note; the third is the outbound interrupt mailbox.

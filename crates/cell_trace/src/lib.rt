@@ -5,7 +5,6 @@ mod effects;
 mod fields;
 mod flows;
 mod looking;
-mod record;
 mod reserving;
 
 pub use effects::put_effects;

@@ -1,7 +1,7 @@
 //! The steps of a turn: it is asked for, the machine in the slot makes a step where it can, and the turn is ended.
-ghost use Rattle.std.specs.Prelude.{◌≡◌, ◌+◌, ◌^◌, ◌<◌, ◌≤◌, [], ◌∷◌, ◌++◌, length, Some, None, IfOk, IfErr, IfSome, IfNone, IsSome, OnOk, false};
+ghost use Rattle.std.specs.Prelude.{◌≡◌, ◌+◌, ◌^◌, ◌<◌, ◌≤◌, [], ◌∷◌, ◌++◌, length, Some, None, IfOk, IfErr, OnOk, false};
 ghost use Rattle.cell_base.specs.declared.steps.Step as step;
-ghost use Rattle.cell_machine.specs.Run.{next_of, EndsAs};
+ghost use Rattle.cell_machine.specs.Run.{next_of, first_of, EndsAs};
 ghost use Rattle.cell_turn.specs.Choice.{ran, chosen, made};
 ghost use Rattle.cell_turn.specs.Turn.{with_step};
 ghost use Rattle.cell_turn.specs.Seats.{IsSeatOf, IsReady, HasTurn, Begun, Refused, Played, Ended};
@@ -38,18 +38,6 @@ fn record_len(machine: &Machine) -> u32
     len as u32
 }
 
-/// The step of the actor for this choice where it has one, and else any that is allowed.
-fn choose(machine: &Machine, actor: Actor, choice: u64) -> Option<Step>
-    ensures chosen { result ≡ chosen machine.now actor choice }
-    ensures allowed { IfSome result (λ s. IsSome (next_of machine.now s)) }
-    ensures none { IfNone result ((s : step.Step) → next_of machine.now s ≡ None) }
-{
-    match machine.pick(actor, choice) {
-        Some(step) => Some(step),
-        None => machine.any_step(),
-    }
-}
-
 /// How a run has ended that can't go on.
 fn ending(machine: &Machine) -> End
     requires { (s : step.Step) → next_of machine.now s ≡ None }
@@ -61,19 +49,29 @@ fn ending(machine: &Machine) -> End
     end
 }
 
-/// Makes the step that is chosen, or says how the run has ended where none is allowed.
+/// Makes the first step that is allowed, or says how the run has ended where none is.
+fn take_any(machine: &mut Machine) -> Result<Step, End>
+    ensures first { IfOk result (λ s. first_of machine.old ≡ Some s) }
+    ensures made { IfOk result (λ s. machine.new ≡ made machine.old s) }
+    ensures open { IfOk result (λ _. EndsAs machine.old None) }
+    ensures over { IfErr result (λ e. EndsAs machine.old (Some e) × (machine.new ≡ machine.old)) }
+{
+    match machine.step_any() {
+        Some(step) => Ok(step),
+        None => Err(ending(machine)),
+    }
+}
+
+/// Makes the step of the actor for this choice where it has one, and else any that is allowed, or says how the run has ended where none is.
 fn take_turn(machine: &mut Machine, actor: Actor, choice: u64) -> Result<Step, End>
     ensures chosen { IfOk result (λ s. chosen machine.old actor choice ≡ Some s) }
     ensures made { IfOk result (λ s. machine.new ≡ made machine.old s) }
     ensures open { IfOk result (λ _. EndsAs machine.old None) }
     ensures over { IfErr result (λ e. EndsAs machine.old (Some e) × (machine.new ≡ machine.old)) }
 {
-    let Some(step) = choose(machine, actor, choice) else {
-        return Err(ending(machine));
-    };
-    match machine.step(step) {
-        Ok(_) => Ok(step),
-        Err(_) => unreachable!(),
+    match machine.step_as(actor, choice) {
+        Some(step) => Ok(step),
+        None => take_any(machine),
     }
 }
 

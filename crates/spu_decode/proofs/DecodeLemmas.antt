@@ -70,12 +70,6 @@ unfolding instr_of
 no_spelling-instr_of w none =
     ap (option_map (λ row. fields_of row w)) (find_none (is_of w) ROWS (λ row test. none (fields_of row w) (is_of-spells w row test)))
 
--- what decodes exactly what a word spells is the instruction of the word
-pub exactly-instr_of : (w : ℕ) (found : Option Instr) → w < 2 ^ 32 → ((i : Instr) → (found ≡ Some i) ↔ Spells w i) → found ≡ instr_of w
-exactly-instr_of w (Some i) h exact = sym (Spells-instr_of w i h ((exact i).0 refl))
-exactly-instr_of w None h exact =
-    sym (no_spelling-instr_of w (λ i s. let e : None ≡ Some i = (exact i).1 s in absurd (cc)))
-
 -- what a search finds passes
 found_passes : {X : Type 0} (p : X → Bool) (xs : List X) (x : X) → find p xs ≡ Some x → p x ≡ true
 found_passes p [] x e = absurd (cc)
@@ -88,7 +82,8 @@ found_passes p (y ∷ ys) x e =
       | inr failed ↦ found_passes p ys x (sym (ap (λ b. cond b (Some y) (find p ys)) failed) ∙ e)
     ]
 
-of_mapped : {X : Type 0} (P : X → Type 0) {Y : Type 0} (f : Y → X) (o : Option Y) (x : X) → ((y : Y) → o ≡ Some y → P (f y)) → option_map f o ≡ Some x → P x
+-- what holds of each image holds of what is mapped
+pub of_mapped : {X : Type 0} (P : X → Type 0) {Y : Type 0} (f : Y → X) (o : Option Y) (x : X) → ((y : Y) → o ≡ Some y → P (f y)) → option_map f o ≡ Some x → P x
 of_mapped P f (Some y) x all e =
     let same : f y ≡ x = cc in
     subst P same (all y refl)
@@ -104,14 +99,6 @@ instr_of-Spells w i e =
 pub instr_of-FieldsFit : (w : ℕ) (i : Instr) → instr_of w ≡ Some i → FieldsFit i
 instr_of-FieldsFit w i e = Spells-FieldsFit w i (instr_of-Spells w i e)
 
--- the row of what a word spells
-row_of_some : (w : ℕ) (i : Instr) (row : Row) → instr_of w ≡ Some i → i.row ≡ row → Some row ≡ option_map (λ (j : Instr). j.row) (instr_of w)
-row_of_some w i row is same = ap Some (sym same) ∙ sym (ap (option_map (λ (j : Instr). j.row)) is)
-
-pub row_spelled-row : (w : ℕ) (row : Row) → w < 2 ^ 32 → ((r : Row) → (Some row ≡ Some r) ↔ Begins w r) → IsClear (shape_of row).format w → Some row ≡ option_map (λ (j : Instr). j.row) (instr_of w)
-row_spelled-row w row h only clear =
-    row_of_some w (fields_of row w) row
-    (Spells-instr_of w (fields_of row w) h (spells_from w (fields_of row w) row (row_fields_of row w) ((only row).0 refl) clear refl)) (row_fields_of row w)
-
-pub row_spelled-none : (w : ℕ) → ((i : Instr) → Spells w i → ⊥) → None ≡ option_map (λ (j : Instr). j.row) (instr_of w)
-row_spelled-none w none = sym (ap (option_map (λ (j : Instr). j.row)) (no_spelling-instr_of w none))
+-- what is the instruction of a word is exactly what the word spells
+pub instr_of-exactly : (w : ℕ) (found : Option Instr) → w < 2 ^ 32 → found ≡ instr_of w → (i : Instr) → (found ≡ Some i) ↔ Spells w i
+instr_of-exactly w found h means i = (λ e. instr_of-Spells w i (sym means ∙ e), λ s. means ∙ Spells-instr_of w i h s)

@@ -3,3 +3,4 @@ pub mod EncodeLemmas
 pub mod MnemonicLemmas
 pub mod FitLemmas
 pub mod DecodeLemmas
+pub mod ReadingLemmas

@@ -1,5 +1,5 @@
 -- What the checker computes over the whole table, once, and what follows for each entry.
-use Rattle.std.proofs.Common.{◌≡◌, ℕ, zero, suc, ◌+◌, ◌-◌, ◌*◌, ◌/◌, ◌%◌, ◌^◌, ◌<◌, ◌==◌, nat_lt, Bool, true, ◌&&◌, ◌↔◌, List, [], ◌∷◌, map, drop, slice_get, get_or, Some, None, refl, sym, ◌∙◌, ap, subst, arith, eqb-true, ltb-true, get_or-drop, div-add-mod', zero-add, not-suc-le-zero, inl, inr}
+use Rattle.std.proofs.Common.{◌≡◌, ℕ, zero, suc, ◌+◌, ◌-◌, ◌*◌, ◌/◌, ◌%◌, ◌^◌, ◌<◌, ◌==◌, nat_lt, Bool, true, ◌&&◌, List, [], ◌∷◌, map, drop, slice_get, get_or, Some, refl, sym, ◌∙◌, ap, subst, arith, eqb-true, ltb-true, get_or-drop, div-add-mod', zero-add, not-suc-le-zero, inl, inr}
 use Rattle.std.specs.Option.{option_map}
 use Rattle.std.proofs.lemmas.Bool.{and_parts, cases_lt}
 use Rattle.std.proofs.lemmas.Nat.{mod_below}
@@ -164,17 +164,6 @@ row_of_number w k row h number at =
     subst (λ n. is_sound (w / 2 ^ 21) n ≡ true) number (numbers_sound_at (w / 2 ^ 21)) in
     head_bits (shape_of row).format w h ∙ is_sound_opcode (w / 2 ^ 21) k row sound at
 
-pub no_row : (w : ℕ) → w < 2 ^ 32 → get_or ROW_NUMBERS (w / 2 ^ 21) 0 ≡ 0 → (row : Row) → (None ≡ Some row) ↔ Begins w row
-no_row w h number row = (λ e. absurd (cc), λ begins. let same = number_of_row w row h begins in absurd (omega (arith, same, number)))
-
-pub the_row : (w k : ℕ) (found : Row) → w < 2 ^ 32 → get_or ROW_NUMBERS (w / 2 ^ 21) 0 ≡ suc k → slice_get ROWS k ≡ Some found → (row : Row) → (Some found ≡ Some row) ↔ Begins w row
-the_row w k found h number at row = (
-  λ e. row_of_number w k row h number (at ∙ e),
-  λ begins.
-      let same : k ≡ place row = omega (arith, number_of_row w row h begins, number) in
-      sym at ∙ ap (slice_get ROWS) same ∙ row_at_place row,
-)
-
 named_row : (operands : Operands) (i : Instr) → (named operands i).row ≡ i.row
 named_row Bare i = refl
 named_row _ i = refl
@@ -194,14 +183,3 @@ spells_from w i row at begins clear fields =
       clear = subst (λ r. IsClear (shape_of r).format w) back clear;
       fields = subst (λ r. i ≡ fields_of r w) back fields;
     }
-
-pub spelled : (w : ℕ) (row : Row) → ((r : Row) → (Some row ≡ Some r) ↔ Begins w r) → IsClear (shape_of row).format w → (i : Instr) → (Some (fields_of row w) ≡ Some i) ↔ Spells w i
-spelled w row only clear i = (
-  λ e.
-      let is : fields_of row w ≡ i = cc in
-      subst (λ j. Spells w j) is (spells_from w (fields_of row w) row (row_fields_of row w) ((only row).0 refl) clear refl),
-  λ s.
-      let same : Some row ≡ Some i.row = (only i.row).1 s.opcode in
-      let row_is : i.row ≡ row = cc in
-      ap Some (sym (subst (λ r. i ≡ fields_of r w) row_is s.fields)),
-)

@@ -1,112 +1,46 @@
-ghost use Rattle.std.specs.Prelude.{◌≡◌, ◌+◌, ◌-◌, ◌*◌, ◌^◌, ◌<◌, ◌≤◌, ◌↔◌, IsTrue};
-ghost use Rattle.spu_decode.specs.Spelling.{bits, fields_in, named, IsClear, IsWithin, placed, opcode_bits};
+ghost use Rattle.std.specs.Prelude.{◌≡◌, ◌-◌, ◌*◌, ◌^◌, ◌<◌};
+ghost use Rattle.std.specs.Int.Bits.{bit_and};
+ghost use Rattle.spu_decode.specs.Reading.{reading_of};
+ghost use Rattle.spu_decode.specs.Spelling.{fields_of, named, IsWithin, placed, opcode_bits};
 
 use crate::Instr;
 use crate::row::Row;
 use crate::shape::{Format, Operands, Shape};
 
-/// Bits `from` to `to` of a word.
+/// How the words of a row are read.
+#[derive(Clone, Copy)]
+pub(crate) struct Reading {
+    /// What a word of ones is read as: each field that the row names is a mask of its bits, and each other 0.
+    pub(crate) ones: Instr,
+    /// The bits that must be 0.
+    pub(crate) clear: u32,
+    /// How far from the right RT and the immediate stand. The other fields stand at the same place in all words.
+    pub(crate) rt_shift: u8,
+    pub(crate) imm_shift: u8,
+}
+
+/// A register's number, of the rightmost bits and the mask of its own.
 #[inline(always)]
-fn bits(w: u32, from: u32, to: u32) -> u32
-    requires order { from ≤ to }
-    requires within { to < 31 + from }
-    requires end { to < 32 }
-    ensures { result ≡ bits from to w }
+fn masked(bits: u32, mask: u8) -> u8
+    ensures { result ≡ bit_and bits mask }
 {
-    (w >> (31 - to)) % (1 << (to + 1 - from))
+    (bits & u32::from(mask)) as u8
 }
 
-/// The register whose number begins at a bit.
+/// The fields that a row names, as they stand in a word.
 #[inline(always)]
-fn register(w: u32, from: u32) -> u8
-    requires { from ≤ 25 }
-    ensures { result ≡ bits from (from + 6) w }
+pub(crate) fn read_fields(reading: Reading, w: u32) -> Instr
+    requires { reading ≡ reading_of reading.ones.row }
+    ensures { result ≡ fields_of reading.ones.row w }
 {
-    bits(w, from, from + 6) as u8
-}
-
-/// Whether the bits that must be 0 are.
-pub(crate) fn is_clear(format: Format, w: u32) -> bool
-    ensures { IsTrue result ↔ IsClear format w }
-{
-    match format {
-        Format::Indirect => bits(w, 12, 13) == 0,
-        _ => true,
-    }
-}
-
-/// All fields of a format, as they stand in a word.
-pub(crate) fn read_fields(format: Format, row: Row, w: u32) -> Instr
-    ensures { result ≡ fields_in format row w }
-{
-    let rt = register(w, 25);
-    let ra = register(w, 18);
-    let rb = register(w, 11);
-    match format {
-        Format::Rr => Instr {
-            row,
-            rt,
-            ra,
-            rb,
-            rc: 0,
-            imm: 0,
-        },
-        Format::Indirect => Instr {
-            row,
-            rt,
-            ra,
-            rb: 0,
-            rc: 0,
-            imm: 0,
-        },
-        Format::Rrr => Instr {
-            row,
-            rt: register(w, 4),
-            ra,
-            rb,
-            rc: rt,
-            imm: 0,
-        },
-        Format::Ri7 => Instr {
-            row,
-            rt,
-            ra,
-            rb: 0,
-            rc: 0,
-            imm: rb as u32,
-        },
-        Format::Ri10 => Instr {
-            row,
-            rt,
-            ra,
-            rb: 0,
-            rc: 0,
-            imm: bits(w, 8, 17),
-        },
-        Format::Ri16 => Instr {
-            row,
-            rt,
-            ra: 0,
-            rb: 0,
-            rc: 0,
-            imm: bits(w, 9, 24),
-        },
-        Format::Ri18 => Instr {
-            row,
-            rt,
-            ra: 0,
-            rb: 0,
-            rc: 0,
-            imm: bits(w, 7, 24),
-        },
-        Format::Stop => Instr {
-            row,
-            rt: 0,
-            ra: 0,
-            rb: 0,
-            rc: 0,
-            imm: bits(w, 18, 31),
-        },
+    let ones = reading.ones;
+    Instr {
+        row: ones.row,
+        rt: masked(w >> reading.rt_shift, ones.rt),
+        ra: masked(w >> 7, ones.ra),
+        rb: masked(w >> 14, ones.rb),
+        rc: masked(w, ones.rc),
+        imm: w >> reading.imm_shift & ones.imm,
     }
 }
 

@@ -3,19 +3,22 @@
 
 ghost use Rattle.std.specs.Prelude.{◌≡◌, ℕ, ◌+◌, ◌-◌, ◌*◌, ◌/◌, ◌%◌, ◌^◌, ◌<◌, ◌≤◌, ◌↔◌, slice_index, slice_get, IfSome};
 ghost use Rattle.std.specs.Option.{option_map};
+ghost use Rattle.spu_decode.specs.Reading.{reading_of};
 ghost use Rattle.spu_decode.specs.Spelling.{shape_of, Spells, Begins, FieldsFit, word_of, instr_of};
 ghost use Rattle.spu_decode.specs.declared.Instr.{Instr};
 ghost use Rattle.spu_decode.specs.declared.row.Row.{Row};
 
 mod fields;
 mod names;
+mod readings;
 mod row;
 mod shape;
 mod table;
 
 pub use fields::keep_named;
-use fields::{is_clear, place_fields, place_opcode, read_fields};
+use fields::{Reading, place_fields, place_opcode, read_fields};
 pub use names::{mnemonic, row_named};
+use readings::READINGS;
 pub use row::Row;
 pub use shape::{Format, Operands, Shape};
 use table::{ROW_NUMBERS, ROWS, SHAPES};
@@ -43,13 +46,8 @@ pub fn decode(w: u32) -> Option<Instr>
     ensures one_row { (r s : Row) → Begins w r → Begins w s → r ≡ s }
     ensures fits { IfSome result FieldsFit }
 {
-    let row = row_of(w)?;
-    let shape = row_shape(row);
-    if is_clear(shape.format, w) {
-        Some(keep_named(shape.operands, read_fields(shape.format, row, w)))
-    } else {
-        None
-    }
+    let reading = find_reading(w)?;
+    Some(read_fields(reading, w))
 }
 
 /// The row of the instruction that a word spells, or `None` where no row spells it.
@@ -57,14 +55,8 @@ pub fn decode(w: u32) -> Option<Instr>
 pub fn row_spelled(w: u32) -> Option<Row>
     ensures { result ≡ option_map (λ i. i.row) (instr_of w) }
 {
-    let Some(row) = row_of(w) else {
-        return None;
-    };
-    if is_clear(row_shape(row).format, w) {
-        Some(row)
-    } else {
-        None
-    }
+    let reading = find_reading(w)?;
+    Some(reading.ones.row)
 }
 
 /// The word of an instruction, with 0 in the bits that its row does not name.
@@ -85,19 +77,25 @@ pub fn row_shape(row: Row) -> Shape
     SHAPES[index_of(row)]
 }
 
-/// The row whose opcode the word begins with.
-fn row_of(w: u32) -> Option<Row>
-    ensures { (row : Row) → (result ≡ Some row) ↔ Begins w row }
+/// How the words of the row that a word spells are read, or `None` where no row spells it.
+#[inline(always)]
+fn find_reading(w: u32) -> Option<Reading>
+    ensures { result ≡ option_map (λ i. reading_of i.row) (instr_of w) }
 {
     let number = row_number(w >> 21);
     if number == 0 {
-        None
+        return None;
+    }
+    let reading = reading_at(number - 1);
+    if w & reading.clear == 0 {
+        Some(reading)
     } else {
-        Some(row_at(number - 1))
+        None
     }
 }
 
 /// One more than the number of the row that begins a word with these eleven bits, or 0.
+#[inline(always)]
 fn row_number(top: u32) -> u8
     requires { top < 2048 }
     ensures bound { result < 162 }
@@ -106,12 +104,14 @@ fn row_number(top: u32) -> u8
     ROW_NUMBERS[top as usize]
 }
 
-/// The row with a number.
-fn row_at(number: u8) -> Row
+/// How the words of the row with a number are read.
+#[inline(always)]
+fn reading_at(number: u8) -> Reading
     requires { number < 161 }
-    ensures { slice_get ROWS number ≡ Some result }
+    ensures row { slice_get ROWS number ≡ Some result.ones.row }
+    ensures reading { result ≡ reading_of result.ones.row }
 {
-    ROWS[number as usize]
+    READINGS[number as usize]
 }
 
 /// The place of a row among all.

@@ -1,3 +1,5 @@
+// Made by tools/dev/table.py from specs/Table.antt: change the table, not this, and call it again.
+
 /// The rows of the instruction table, one for each mnemonic.
 #[derive(Clone, Copy, Debug, PartialEq, Eq)]
 pub enum Row {

@@ -1,3 +1,5 @@
+// Made by tools/dev/table.py from specs/Table.antt: change the table, not this, and call it again.
+
 use crate::row::Row;
 use crate::shape::{Format, Operands, Shape};
 

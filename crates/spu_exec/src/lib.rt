@@ -26,6 +26,7 @@ use transfer::{stored_at, value_of};
 
 /// Executes an instruction that stands at `pc`, a multiple of 4 below 262,144.
 /// A channel instruction leaves registers and store as they are, for the machine to act on.
+#[inline(always)]
 #[tactic(auto, unfolding(crate::specs::Meaning::meaning))]
 pub fn exec(i: Instr, pc: u32, regs: &mut Regs, ls: &mut LocalStore) -> Flow
     requires fits { FieldsFit i }

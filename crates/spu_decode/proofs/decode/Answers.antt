@@ -1,35 +1,32 @@
-use Rattle.std.proofs.Common.{◌≡◌, rules, ◌↔◌, Some, None, refl}
-use Rattle.spu_decode.specs.declared.Instr.{Instr}
-use Rattle.spu_decode.specs.Spelling.{IsClear, Spells}
-use Rattle.spu_decode.proofs.TableLemmas.{spelled, one_row}
-use Rattle.spu_decode.proofs.FitLemmas.{Spells-FieldsFit}
-use Rattle.spu_decode.proofs.DecodeLemmas.{exactly-instr_of}
+use Rattle.std.proofs.Common.{◌≡◌, rules, Some, sym, ◌∙◌, ap}
+use Rattle.spu_decode.specs.Spelling.{instr_of}
+use Rattle.spu_decode.proofs.TableLemmas.{one_row}
+use Rattle.spu_decode.proofs.DecodeLemmas.{instr_of-exactly, instr_of-FieldsFit}
+use Rattle.spu_decode.proofs.ReadingLemmas.{found-reading, found-fields}
 use Rattle.spu_decode.proofs.decode.Goals as goal
 
-exact : (c : goal.After-keep_named) → (i : Instr) → (Some c.keep_named.result ≡ Some i) ↔ Spells c.args.w i
-exact c =
-    let clear : IsClear c.row_shape-shape.result.format c.args.w = search rules in
-    rw (c.keep_named.ensures, c.read_fields.ensures, c.row_shape-shape.ensures)
-    (spelled c.args.w c.in_ok-row.row c.in_ok-row.ensures (rw c.row_shape-shape.ensures at clear))
+means : (c : goal.After-read_fields) → Some c.read_fields.result ≡ instr_of c.args.w
+means c = ap Some c.read_fields.ensures ∙ found-fields c.args.w c.in_ok-reading.reading c.in_ok-reading.ensures
 
-pub returns-then-is_clear-clause-exact : goal.returns-then-is_clear-clause-exact
-returns-then-is_clear-clause-exact c = exact c
+pub returns-in_err-reading-clause-exact : goal.returns-in_err-reading-clause-exact
+returns-in_err-reading-clause-exact c =
+    let means : c.from_residual.result ≡ instr_of c.args.w = search rules in
+    instr_of-exactly c.args.w c.from_residual.result c.ranges.w.fits means
 
-pub returns-in_err-row-clause-means : goal.returns-in_err-row-clause-means
-returns-in_err-row-clause-means c =
-    let exact : (i : Instr) → (c.from_residual.result ≡ Some i) ↔ Spells c.args.w i = search rules in
-    exactly-instr_of c.args.w c.from_residual.result c.ranges.w.fits exact
+pub returns-in_err-reading-clause-one_row : goal.returns-in_err-reading-clause-one_row
+returns-in_err-reading-clause-one_row c = λ r s first second. one_row c.args.w r s c.ranges.w.fits first second
 
-pub returns-else-is_clear-clause-means : goal.returns-else-is_clear-clause-means
-returns-else-is_clear-clause-means c =
-    let none : (i : Instr) → (None ≡ Some i) ↔ Spells c.args.w i = search rules in
-    exactly-instr_of c.args.w None c.ranges.w.fits none
+pub read_fields-requires : goal.read_fields-requires
+read_fields-requires c = found-reading c.args.w c.in_ok-reading.reading c.in_ok-reading.ensures
 
-pub returns-then-is_clear-clause-means : goal.returns-then-is_clear-clause-means
-returns-then-is_clear-clause-means c = exactly-instr_of c.args.w _ c.ranges.w.fits (exact c)
+pub returns-clause-exact : goal.returns-clause-exact
+returns-clause-exact c = instr_of-exactly c.args.w _ c.ranges.w.fits (means c)
 
-pub returns-then-is_clear-clause-one_row : goal.returns-then-is_clear-clause-one_row
-returns-then-is_clear-clause-one_row c = λ r s first second. one_row c.args.w r s c.ranges.w.fits first second
+pub returns-clause-means : goal.returns-clause-means
+returns-clause-means c = means c
 
-pub returns-then-is_clear-clause-fits : goal.returns-then-is_clear-clause-fits
-returns-then-is_clear-clause-fits c = Spells-FieldsFit c.args.w c.keep_named.result ((exact c c.keep_named.result).0 refl)
+pub returns-clause-one_row : goal.returns-clause-one_row
+returns-clause-one_row c = λ r s first second. one_row c.args.w r s c.ranges.w.fits first second
+
+pub returns-clause-fits : goal.returns-clause-fits
+returns-clause-fits c = instr_of-FieldsFit c.args.w c.read_fields.result (sym (means c))

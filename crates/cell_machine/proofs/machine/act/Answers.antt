@@ -2,25 +2,17 @@ use Rattle.std.proofs.Common.{◌≡◌, arith, refl}
 use Rattle.cell_base.specs.declared.steps.Step.TheVariants.{Elem, Retire}
 use Rattle.cell_machine.specs.Memory.{lines_of}
 use Rattle.cell_machine.specs.Transfers.{elem, retire}
-use Rattle.cell_machine.proofs.Steps.{act-absent, lines-exec, lines-elem}
-use Rattle.cell_machine.proofs.Controllers.{kept-of, issue-of, can-lines}
+use Rattle.cell_machine.proofs.Steps.{act-absent, lines-elem}
+use Rattle.cell_machine.proofs.Controllers.{kept-of, can-lines}
 use Rattle.cell_machine.proofs.Calm.{elem-same, retire-same}
-use Rattle.cell_machine.proofs.Ending.{exec-acts, flow-acts}
+use Rattle.cell_machine.proofs.Ending.{flow-acts}
 use Rattle.cell_machine.proofs.machine.act.Goals as goal
 
+pub returns-in-Exec-clause-made : goal.returns-in-Exec-clause-made
+returns-in-Exec-clause-made c = λ M shows all. rw c.in-Exec.is (c.act_exec.ensures.made _ M shows all)
+
 pub returns-then-spe-processors-clause-made : goal.returns-then-spe-processors-clause-made
-returns-then-spe-processors-clause-made c = λ M shows all. rw c.in-Exec.is (act-absent _ _ M c.in-Exec.spe shows (omega arith))
-
-pub exec_step-requires-clause-number : goal.exec_step-requires-clause-number
-exec_step-requires-clause-number c = issue-of c.requires.can.lines _ (c.requires.can.each c.in-Exec.spe _ (omega arith))
-
-pub returns-else-spe-processors-clause-made : goal.returns-else-spe-processors-clause-made
-returns-else-spe-processors-clause-made c = λ M shows all. rw c.in-Exec.is
-    (exec-acts _ _ _ M c.in-Exec.spe _ shows all c.requires.many (omega arith) (λ P seen.
-    lines-exec M.memory _ c.lines-lines.result P _ _ shows.memory_is.bytes c.lines-lines.ensures.count (c.exec_step.ensures.made P seen)))
-
-pub returns-then-spe-processors-2-clause-made : goal.returns-then-spe-processors-2-clause-made
-returns-then-spe-processors-2-clause-made c = λ M shows all. rw c.in-Elem.is (act-absent _ _ M c.in-Elem.spe shows (omega arith))
+returns-then-spe-processors-clause-made c = λ M shows all. rw c.in-Elem.is (act-absent _ _ M c.in-Elem.spe shows (omega arith))
 
 pub elem_step-requires-clause-can : goal.elem_step-requires-clause-can
 elem_step-requires-clause-can c =
@@ -31,19 +23,19 @@ elem_step-requires-clause-can c =
     let same : can.lines ≡ c.lines-lines.result = omega arith in
     can-lines can.lines c.lines-lines.result _ same (can.each c.in-Elem.spe _ (omega arith))
 
-pub returns-else-spe-processors-2-clause-made : goal.returns-else-spe-processors-2-clause-made
-returns-else-spe-processors-2-clause-made c = λ M shows all. rw c.in-Elem.is
+pub returns-else-spe-processors-clause-made : goal.returns-else-spe-processors-clause-made
+returns-else-spe-processors-clause-made c = λ M shows all. rw c.in-Elem.is
     (flow-acts (Elem c.in-Elem.spe c.in-Elem.cmd) (λ P. elem (lines_of M.memory) P c.in-Elem.cmd) _ _ _ M c.in-Elem.spe _ shows all c.requires.many (omega arith) (λ P. refl) (λ q. refl) (λ P. elem-same (lines_of M.memory) P c.in-Elem.cmd) (λ P seen.
     lines-elem M.memory _ c.lines-lines.result c.in-Elem.cmd P _ _ shows.memory_is.bytes c.lines-lines.ensures.count (c.elem_step.ensures.made P seen)))
 
-pub returns-then-spe-processors-3-clause-made : goal.returns-then-spe-processors-3-clause-made
-returns-then-spe-processors-3-clause-made c = λ M shows all. rw c.in-Retire.is (act-absent _ _ M c.in-Retire.spe shows (omega arith))
+pub returns-then-spe-processors-2-clause-made : goal.returns-then-spe-processors-2-clause-made
+returns-then-spe-processors-2-clause-made c = λ M shows all. rw c.in-Retire.is (act-absent _ _ M c.in-Retire.spe shows (omega arith))
 
 pub retire_step-requires : goal.retire_step-requires
 retire_step-requires c = kept-of c.requires.can.lines _ (c.requires.can.each c.in-Retire.spe _ (omega arith))
 
-pub returns-else-spe-processors-3-clause-made : goal.returns-else-spe-processors-3-clause-made
-returns-else-spe-processors-3-clause-made c = λ M shows all. rw c.in-Retire.is
+pub returns-else-spe-processors-2-clause-made : goal.returns-else-spe-processors-2-clause-made
+returns-else-spe-processors-2-clause-made c = λ M shows all. rw c.in-Retire.is
     (flow-acts (Retire c.in-Retire.spe c.in-Retire.cmd) (λ P. retire P c.in-Retire.cmd) _ _ _ M c.in-Retire.spe _ shows all c.requires.many (omega arith) (λ P. refl) (λ q. refl) (λ P. retire-same P c.in-Retire.cmd) (λ P seen.
     c.retire_step.ensures.made P seen))
 
