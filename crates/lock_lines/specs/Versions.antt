@@ -1,6 +1,6 @@
 -- Reservations by versions: how many stores touched each line, and which line each processor reserved, at which of its versions.
 use Rattle.std.specs.Prelude.{ℕ, ◌+◌, ◌==◌, ◌&&◌, Bool, false, if◌then◌else◌, List, Option, Some, None, replicate, slice_index_or, slice_set}
-use Rattle.std.specs.Option.{option_and_then, option_map_or}
+use Rattle.std.specs.Option.{option_and_then, option_map, option_map_or}
 
 -- a line, with the version that it had when it was reserved
 pub record Reserved : Type 0 where
@@ -37,6 +37,10 @@ current_line lines r = if is_current lines r.line r then Some r.line else None
 -- the line that processor p holds
 abbrev pub line_held : Versions → ℕ → Option ℕ
 line_held v p = option_and_then (current_line v.lines) (reserved_by v p)
+
+-- the line that processor p reserved, whatever its version is now
+abbrev pub line_reserved : Versions → ℕ → Option ℕ
+line_reserved v p = option_map (λ r. r.line) (reserved_by v p)
 
 -- a store raises the version of its line
 abbrev pub raised : List ℕ → ℕ → List ℕ

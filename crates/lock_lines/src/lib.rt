@@ -1,11 +1,11 @@
 //! The reservations of lines of main memory, one word for each line with one bit for each processor.
 #![tactic(auto)]
 
-ghost use Rattle.std.specs.Prelude.{◌≡◌, ℕ, ◌<◌, ◌≤◌, ◌==◌, ◌&&◌, not, IfOk};
+ghost use Rattle.std.specs.Prelude.{◌≡◌, ℕ, ◌<◌, ◌≤◌, ◌==◌, ◌&&◌, not, IfOk, Some, None, slice_set};
 ghost use Rattle.cell_base.specs.Bits.{has_bit};
 ghost use Rattle.lock_lines.specs.Logs.{Logs, no_logs, held};
 ghost use Rattle.lock_lines.specs.Calls.{IsAbove, after_store, after_getllar, after_putllc, answer_of};
-ghost use Rattle.lock_lines.specs.Versions.{Versions, opening_versions, is_reserved, line_held, stored_to, got, put};
+ghost use Rattle.lock_lines.specs.Versions.{Versions, opening_versions, is_reserved, line_held, line_reserved, stored_to, got, put};
 ghost use Rattle.lock_lines.specs.Marks.{is_marked, IsLineCleared, IsSpeCleared, IsMarkedAlone};
 
 use std::alloc::{AllocError, Global};
@@ -34,13 +34,13 @@ pub enum Lock {
 }
 
 /// Which lines are held. To a contract it is the number of processors and a word for each line, in which the bit of value 2^p says
-/// that processor p holds the line.
+/// that processor p holds the line, and the line that each processor reserved last.
 #[derive(Drop)]
 pub struct LockLines {
     spes: u8,
     words: Vec<u16>,
-    // the line that each processor reserved last: it can hold no other
-    last: [u32; MAX_SPES],
+    // the line that each processor reserved last, if it didn't give it up: it can hold no other
+    reserved: [Option<u32>; MAX_SPES],
 }
 
 impl Model for LockLines {
@@ -70,8 +70,12 @@ impl LockLines {
         ensures versions { IfOk result (λ x. StandsForVersions x (opening_versions lines spes)) }
     {
         let words = vec![in alloc; 0u16; lines as usize]?;
-        let last = [0; MAX_SPES];
-        Ok(LockLines { spes, words, last })
+        let reserved = [None; MAX_SPES];
+        Ok(LockLines {
+            spes,
+            words,
+            reserved,
+        })
     }
 
     /// GETLLAR: the processor reserves the line in place of what it had reserved (CBEA, "MFC atomic update commands"; that there is
@@ -143,12 +147,20 @@ impl LockLines {
         requires { spe < self.now.spes }
         ensures { (v : Versions) → StandsForVersions self.now v → result ≡ line_held v spe }
     {
-        let line = self.last[usize::from(spe)];
+        let line = self.reserved[usize::from(spe)]?;
         if self.held(spe, line) {
             Some(line)
         } else {
             None
         }
+    }
+
+    /// The line that the processor reserved last, held still or lost. None comes exactly where it reserved none, or gave that up.
+    pub fn line_reserved(&self, spe: u8) -> Option<u32>
+        requires { spe < self.now.spes }
+        ensures { (v : Versions) → StandsForVersions self.now v → result ≡ line_reserved v spe }
+    {
+        self.reserved[usize::from(spe)]
     }
 
     /// The processors that hold the line, as bits, of which that of processor p has the value 2^p.
@@ -174,30 +186,35 @@ impl LockLines {
     fn clear_line(&mut self, line: u32)
         requires { line < line_count self.old }
         ensures marks { IsLineCleared line self.old.words self.new.words }
+        ensures reserved { self.new.reserved ≡ self.old.reserved }
         ensures size { HasSameSize self.old self.new }
     {
         self.words[line as usize] = 0;
     }
 
-    /// Takes its mark from the processor, which can only be at the line that it reserved last.
+    /// Takes its mark and its reservation from the processor; the mark can only be at the line that it reserved last.
     fn clear_spe(&mut self, spe: u8)
         requires { spe < self.old.spes }
         ensures marks { IsSpeCleared spe self.old.words self.new.words }
+        ensures reserved { self.new.reserved ≡ slice_set self.old.reserved spe None }
         ensures size { HasSameSize self.old self.new }
     {
-        let line = self.last[usize::from(spe)];
+        let Some(line) = self.reserved[usize::from(spe)].take() else {
+            return;
+        };
         self.words[line as usize] &= !(1 << spe);
     }
 
-    /// Marks the processor at this line and no other.
+    /// Marks the processor at this line and no other, and keeps that it reserved it.
     fn mark_alone(&mut self, spe: u8, line: u32)
         requires spe { spe < self.old.spes }
         requires line { line < line_count self.old }
         ensures marks { IsMarkedAlone spe line self.old.words self.new.words }
+        ensures reserved { self.new.reserved ≡ slice_set self.old.reserved spe (Some line) }
         ensures size { HasSameSize self.old self.new }
     {
         self.clear_spe(spe);
-        self.last[usize::from(spe)] = line;
+        self.reserved[usize::from(spe)] = Some(line);
         self.words[line as usize] |= 1 << spe;
     }
 }
