@@ -6,7 +6,7 @@ use Rattle.mfc_command.specs.declared.command.Command.{Command}
 use Rattle.mfc_command.specs.Order.{is_list}
 use Rattle.mfc_lists.specs.declared.Element.{Element}
 use Rattle.mfc_lists.specs.Readings.{current}
-use Rattle.lock_lines.specs.Versions.{current_line}
+use Rattle.lock_lines.specs.Versions.{Reserved, current_line}
 use Rattle.cell_machine.specs.declared.outstanding.Outstanding.{Outstanding}
 use Rattle.cell_machine.specs.Spe.{Spe, Moves, PartDone}
 use Rattle.cell_machine.specs.Memory.{MainMemory}
@@ -16,6 +16,10 @@ use Rattle.cell_machine.specs.MovesShown.{parts_now, reading}
 -- the line that P holds: it reserved that last, and no store has touched it since
 abbrev pub line_held_by : MainMemory → Spe → Option ℕ
 line_held_by memory P = option_and_then (current_line memory.versions) P.reserved
+
+-- the line that P reserved last, also where a store has touched it since; None where P reserved none, or gave it up
+abbrev pub line_reserved_by : Spe → Option ℕ
+line_reserved_by P = option_map (λ (r : Reserved). r.line) P.reserved
 
 -- the parts of an element of command c that aren't done
 abbrev pub parts_missing : List PartDone → ℕ → Element → List ℕ

@@ -9,7 +9,7 @@ ghost use Rattle.cell_machine.specs.State.{State};
 ghost use Rattle.cell_machine.specs.Next.{act, closed_in, next};
 ghost use Rattle.cell_machine.specs.Moves.{outstanding};
 ghost use Rattle.cell_machine.specs.Exec.{asks};
-ghost use Rattle.cell_machine.specs.Shown.{line_held_by, shown_from};
+ghost use Rattle.cell_machine.specs.Shown.{line_held_by, line_reserved_by, shown_from};
 ghost use Rattle.cell_machine.specs.Kept.{IsKept};
 ghost use Rattle.cell_machine.specs.Choices.{all_of_spus, all_of_mfcs};
 ghost use Rattle.spu_exec.specs.Places.{IsPlace};
@@ -575,6 +575,15 @@ impl Machine {
         ensures { IsSomeAnd (state_of self.now) (λ M. IsSomeAnd (slice_get M.spes spe) (λ P. result ≡ line_held_by M.memory P)) }
     {
         self.memory.locks.line_held(spe)
+    }
+
+    /// The line of main memory that a processor that is there reserved last, held still or lost. None comes exactly where it reserved
+    /// none, or a PUTLLC gave that up.
+    pub fn line_reserved(&self, spe: u8) -> Option<u32>
+        requires { spe < length self.now.setup.entries }
+        ensures { IsSomeAnd (spe_of self.now spe) (λ P. result ≡ line_reserved_by P) }
+    {
+        self.memory.locks.line_reserved(spe)
     }
 
     /// The first outstanding command, of at least this number, of a processor that is there, and how far it has come.
