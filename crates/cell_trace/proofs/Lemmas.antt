@@ -1,6 +1,6 @@
 -- Texts that grow, and lines one after the other.
 use Rattle.std.proofs.Common.{◌≡◌, ℕ, zero, suc, ◌+◌, ◌-◌, ◌<◌, ◌≤◌, Bool, true, false, if◌then◌else◌, nat_lt, List, [], ◌∷◌, ◌++◌, take, drop, drop-cons, get_or, length, arith, refl, sym, ap, ap₂, ◌∙◌, append_assoc, length-append}
-use Rattle.std.specs.Prelude.{Option, Some, None, IsSome, Result, Ok, Err, is_err, is_some, IsTrue, IfOk, OnOk, IsSomeAnd, slice_get, slice_index_or, replicate}
+use Rattle.std.specs.Prelude.{Option, Some, None, IsSome, Result, Ok, Err, is_err, is_some, IsOk, IfOk, OnOk, OnErr, IsSomeAnd, slice_get}
 use Rattle.std.specs.Option.{option_and_then, option_map, option_map_or}
 use Rattle.std.proofs.Math.Seq.{take-append-add}
 use Rattle.std.proofs.lemmas.List.{append-nil, nil_from_length, length-drop, take-append-drop, take_more}
@@ -10,14 +10,11 @@ use Rattle.cell_base.specs.Records.{step_line}
 use Rattle.cell_machine.specs.declared.effect.Effect.{Effect}
 use Rattle.cell_machine.specs.State.{State}
 use Rattle.cell_machine.specs.Next.{next}
-use Rattle.std.specs.List.{enumerate_from}
 use Rattle.cell_machine.specs.Memory.{MainMemory}
 use Rattle.cell_machine.specs.Spe.{Spe}
-use Rattle.cell_machine.specs.Shown.{line_held_by}
-use Rattle.cell_machine.specs.Opening.{Opening, opening, opening_spe}
-use Rattle.cell_machine.proofs.Bounds.{map-got}
+use Rattle.cell_machine.specs.Shown.{line_held_by, line_reserved_by}
+use Rattle.cell_machine.specs.Opening.{opening}
 use Rattle.cell_trace.specs.Flows.{flow_front, flow_back, reserved_fields, flow_line, spe_flow, spe_flows}
-use Rattle.cell_trace.specs.Reserving.{Tracks, line_reserved}
 use Rattle.cell_machine.specs.Effects.{effect_in}
 use Rattle.cell_machine.specs.Run.{Ran, state_of, next_of}
 use Rattle.cell_machine.proofs.Replays.{replay-snoc}
@@ -171,9 +168,14 @@ kept_of n x y b fails made = rw fails at made
 
 -- ---- where a machine stops
 
-pub not_there : {X : Type 0} (o : Option X) (b : Bool) → b ≡ false → (IsSome o → IsTrue b) → o ≡ None
-not_there None b fails h = refl
-not_there (Some x) b fails h = let holds : b ≡ true = h refl in absurd (cc)
+pub kept_by : {X E : Type 0} (r : Result X E) (P : Type 0) → is_err r ≡ true → OnErr r P → P
+kept_by (Ok x) P is h = absurd (cc)
+kept_by (Err e) P is h = h
+
+pub not_allowed : {X E Y : Type 0} (r : Result X E) (o : Option Y) → is_err r ≡ true → (IsSome o → IsOk r) → o ≡ None
+not_allowed r None is h = refl
+not_allowed (Ok x) (Some y) is h = absurd (cc)
+not_allowed (Err e) (Some y) is h = let holds : false ≡ true = h refl in absurd (cc)
 
 pub not_some : {X : Type 0} (o : Option X) (b : Bool) → b ≡ is_some o → b ≡ false → o ≡ None
 not_some None b told fails = refl
@@ -213,52 +215,30 @@ got_within [] c lt = absurd (omega (arith, lt))
 got_within (x ∷ xs) zero lt = (x, refl)
 got_within (x ∷ xs) (suc c) lt = got_within xs c (omega (arith, lt))
 
-pub flow_written : (out first second new : List ℕ) (memory : MainMemory) (p : ℕ) (P : Spe) (line held : Option ℕ) → first ≡ out ++ flow_front p P → second ≡ first ++ reserved_fields line held → held ≡ line_held_by memory P
-    → new ≡ second ++ flow_back P → new ≡ out ++ flow_line memory p P line
+pub flow_written : (out first second new : List ℕ) (memory : MainMemory) (p : ℕ) (P : Spe) (line held : Option ℕ) → first ≡ out ++ flow_front p P → second ≡ first ++ reserved_fields line held → line ≡ line_reserved_by P
+    → held ≡ line_held_by memory P → new ≡ second ++ flow_back P → new ≡ out ++ flow_line memory p P
 unfolding flow_line
-flow_written out first second new memory p P line held a b is d =
+flow_written out first second new memory p P line held a b last is d =
     d ∙ ap (λ t. t ++ flow_back P) (b ∙ ap (λ t. t ++ reserved_fields line held) a ∙ append_assoc out (flow_front p P) (reserved_fields line held))
-    ∙ append_assoc out (flow_front p P ++ reserved_fields line held) (flow_back P) ∙ ap (λ h. out ++ ((flow_front p P ++ reserved_fields line h) ++ flow_back P)) is
+    ∙ append_assoc out (flow_front p P ++ reserved_fields line held) (flow_back P) ∙ ap₂ (λ l h. out ++ ((flow_front p P ++ reserved_fields l h) ++ flow_back P)) last is
 
-pub flows_one : (out whole : List ℕ) (lines : List (Option ℕ)) (memory : MainMemory) (p i : ℕ) (P : Spe) (spes : List Spe) → slice_get spes i ≡ Some P
-    → out ++ spe_flows lines memory p (drop i spes) ≡ whole → (out ++ spe_flow memory p P (slice_index_or lines p None)) ++ spe_flows lines memory (p + 1) (drop (i + 1) spes) ≡ whole
+pub flows_one : (out whole : List ℕ) (memory : MainMemory) (p i : ℕ) (P : Spe) (spes : List Spe) → slice_get spes i ≡ Some P → out ++ spe_flows memory p (drop i spes) ≡ whole
+    → (out ++ spe_flow memory p P) ++ spe_flows memory (p + 1) (drop (i + 1) spes) ≡ whole
 unfolding spe_flows
-flows_one out whole lines memory p i P [] there so_far = absurd (cc)
-flows_one out whole lines memory p zero P (Q ∷ spes) there so_far =
+flows_one out whole memory p i P [] there so_far = absurd (cc)
+flows_one out whole memory p zero P (Q ∷ spes) there so_far =
     let one : suc p ≡ p + 1 = omega arith in
     let same : Q ≡ P = cc in
-    rw (← one, ← same) (append_assoc out (spe_flow memory p Q (slice_index_or lines p None)) (spe_flows lines memory (suc p) spes) ∙ so_far)
-flows_one out whole lines memory p (suc i) P (Q ∷ spes) there so_far =
+    rw (← one, ← same) (append_assoc out (spe_flow memory p Q) (spe_flows memory (suc p) spes) ∙ so_far)
+flows_one out whole memory p (suc i) P (Q ∷ spes) there so_far =
     let e : suc i + 1 ≡ suc (i + 1) = omega arith in
-    rw e (flows_one out whole lines memory p i P spes there so_far)
+    rw e (flows_one out whole memory p i P spes there so_far)
 
-pub flows_none : (out whole : List ℕ) (lines : List (Option ℕ)) (memory : MainMemory) (p i : ℕ) (spes : List Spe) → length spes ≤ i → out ++ spe_flows lines memory p (drop i spes) ≡ whole → out ≡ whole
+pub flows_none : (out whole : List ℕ) (memory : MainMemory) (p i : ℕ) (spes : List Spe) → length spes ≤ i → out ++ spe_flows memory p (drop i spes) ≡ whole → out ≡ whole
 unfolding spe_flows
-flows_none out whole lines memory p i spes le so_far =
+flows_none out whole memory p i spes le so_far =
     let none : drop i spes ≡ [] = nil_from_length (drop i spes) (omega (arith, length-drop i spes)) in
     sym (append-nil out) ∙ (rw none at so_far)
-
--- ---- the start
-
-abbrev no_line : Option ℕ
-no_line = None
-
-none_at : (n p : ℕ) → p < n → slice_get (replicate n no_line) p ≡ Some no_line
-none_at zero p lt = absurd (omega (arith, lt))
-none_at (suc n) zero lt = refl
-none_at (suc n) (suc p) lt = none_at n p (omega (arith, lt))
-
-got_low : {X : Type 0} (xs : List X) (a p : ℕ) (x : ℕ × X) → slice_get (enumerate_from a xs) p ≡ Some x → p < length xs
-got_low [] a p x h = absurd (cc)
-got_low (y ∷ xs) a zero x h = omega arith
-got_low (y ∷ xs) a (suc p) x h = let rest = got_low xs (a + 1) p x h in omega (arith, rest)
-
-pub new_tracks : (S : Opening) → length S.entries ≤ 16 → Tracks (replicate 16 None) (opening S)
-unfolding opening
-new_tracks S few p P there =
-    let g = map-got (opening_spe S) (enumerate_from 0 S.entries) p P there in
-    let low = got_low S.entries 0 p g.0 g.1 in
-    none_at 16 p (omega (arith, low, few)) ∙ ap Some (ap line_reserved g.2)
 
 pub held_of : (o : Option State) (p : ℕ) (M : State) (P : Spe) (held : Option ℕ) → o ≡ Some M → slice_get M.spes p ≡ Some P
     → IsSomeAnd o (λ N. IsSomeAnd (slice_get N.spes p) (λ Q. held ≡ line_held_by N.memory Q)) → held ≡ line_held_by M.memory P

@@ -1,5 +1,5 @@
 -- What the flow controllers hold at a state, a line a processor and a line a command.
-use Rattle.std.specs.Prelude.{ℕ, suc, ◌/◌, ◌==◌, ◌&&◌, if◌then◌else◌, List, [], ◌∷◌, ◌++◌, length, codes, Option, None, slice_index_or, is_some}
+use Rattle.std.specs.Prelude.{ℕ, suc, ◌/◌, ◌==◌, ◌&&◌, if◌then◌else◌, List, [], ◌∷◌, ◌++◌, length, codes, Option, is_some}
 use Rattle.std.specs.List.{flat_map}
 use Rattle.std.specs.Option.{option_map_or}
 use Rattle.cell_base.specs.Records.{field, line_feed}
@@ -18,7 +18,7 @@ use Rattle.cell_machine.specs.Spe.{Spe}
 use Rattle.cell_machine.specs.State.{State}
 use Rattle.cell_machine.specs.Memory.{MainMemory}
 use Rattle.cell_machine.specs.Moves.{outstanding}
-use Rattle.cell_machine.specs.Shown.{line_held_by, shown_at}
+use Rattle.cell_machine.specs.Shown.{line_held_by, line_reserved_by, shown_at}
 use Rattle.cell_trace.specs.Fields.{word, named, bit, command_words, atomic_field, status_field}
 
 -- the parameters of the next command
@@ -76,9 +76,9 @@ flow_back P =
     events_field P.events ++ signals_fields P.signals
     ++ mailbox_field (codes "in") P.inbound ++ mailbox_field (codes "out") P.outbound ++ mailbox_field (codes "intr") P.interrupt ++ line_feed
 
--- processor p, which reserved this line last, but for its commands
-unfoldable pub flow_line : MainMemory → ℕ → Spe → Option ℕ → List ℕ
-flow_line memory p P line = flow_front p P ++ reserved_fields line (line_held_by memory P) ++ flow_back P
+-- processor p, but for its commands
+unfoldable pub flow_line : MainMemory → ℕ → Spe → List ℕ
+flow_line memory p P = flow_front p P ++ reserved_fields (line_reserved_by P) (line_held_by memory P) ++ flow_back P
 
 -- the parts that are left, of all
 abbrev pub left_field : Outstanding → List ℕ
@@ -106,18 +106,18 @@ command_line p it =
 unfoldable pub command_lines : ℕ → Spe → List ℕ → List ℕ
 command_lines p P numbers = flat_map (λ c. option_map_or (command_line p) (shown_at P.moves c) []) numbers
 
-abbrev pub spe_flow : MainMemory → ℕ → Spe → Option ℕ → List ℕ
-spe_flow memory p P line = flow_line memory p P line ++ command_lines p P (outstanding P)
+abbrev pub spe_flow : MainMemory → ℕ → Spe → List ℕ
+spe_flow memory p P = flow_line memory p P ++ command_lines p P (outstanding P)
 
--- the processors from number p on; all reserved these lines last
-unfoldable pub spe_flows : List (Option ℕ) → MainMemory → ℕ → List Spe → List ℕ
-spe_flows lines memory p [] = []
-spe_flows lines memory p (P ∷ spes) = spe_flow memory p P (slice_index_or lines p None) ++ spe_flows lines memory (suc p) spes
+-- the processors from number p on
+unfoldable pub spe_flows : MainMemory → ℕ → List Spe → List ℕ
+spe_flows memory p [] = []
+spe_flows memory p (P ∷ spes) = spe_flow memory p P ++ spe_flows memory (suc p) spes
 
 -- how many actions of the host script are done, of how many
 abbrev pub script_line : ℕ → ℕ → List ℕ
 script_line done all = codes "script" ++ field done ++ field all ++ line_feed
 
 -- all of them
-abbrev pub flows_of : List (Option ℕ) → State → List ℕ
-flows_of lines M = spe_flows lines M.memory 0 M.spes ++ script_line M.host.done (length M.host.script)
+abbrev pub flows_of : State → List ℕ
+flows_of M = spe_flows M.memory 0 M.spes ++ script_line M.host.done (length M.host.script)

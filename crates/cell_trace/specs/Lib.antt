@@ -1,5 +1,4 @@
 pub mod Fields
 pub mod Effects
-pub mod Reserving
 pub mod Flows
 pub mod Allowed

@@ -12,7 +12,6 @@ use crate::fields::{
     put_atomic, put_command, put_named, put_number, put_slot, put_status, put_word,
 };
 use crate::looking::{After, Before, look_after, look_before};
-use crate::reserving::Reserved;
 use cell_base::{ChannelOp, Step};
 use cell_channels::{MFC_WR_TAG_MASK, MFC_WR_TAG_UPDATE};
 use cell_machine::{Effect, Machine, Note, Place, Span};
@@ -246,12 +245,7 @@ fn put_line(
 }
 
 /// Makes a step and writes its line, and says whether it is allowed. Where it isn't, nothing is made or written. The only refusal is want of memory.
-fn put_effect(
-    out: &mut Vec<u8>,
-    m: &mut Machine,
-    reserved: &mut Reserved,
-    step: Step,
-) -> Result<bool, AllocError>
+fn put_effect(out: &mut Vec<u8>, m: &mut Machine, step: Step) -> Result<bool, AllocError>
     ensures told { IfOk result (λ is_told. is_told ≡ is_some (line_in m.old step)) }
     ensures line { OnOk result (out.new.items ≡ out.old.items ++ option_map_or (λ line. line) (line_in m.old step) []) }
     ensures made { IfOk result (λ is_told. m.new ≡ (if is_told then grown m.old step else m.old)) }
@@ -264,7 +258,6 @@ fn put_effect(
     if m.step(step).is_err() {
         return Ok(false);
     }
-    reserved.take_in(step, before.atomic);
     let after = look_after(m, step, before.asked);
     put_line(out, step, &effect, &before, &after)?;
     Ok(true)
@@ -275,7 +268,6 @@ fn put_effect(
 pub fn put_effects(
     out: &mut Vec<u8>,
     m: &mut Machine,
-    reserved: &mut Reserved,
     steps: &[Step],
 ) -> Result<Option<Step>, AllocError>
     ensures lines { OnOk result (out.new.items ≡ out.old.items ++ lines_in m.old steps.now) }
@@ -283,7 +275,7 @@ pub fn put_effects(
     ensures made { IfOk result (Makes m.old steps.now m.new) }
 {
     for step in steps {
-        if !put_effect(out, m, reserved, *step)? {
+        if !put_effect(out, m, *step)? {
             return Ok(Some(*step));
         }
     }

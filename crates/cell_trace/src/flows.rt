@@ -14,7 +14,6 @@ ghost use Rattle.cell_machine.specs.Run.{state_of};
 
 use crate::fields::{put_command, put_named, put_number, put_slot, put_status, put_word};
 use crate::looking::status_of;
-use crate::reserving::Reserved;
 use cell_channels::Channels;
 use cell_machine::{Machine, Outstanding};
 use cell_signals::{Events, Signals};
@@ -243,14 +242,14 @@ fn put_back(out: &mut Vec<u8>, m: &Machine, spe: u8) -> Result<(), AllocError>
     out.extend_from_slice(b"\n")
 }
 
-/// Writes the line of a processor, which reserved this line last.
+/// Writes the line of a processor.
 #[tactic(auto, unfolding(crate::specs::Flows::flow_line))]
-fn put_flow(out: &mut Vec<u8>, m: &Machine, spe: u8, line: Option<u32>) -> Result<(), AllocError>
+fn put_flow(out: &mut Vec<u8>, m: &Machine, spe: u8) -> Result<(), AllocError>
     requires { spe < length m.now.setup.entries }
-    ensures { OnOk result ((M : State) → (P : Spe) → state_of m.now ≡ Some M → slice_get M.spes spe ≡ Some P → out.new.items ≡ out.old.items ++ flow_line M.memory spe P line) }
+    ensures { OnOk result ((M : State) → (P : Spe) → state_of m.now ≡ Some M → slice_get M.spes spe ≡ Some P → out.new.items ≡ out.old.items ++ flow_line M.memory spe P) }
 {
     put_front(out, m, spe)?;
-    put_reserved(out, line, m.line_held(spe))?;
+    put_reserved(out, m.line_reserved(spe), m.line_held(spe))?;
     put_back(out, m, spe)
 }
 
@@ -272,30 +271,30 @@ fn put_commands(out: &mut Vec<u8>, m: &Machine, spe: u8) -> Result<(), AllocErro
 }
 
 /// Writes the lines of a processor.
-fn put_spe(out: &mut Vec<u8>, m: &Machine, spe: u8, line: Option<u32>) -> Result<(), AllocError>
+fn put_spe(out: &mut Vec<u8>, m: &Machine, spe: u8) -> Result<(), AllocError>
     requires { spe < length m.now.setup.entries }
-    ensures { OnOk result ((M : State) → (P : Spe) → state_of m.now ≡ Some M → slice_get M.spes spe ≡ Some P → out.new.items ≡ out.old.items ++ spe_flow M.memory spe P line) }
+    ensures { OnOk result ((M : State) → (P : Spe) → state_of m.now ≡ Some M → slice_get M.spes spe ≡ Some P → out.new.items ≡ out.old.items ++ spe_flow M.memory spe P) }
 {
-    put_flow(out, m, spe, line)?;
+    put_flow(out, m, spe)?;
     put_commands(out, m, spe)
 }
 
-/// Writes the lines of all processors, which reserved these lines last.
-fn put_spes(out: &mut Vec<u8>, m: &Machine, reserved: &Reserved) -> Result<(), AllocError>
-    ensures { OnOk result ((M : State) → state_of m.now ≡ Some M → out.new.items ≡ out.old.items ++ spe_flows reserved.now.lines M.memory 0 M.spes) }
+/// Writes the lines of all processors.
+fn put_spes(out: &mut Vec<u8>, m: &Machine) -> Result<(), AllocError>
+    ensures { OnOk result ((M : State) → state_of m.now ≡ Some M → out.new.items ≡ out.old.items ++ spe_flows M.memory 0 M.spes) }
 {
     for spe in 0..m.setup().spes() {
-        put_spe(out, m, spe, reserved.line(spe))?;
+        put_spe(out, m, spe)?;
     }
     Ok(())
 }
 
 /// Writes what the flow controllers hold, and how far the host has come. The only refusal is want of memory. It takes time as the outstanding commands are
 /// many, each of which has at most 129 parts.
-pub fn put_flows(out: &mut Vec<u8>, m: &Machine, reserved: &Reserved) -> Result<(), AllocError>
-    ensures { OnOk result (IsSomeAnd (state_of m.now) (λ M. out.new.items ≡ out.old.items ++ flows_of reserved.now.lines M)) }
+pub fn put_flows(out: &mut Vec<u8>, m: &Machine) -> Result<(), AllocError>
+    ensures { OnOk result (IsSomeAnd (state_of m.now) (λ M. out.new.items ≡ out.old.items ++ flows_of M)) }
 {
-    put_spes(out, m, reserved)?;
+    put_spes(out, m)?;
     let host = m.host();
     put_script(out, host.place(), m.setup().actions().len() as u32)
 }

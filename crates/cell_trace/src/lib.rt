@@ -4,9 +4,9 @@
 mod effects;
 mod fields;
 mod flows;
+mod following;
 mod looking;
-mod reserving;
 
 pub use effects::put_effects;
 pub use flows::put_flows;
-pub use reserving::{Reserved, follow};
+pub use following::follow;

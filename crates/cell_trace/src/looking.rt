@@ -84,7 +84,7 @@ fn asked_in(m: &Machine, step: Step) -> Option<ChannelOp>
 }
 
 /// The atomic command that the step does.
-pub fn done_in(m: &Machine, step: Step) -> Option<AtomicOp>
+fn done_in(m: &Machine, step: Step) -> Option<AtomicOp>
     ensures { (M : State) → state_of m.now ≡ Some M → result ≡ done_in M step }
 {
     match step {

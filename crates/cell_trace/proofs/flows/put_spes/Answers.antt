@@ -9,11 +9,11 @@ loop-spe-preserved c = λ M at.
     let same = ap (λ (S : Opening). length S.entries) c.setup.ensures.setup in
     let count = of_state (state_of c.args.m.now) _ M at c.setup.ensures.count in
     let here = got_within M.spes c.loop-spe.spe (omega (arith, same, count)) in
-    rw (c.in_ok-put_spe.ensures M here.0 at here.1, c.line.ensures)
-    (flows_one c.loop-spe.out.items _ c.args.reserved.now.lines M.memory c.loop-spe.spe c.loop-spe.spe here.0 M.spes here.1 (c.loop-spe.invariant M at))
+    rw (c.in_ok-put_spe.ensures M here.0 at here.1)
+    (flows_one c.loop-spe.out.items _ M.memory c.loop-spe.spe c.loop-spe.spe here.0 M.spes here.1 (c.loop-spe.invariant M at))
 
 pub returns : goal.returns
 returns c = λ M at.
     let same = ap (λ (S : Opening). length S.entries) c.setup.ensures.setup in
     let count = of_state (state_of c.args.m.now) _ M at c.setup.ensures.count in
-    flows_none c.loop-spe.out.items _ c.args.reserved.now.lines M.memory c.loop-spe.spe c.loop-spe.spe M.spes (omega (arith, same, count)) (c.loop-spe.invariant M at)
+    flows_none c.loop-spe.out.items _ M.memory c.loop-spe.spe c.loop-spe.spe M.spes (omega (arith, same, count)) (c.loop-spe.invariant M at)

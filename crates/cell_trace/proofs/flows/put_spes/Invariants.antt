@@ -7,4 +7,4 @@ use Rattle.cell_trace.proofs.flows.put_spes.Given as goal
 -- what was written, in front of the lines of the processors that are left, is the lines of all
 abbrev pub invariant-loop-spe : goal.invariant-loop-spe
 invariant-loop-spe l = (M : State) → state_of l.m ≡ Some M
-    → l.out.items ++ spe_flows l.reserved.lines M.memory l.spe (drop l.spe M.spes) ≡ l.fn.out.items ++ spe_flows l.reserved.lines M.memory 0 M.spes
+    → l.out.items ++ spe_flows M.memory l.spe (drop l.spe M.spes) ≡ l.fn.out.items ++ spe_flows M.memory 0 M.spes

@@ -1,5 +1,5 @@
 use Rattle.std.proofs.Common.{◌≡◌, ◌++◌, take}
-use Rattle.cell_trace.proofs.reserving.follow.Given as goal
+use Rattle.cell_trace.proofs.following.follow.Given as goal
 
 -- the steps so far were made
 abbrev pub invariant-loop-step : goal.invariant-loop-step
