@@ -52,20 +52,19 @@ effects_told m steps first text at none wrote all =
 
 -- ---- states and flow controllers
 
-pub standing : (m : Ran) (lines : List (Option ℕ)) (old mid new : List ℕ) → Adds (TellsEnd m) old mid → IsSomeAnd (state_of m) (λ M. new ≡ mid ++ flows_of lines M) → Adds (TellsStanding m) old new
-standing m lines old mid new a h =
+pub standing : (m : Ran) (old mid new : List ℕ) → Adds (TellsEnd m) old mid → IsSomeAnd (state_of m) (λ M. new ≡ mid ++ flows_of M) → Adds (TellsStanding m) old new
+standing m old mid new a h =
     let states = a.0 in
     let M = a.1.last in
-    let wrote : new ≡ mid ++ flows_of lines M = subst (λ (o : Option State). IsSomeAnd o (λ N. new ≡ mid ++ flows_of lines N)) a.1.there h in
-    let told : IsSomeAnd (Some M) (λ N. states ++ flows_of lines M ≡ states ++ flows_of lines N) = refl in (
-      states ++ flows_of lines M,
+    let wrote : new ≡ mid ++ flows_of M = subst (λ (o : Option State). IsSomeAnd o (λ N. new ≡ mid ++ flows_of N)) a.1.there h in
+    let told : IsSomeAnd (Some M) (λ N. states ++ flows_of M ≡ states ++ flows_of N) = refl in (
+      states ++ flows_of M,
       record {
         states = states;
         tells = a.1;
-        lines = lines;
-        told = subst (λ (o : Option State). IsSomeAnd o (λ N. states ++ flows_of lines M ≡ states ++ flows_of lines N)) (sym a.1.there) told;
+        told = subst (λ (o : Option State). IsSomeAnd o (λ N. states ++ flows_of M ≡ states ++ flows_of N)) (sym a.1.there) told;
       },
-      wrote ∙ ap (λ t. t ++ flows_of lines M) a.2 ∙ append_assoc old states (flows_of lines M),
+      wrote ∙ ap (λ t. t ++ flows_of M) a.2 ∙ append_assoc old states (flows_of M),
     )
 
 -- ---- steps that are chosen

@@ -1,5 +1,5 @@
 -- What is told of a run.
-use Rattle.std.specs.Prelude.{◌≡◌, ℕ, zero, suc, ◌+◌, ◌-◌, ◌<◌, ◌≤◌, ◌↔◌, Bool, IsTrue, List, [], ◌++◌, take, length, Vec, Option, Some, None, Result, Ok, Err, IsSomeAnd, slice_get}
+use Rattle.std.specs.Prelude.{◌≡◌, ℕ, zero, suc, ◌+◌, ◌-◌, ◌<◌, ◌≤◌, ◌↔◌, Bool, IsTrue, List, [], ◌++◌, take, length, Vec, Some, None, Result, Ok, Err, IsSomeAnd, slice_get}
 use Rattle.std.specs.declared.alloc.Global.{Global}
 use Rattle.std.specs.Fmt.{decimal}
 use Rattle.cell_base.specs.declared.steps.Step.{Step}
@@ -55,9 +55,7 @@ TellsLines setup steps (suc count) text =
 pub record TellsStanding (m : Ran) (text : List ℕ) : Type 0 where
   pub states : List ℕ
   pub tells : TellsEnd m states
-  -- of each processor the line that it reserved last
-  pub lines : List (Option ℕ)
-  pub told : IsSomeAnd (state_of m) (λ M. text ≡ states ++ flows_of lines M)
+  pub told : IsSomeAnd (state_of m) (λ M. text ≡ states ++ flows_of M)
 
 -- what the further steps do that numbers choose; and then how the machine stands, and what may be done next
 pub record Goes (numbers : List ℕ) (m : Ran) (text : List ℕ) : Type 0 where

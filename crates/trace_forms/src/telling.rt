@@ -15,7 +15,7 @@ use crate::words::Ask;
 use cell_base::Step;
 use cell_machine::Machine;
 use cell_report::{record_text, states_text};
-use cell_trace::{Reserved, follow, put_effects, put_flows};
+use cell_trace::{follow, put_effects, put_flows};
 use std::alloc::{AllocError, Global};
 
 /// Writes the states of a machine.
@@ -58,8 +58,7 @@ fn effects_text(alloc: Global, machine: &mut Machine, steps: &[Step]) -> Result<
     ensures { Told machine.old.setup steps.now Ask.Effects result }
 {
     let mut out = Vec::new(alloc);
-    let mut reserved = Reserved::new();
-    let Ok(refused) = put_effects(&mut out, machine, &mut reserved, steps) else {
+    let Ok(refused) = put_effects(&mut out, machine, steps) else {
         return Err(Fault::Memory);
     };
     if refused.is_some() {
@@ -73,8 +72,7 @@ fn states_behind(alloc: Global, machine: &mut Machine, steps: &[Step]) -> Result
     requires { machine.old ≡ start machine.old.setup }
     ensures { Told machine.old.setup steps.now Ask.States result }
 {
-    let mut reserved = Reserved::new();
-    if follow(machine, &mut reserved, steps).is_some() {
+    if follow(machine, steps).is_some() {
         return Err(not_allowed(machine));
     }
     match states_text(alloc, machine) {
@@ -84,16 +82,11 @@ fn states_behind(alloc: Global, machine: &mut Machine, steps: &[Step]) -> Result
 }
 
 /// Writes the states of a machine, and what its flow controllers hold.
-fn put_standing(
-    alloc: Global,
-    out: &mut Vec<u8>,
-    machine: &Machine,
-    reserved: &Reserved,
-) -> Result<(), AllocError>
+fn put_standing(alloc: Global, out: &mut Vec<u8>, machine: &Machine) -> Result<(), AllocError>
     ensures { OnOk result (Adds (TellsStanding machine.now) out.old.items out.new.items) }
 {
     put_states(alloc, out, machine)?;
-    put_flows(out, machine, reserved)
+    put_flows(out, machine)
 }
 
 /// Makes steps from a machine's start, and tells the states and the flow controllers behind them.
@@ -101,12 +94,11 @@ fn flows_text(alloc: Global, machine: &mut Machine, steps: &[Step]) -> Result<Ve
     requires { machine.old ≡ start machine.old.setup }
     ensures { ToldBehind TellsStanding machine.old.setup steps.now result }
 {
-    let mut reserved = Reserved::new();
-    if follow(machine, &mut reserved, steps).is_some() {
+    if follow(machine, steps).is_some() {
         return Err(not_allowed(machine));
     }
     let mut out = Vec::new(alloc);
-    put_standing(alloc, &mut out, machine, &reserved)?;
+    put_standing(alloc, &mut out, machine)?;
     Ok(out)
 }
 
@@ -174,52 +166,37 @@ pub fn tell(
 }
 
 /// Makes the step that the number chooses, where one is allowed, and writes what it does.
-fn put_choice(
-    out: &mut Vec<u8>,
-    machine: &mut Machine,
-    reserved: &mut Reserved,
-    number: u64,
-) -> Result<(), AllocError>
+fn put_choice(out: &mut Vec<u8>, machine: &mut Machine, number: u64) -> Result<(), AllocError>
     ensures lines { OnOk result (AddsChosen machine.old machine.new out.old.items out.new.items) }
     ensures chosen { OnOk result (machine.new ≡ with_choice machine.old number) }
 {
     let Some(step) = chosen(machine, number) else {
         return Ok(());
     };
-    match put_effects(out, machine, reserved, &[step]) {
+    match put_effects(out, machine, &[step]) {
         Ok(_) => Ok(()),
         Err(error) => Err(error),
     }
 }
 
 /// Makes the steps that the numbers choose, where one is allowed, and writes what each does.
-fn put_chosen(
-    out: &mut Vec<u8>,
-    machine: &mut Machine,
-    reserved: &mut Reserved,
-    numbers: &[u64],
-) -> Result<(), AllocError>
+fn put_chosen(out: &mut Vec<u8>, machine: &mut Machine, numbers: &[u64]) -> Result<(), AllocError>
     ensures lines { OnOk result (AddsChosen machine.old machine.new out.old.items out.new.items) }
     ensures chosen { OnOk result (machine.new ≡ with_choices machine.old numbers.now) }
 {
     for number in numbers {
-        put_choice(out, machine, reserved, *number)?;
+        put_choice(out, machine, *number)?;
     }
     Ok(())
 }
 
 /// Makes the steps that the numbers choose, and tells what they do, how the machine stands then, and what may be done next.
-fn going_text(
-    alloc: Global,
-    machine: &mut Machine,
-    reserved: &mut Reserved,
-    numbers: &[u64],
-) -> Result<Vec<u8>, AllocError>
+fn going_text(alloc: Global, machine: &mut Machine, numbers: &[u64]) -> Result<Vec<u8>, AllocError>
     ensures { IfOk result (λ text. Goes numbers.now machine.old text.items) }
 {
     let mut out = Vec::new(alloc);
-    put_chosen(&mut out, machine, reserved, numbers)?;
-    put_standing(alloc, &mut out, machine, reserved)?;
+    put_chosen(&mut out, machine, numbers)?;
+    put_standing(alloc, &mut out, machine)?;
     let may = allowed_text(alloc, machine)?;
     out.extend_from_slice(may.as_slice())?;
     Ok(out)
@@ -235,11 +212,10 @@ fn going_behind(
     requires { machine.old ≡ start machine.old.setup }
     ensures { ToldBehind (Goes numbers.now) machine.old.setup steps.now result }
 {
-    let mut reserved = Reserved::new();
-    if follow(machine, &mut reserved, steps).is_some() {
+    if follow(machine, steps).is_some() {
         return Err(not_allowed(machine));
     }
-    match going_text(alloc, machine, &mut reserved, numbers) {
+    match going_text(alloc, machine, numbers) {
         Ok(text) => Ok(text),
         Err(_) => Err(Fault::Memory),
     }
