@@ -1,9 +1,9 @@
 //! What is looked at in a run that is to be reordered.
 
-ghost use Rattle.std.specs.Prelude.{◌≡◌, ◌∷◌, ◌++◌, [], IfOk, OnOk, Some, length, slice_get};
+ghost use Rattle.std.specs.Prelude.{◌≡◌, ◌∷◌, ◌++◌, [], IfOk, OnOk, OnErr, Some, length, slice_get};
 ghost use Rattle.cell_machine.specs.Effects.{effect_in};
 ghost use Rattle.race_check.specs.Races.{IsVerdict};
-ghost use Rattle.race_check.specs.Searches.{IsClear, run_of};
+ghost use Rattle.race_check.specs.Searches.{HasMadeAtMost, IsClear, run_of};
 ghost use Rattle.run_permute.specs.Places.{until};
 ghost use Rattle.run_walk.specs.Walks.{IsLast, walked};
 ghost use Rattle.settled.specs.Walks.{IsMadeFrom};
@@ -52,7 +52,8 @@ impl Looks {
         Ok(())
     }
 
-    /// Makes the next step of the search, which stands at this place, and takes it where no race is found.
+    /// Makes the next step of the search, which stands at this place, and takes it where no race is found. Want of memory is the only refusal:
+    /// then the run is the old one, or already that with the step.
     pub fn advance(
         &mut self,
         search: &mut Search,
@@ -68,6 +69,7 @@ impl Looks {
         ensures verdict { IfOk result (IsVerdict (run_of search.new)) }
         ensures clear { IfOk result (λ v. v ≡ Verdict.Accepted → IsClear search.new) }
         ensures looks { IfOk result (λ v. v ≡ Verdict.Accepted → LooksAt (run_of search.new) self.new) }
+        ensures failed { OnErr result (HasMadeAtMost (run_of search.old) step (run_of search.new)) }
     {
         let made = Made::of(search.machine(), step, effect);
         let Ok(verdict) = search.advance(step, effect) else {

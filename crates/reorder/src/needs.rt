@@ -1,6 +1,6 @@
 //! What each step of a run needs, as the run is made.
 
-ghost use Rattle.std.specs.Prelude.{◌≡◌, [], IfOk, OnOk, Some, length, slice_get};
+ghost use Rattle.std.specs.Prelude.{◌≡◌, [], IfOk, OnOk, OnErr, Some, length, slice_get};
 ghost use Rattle.cell_machine.specs.Opening.{Opening};
 ghost use Rattle.run_permute.specs.Places.{until};
 ghost use Rattle.run_walk.specs.Walks.{IsLast, walked};
@@ -13,7 +13,7 @@ use run_walk::Walk;
 use std::alloc::{AllocError, Global};
 
 /// Of each step of a run so far some that are ordered before it, such that every other one that is so is ordered before one of them.
-/// After want of memory it is of no use any more.
+/// After want of memory no step can be taken any more.
 #[derive(Drop)]
 pub struct Needs {
     alloc: Global,
@@ -38,12 +38,14 @@ impl Needs {
         })
     }
 
-    /// Takes the last step of the walk, which stands at this place of its run. Want of memory is the only refusal.
+    /// Takes the last step of the walk, which stands at this place of its run. Want of memory is the only refusal: then what the steps before it
+    /// need stays.
     pub fn follow(&mut self, walk: &Walk, place: u32, step: Step) -> Result<(), AllocError>
         requires last { IsLast walk.now place }
         requires step { slice_get (walked walk.now).steps place ≡ Some step }
         requires gathers { Gathers (until (walked walk.now) place) self.old }
-        ensures { OnOk result (Gathers (walked walk.now) self.new) }
+        ensures gathers { OnOk result (Gathers (walked walk.now) self.new) }
+        ensures failed { OnErr result (self.new.needs.items ≡ self.old.needs.items) }
     {
         let _steps = walk.machine().steps(); // which are a run, as its contract says
         let needs = gather(self.alloc, &self.tracks, walk)?;

@@ -1,6 +1,6 @@
 //! Whether a run is settled, as it is made.
 
-ghost use Rattle.std.specs.Prelude.{◌≡◌, ◌↔◌, [], IfOk, OnOk, IsTrue, Some, length, slice_get};
+ghost use Rattle.std.specs.Prelude.{◌≡◌, ◌↔◌, [], IfOk, OnOk, OnErr, IsTrue, Some, length, slice_get};
 ghost use Rattle.cell_machine.specs.Opening.{Opening};
 ghost use Rattle.cell_machine.specs.Run.{Ran};
 ghost use Rattle.run_permute.specs.Places.{until};
@@ -18,7 +18,7 @@ use cell_machine::Machine;
 use run_walk::Walk;
 use std::alloc::{AllocError, Global};
 
-/// Whether a run is settled so far, and while it is, what is kept of each processor. After want of memory it is of no use any more.
+/// Whether a run is settled so far, and while it is, what is kept of each processor. After want of memory no step can be taken any more.
 #[derive(Drop)]
 pub struct Settling {
     alloc: Global,
@@ -39,7 +39,8 @@ impl Settling {
         })
     }
 
-    /// Takes the last step of the walk, which stands at this place of its run, and did and asked for this. Want of memory is the only refusal.
+    /// Takes the last step of the walk, which stands at this place of its run, and did and asked for this. Want of memory is the only refusal:
+    /// then it tells of the run without that step what it told.
     pub fn follow(
         &mut self,
         walk: &Walk,
@@ -51,7 +52,8 @@ impl Settling {
         requires step { slice_get (walked walk.now).steps place ≡ Some step }
         requires made { IsMadeFrom (until (walked walk.now) place) step made.now }
         requires follows { Follows (until (walked walk.now) place) self.old }
-        ensures { OnOk result (Follows (walked walk.now) self.new) }
+        ensures follows { OnOk result (Follows (walked walk.now) self.new) }
+        ensures failed { OnErr result (self.new.settled ≡ self.old.settled) }
     {
         let _steps = walk.machine().steps(); // which are a run, as its contract says
         if !self.settled {

@@ -36,7 +36,7 @@ returns-then-not-is_settled_so_far c =
     let w = walked c.advance.new.self in
     let made = first-more m i step (walked c.loop-step.walk) w c.loop-step.invariant.made at c.in_ok-advance.ensures.run in
     let within : i + 1 ≤ length m.steps = subst (λ steps. i + 1 ≤ length steps) c.steps-step-items.ensures.steps (omega arith) in
-    unsettled-told w m (i + 1) c.follow.new.self c.is_settled_so_far.result c.steps-step-items.ensures.run within made c.in_ok-follow.ensures (c.is_settled_so_far.ensures w c.in_ok-follow.ensures) c.if-not-is_settled_so_far.true
+    unsettled-told w m (i + 1) c.follow.new.self c.is_settled_so_far.result c.steps-step-items.ensures.run within made c.in_ok-follow.ensures.follows (c.is_settled_so_far.ensures w c.in_ok-follow.ensures.follows) c.if-not-is_settled_so_far.true
 
 pub returns : goal.returns
 returns c =

@@ -31,8 +31,8 @@ add-requires c =
     let within = subst (λ n. IsWithin n c.args.step) (sym g.spes) (step-inside m c.args.place c.args.step run c.requires.step) in
     (st.at, (refl, (within, (ap length c.as_mut_slice-tracks.ensures.value ∙ g.long, subst (AreTracks m c.args.place) (sym c.as_mut_slice-tracks.ensures.value) before))))
 
-pub returns : goal.returns
-returns c =
+pub returns-clause-gathers : goal.returns-clause-gathers
+returns-clause-gathers c =
     let m = walked c.args.walk.now in
     let self = c.args.self.now in
     let run = subst (λ (r : Ran). IsRun r.setup r.steps) c.machine.ensures c.steps-steps.ensures.run in

@@ -8,8 +8,8 @@ use Rattle.settled.proofs.Settlings.{earlier, stepped, stepped-follows, unsettle
 use Rattle.settled.proofs.Walking.{made-there}
 use Rattle.settled.proofs.settling.Settling.follow.Goals as goal
 
-pub returns-then-not-self : goal.returns-then-not-self
-returns-then-not-self c =
+pub returns-then-not-self-clause-follows : goal.returns-then-not-self-clause-follows
+returns-then-not-self-clause-follows c =
     let m = walked c.args.walk.now in
     let run = subst (λ (r : Ran). IsRun r.setup r.steps) c.machine.ensures c.steps-steps.ensures.run in
     let st = stepped c.args.walk.now c.args.place run c.requires.last in
@@ -25,8 +25,8 @@ follow-requires c =
       (c.requires.step, (made-there m c.args.place c.args.step c.args.made.now (until m c.args.place) run refl c.requires.step c.requires.made, (subst (AreWatches m c.args.place) (sym c.as_mut_slice-watches.ensures.value) e.0, e.1))),
     )
 
-pub returns : goal.returns
-returns c =
+pub returns-clause-follows : goal.returns-clause-follows
+returns-clause-follows c =
     let m = walked c.args.walk.now in
     let self = c.args.self.now in
     let run = subst (λ (r : Ran). IsRun r.setup r.steps) c.machine.ensures c.steps-steps.ensures.run in
