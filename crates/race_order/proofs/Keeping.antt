@@ -30,7 +30,7 @@ use Rattle.race_order.proofs.Histories.{status_next, same_progress, Later, later
 use Rattle.race_order.proofs.Elements.{may_at}
 use Rattle.race_order.proofs.Queues.{of_here, resumes_here, resumes_there, no_step_after, no_resume_after, queue_full}
 use Rattle.race_order.proofs.PastLaws.{past_grows, chain_queue}
-use Rattle.race_order.proofs.Answering.{made, new_step}
+use Rattle.race_order.proofs.Answering.{new_step}
 use Rattle.race_order.proofs.Wholes.{complete_waits, part_waits, waits_more}
 use Rattle.race_order.specs.Pasts.{IsPast, Over}
 use Rattle.race_order.specs.Premises.{MayStep, QueueMay, IsQueued, IsNext, IsQuiet}

@@ -46,6 +46,8 @@ pub mod Growing
 pub mod InPlace
 pub mod Untouched
 pub mod OwnSteps
+pub mod OwnStands
+pub mod OwnSets
 pub mod Moving
 pub mod Telling
 pub mod Turns

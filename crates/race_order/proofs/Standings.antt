@@ -54,11 +54,10 @@ name_is o trace i a stands low is =
     let g : slice_get o.names.items i ≡ Some (stamp o.spes i h.0) = stands.names.named i h.0 h.1 in
     record { event = h.0; at = h.1; is = is ∙ get_or_from_slice_get o.names.items i (stamp o.spes i h.0) a g }
 
-pub name_within : (o : Orderer) (trace : Trace) (i : ℕ) (a : At) → StandsFor o trace → IsStamp o.spes trace i a → a.chain < o.last.chains
+pub name_within : (o : Orderer) (trace : Trace) (i : ℕ) (a : At) → StandsFor o trace → IsStamp o.spes trace i a → a.chain < 3 * o.spes + 1
 name_within o trace i a stands st =
     let w : chain_of o.spes st.event.step < 3 * o.spes + 1 = chain_low o.spes st.event.step (stands.orderly i st.event st.at).within in
     let e : a.chain ≡ chain_of o.spes st.event.step = ap (λ (x : At). x.chain) st.is in
-    let l : o.last.chains ≡ 3 * o.spes + 1 = stands.last_chains in
     omega arith
 
 none_over : (next : List Live) → list_any (λ (l : Live). false) next ≡ false
@@ -113,6 +112,23 @@ module _ (n : ℕ) (trace : Trace) (e : Event) (orderly : IsOrderly n (trace ++ 
     pub keep_next : Keep n T final
     keep_next =
         record { holds = λ r k. subst (λ s. Holds Rule n (IsPast n) T s (QueueSource T r)) (sym (fun_ext (λ a. same r k a))) (all_kept n trace e orderly queued sets passed.all kept.holds brought pointed nx r (kept_before n trace e orderly queued sets passed.all kept.holds brought pointed nx r k)) }
+
+    -- with what names the step, what is known before it is what is ordered before it, as far as other steps are asked for
+    pub named_next : IsLast n T brought
+    named_next =
+        record {
+          says = λ i a st low. (
+            λ t. let v = pointed.sound i a st t in by i low v.source v.is v.ordered,
+            λ o. pointed.full i a st record { source = length trace; is = refl; ordered = inr (subst (Ordered Rule T i) (sym last) o) },
+          );
+        }
+      where
+        last : length trace ≡ length T - 1
+        last = let k : length T ≡ length trace + 1 = longer trace e in omega arith
+
+        by : (i : ℕ) → i + 1 < length T → (k : ℕ) → k ≡ length trace → (i ≡ k) ⊎ Ordered Rule T i k → Ordered Rule T i (length T - 1)
+        by i low k is (inl same) = let l : length T ≡ length trace + 1 = longer trace e in absurd (omega arith)
+        by i low k is (inr o) = subst (Ordered Rule T i) (is ∙ last) o
 
     pub own_next : HaveOwn n final T
     own_next =

@@ -1,5 +1,5 @@
 -- What a step brings into the sets, and what becomes of them.
-use Rattle.std.specs.Prelude.{◌≡◌, ℕ, ◌+◌, ◌*◌, ◌≤◌, ◌||◌, ◌++◌, Bool, true, false, List, map}
+use Rattle.std.specs.Prelude.{◌≡◌, ℕ, ◌+◌, ◌*◌, ◌≤◌, ◌||◌, ◌++◌, Bool, false, List, map}
 use Rattle.std.specs.List.{list_any}
 use Rattle.order_sets.specs.declared.facts.At.{At}
 use Rattle.order_sets.specs.Facts.{covers}
@@ -13,7 +13,6 @@ use Rattle.race_order.specs.declared.brought.Brought.{Brought}
 use Rattle.race_order.specs.declared.lives.Live.{Live}
 use Rattle.race_order.specs.declared.roles.QueueRole.{QueueRole}
 use Rattle.race_order.specs.declared.roles.QueueRole.TheVariants.{Base}
-use Rattle.race_order.specs.declared.roles.Role.TheVariants.{OfExec}
 use Rattle.cell_base.specs.declared.steps.Step.TheVariants.{Exec}
 use Rattle.cell_machine.specs.declared.effect.Note.TheVariants.{Nothing}
 use Rattle.race_order.specs.Lives.{moved}
@@ -63,13 +62,8 @@ pub record AreKept (n : ℕ) (step : Step) (effect : Effect) (after : At → Boo
   pub stepped : AreStepped n step effect after lives into old all
   pub kept : (r : QueueRole) (a : At) → is_over (nexts step effect lives) r ≡ false → new r a ≡ all r a
 
--- it is an instruction of processor p that tells nothing, and so looks at nothing but the instructions before it
-pub record IsPlain (b : Brought) (p : ℕ) : Type 0 where
-  pub step : b.step ≡ Exec p
-  pub note : b.effect.now.note ≡ Nothing
-  pub whole : b.whole ≡ false
-  pub fixed : b.effect.now.fixed ≡ false
-
--- of such an instruction the set of the instructions has what is known before it
-abbrev pub KnowsOwn : Brought → View → Type 0
-KnowsOwn b t = (p : ℕ) (a : At) → IsPlain b p → has_at b.known.now a ≡ true → t (Base (OfExec p)) a ≡ true
+-- the step is an instruction of processor p that tells nothing, and so looks at nothing but the instructions before it
+pub record IsPlain (step : Step) (effect : Effect) (p : ℕ) : Type 0 where
+  pub is : step ≡ Exec p
+  pub note : effect.note ≡ Nothing
+  pub fixed : effect.fixed ≡ false

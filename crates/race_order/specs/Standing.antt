@@ -1,5 +1,5 @@
 -- The run that an orderer stands for.
-use Rattle.std.specs.Prelude.{◌≡◌, ℕ, ◌+◌, ◌*◌, ◌-◌, ◌<◌, ◌≤◌, ◌↔◌, Bool, true, List, [], ◌∷◌, ◌++◌, Option, Some, None, length, slice_get}
+use Rattle.std.specs.Prelude.{◌≡◌, ℕ, ◌+◌, ◌*◌, ◌-◌, ◌<◌, ◌≤◌, ◌↔◌, Bool, true, List, [], ◌∷◌, ◌++◌, Option, Some, None, IfSome, length, slice_get}
 use Rattle.order_sets.specs.declared.facts.At.{At}
 use Rattle.order_sets.specs.Stands.{has_at}
 use Rattle.race_order.specs.Trace.{Event, Trace}
@@ -14,6 +14,10 @@ use Rattle.race_order.specs.declared.lists.Issued.{Issued}
 use Rattle.race_order.specs.declared.lives.Live.{Live}
 use Rattle.race_order.specs.declared.orderer.Orderer.{Orderer}
 use Rattle.race_order.specs.declared.roles.QueueRole.{QueueRole}
+use Rattle.race_order.specs.declared.roles.QueueRole.TheVariants.{Base}
+use Rattle.race_order.specs.declared.roles.Role.TheVariants.{OfExec}
+use Rattle.race_order.specs.declared.sets.Sets.{Sets}
+use Rattle.order_sets.specs.declared.known.Known.{Known}
 use Rattle.race_order.specs.Premises.{IsQueued}
 use Rattle.race_order.specs.Sources.{QueueSource, IsKept, HaveOwn}
 use Rattle.race_order.specs.Lives.{ShowsLives, lives_of}
@@ -37,12 +41,18 @@ pub record IsLast (n : ℕ) (trace : Trace) (known : At → Bool) : Type 0 where
 pub record Keep (n : ℕ) (trace : Trace) (sets : QueueRole → At → Bool) : Type 0 where
   pub holds : (r : QueueRole) → IsKept trace r → Holds Rule n (IsPast n) trace (sets r) (QueueSource trace r)
 
+-- what is known before the last step: the set of a processor's instructions has it, or a set of its own
+abbrev pub known_in : Option ℕ → Sets → Known → At → Bool
+known_in (Some p) sets known a = sets_have sets (Base (OfExec p)) a
+known_in None sets known a = has_at known a
+
 pub record StandsFor (o : Orderer) (trace : Trace) : Type 0 where
   pub some : 1 ≤ o.spes
   pub spes : o.spes ≤ 16
   pub orderly : IsOrderly o.spes trace
   pub queued : IsQueued trace
   pub chains : AreOf (3 * o.spes + 1) o.sets
+  pub own_spe : IfSome o.own (λ p. p < o.spes)
   pub last_chains : o.last.chains ≡ 3 * o.spes + 1
   pub spare_chains : o.spare.chains ≡ 3 * o.spes + 1
   pub counts : Shows o.spes o.boxes trace
@@ -51,4 +61,4 @@ pub record StandsFor (o : Orderer) (trace : Trace) : Type 0 where
   pub lives : (p : ℕ) → p < o.spes → ShowsLives p (lives_of o.lives.items p) trace
   pub own : HaveOwn o.spes (sets_have o.sets) trace
   pub kept : Keep o.spes trace (sets_have o.sets)
-  pub last : IsLast o.spes trace (has_at o.last)
+  pub last : IsLast o.spes trace (known_in o.own o.sets o.last)

@@ -1,9 +1,10 @@
 -- What a table of sets has.
-use Rattle.std.specs.Prelude.{◌≡◌, ℕ, zero, suc, ◌+◌, ◌*◌, ◌/◌, ◌%◌, ◌<◌, ◌≤◌, ◌==◌, ◌&&◌, Bool, true, false, ⊤, List, [], ◌∷◌, All as Each}
+use Rattle.std.specs.Prelude.{◌≡◌, ℕ, zero, suc, ◌+◌, ◌*◌, ◌/◌, ◌%◌, ◌<◌, ◌≤◌, ◌==◌, ◌&&◌, Bool, true, false, ⊤, List, [], ◌∷◌, Option, Some, None, length, slice_get, All as Each}
 use Rattle.std.specs.List.{list_any}
 use Rattle.order_sets.specs.declared.facts.At.{At}
 use Rattle.order_sets.specs.declared.facts.Fact.{Fact}
 use Rattle.order_sets.specs.declared.facts.Fact.TheVariants.{Upto}
+use Rattle.order_sets.specs.declared.known.Known.{Known}
 use Rattle.order_sets.specs.Stands.{has_at}
 use Rattle.race_order.specs.Roles.{same_role as same_base}
 use Rattle.race_order.specs.declared.roles.Role.{Role}
@@ -15,6 +16,7 @@ use Rattle.race_order.specs.declared.roles.QueueRole.TheVariants.{Base, Waits, C
 use Rattle.race_order.specs.declared.moves.Move.{Move}
 use Rattle.race_order.specs.declared.buckets.Row.{Row}
 use Rattle.race_order.specs.declared.buckets.Bucket.{Bucket}
+use Rattle.race_order.specs.declared.table.Table.{Table}
 use Rattle.race_order.specs.declared.sets.Sets.{Sets}
 
 abbrev pub same_class : Class → Class → Bool
@@ -76,16 +78,33 @@ abbrev pub FitsChains : ℕ → Fact → Type 0
 FitsChains chains (Upto chain place) = chain < chains
 FitsChains chains _ = ⊤
 
+-- the set of the role in a table
+abbrev pub table_has : Table → QueueRole → At → Bool
+table_has table r at = has_in table.buckets.items (number r) r at
+
+-- the set of a processor's instructions, which stands apart
+abbrev pub own_of : List Known → QueueRole → Option Known
+own_of own (Base (OfExec p)) = slice_get own p
+own_of own _ = None
+
+abbrev pub has_or : Option Known → At → Bool → Bool
+has_or (Some known) at other = has_at known at
+has_or None at other = other
+
 -- the set of the role
 abbrev pub sets_have : Sets → QueueRole → At → Bool
-sets_have sets r at = has_in sets.buckets.items (number r) r at
+sets_have sets r at = has_or (own_of sets.own.items r) at (table_has sets.table r at)
 
 abbrev pub AreRowsOf : ℕ → List Row → Type 0
 AreRowsOf chains rows = Each (λ row. row.known.chains ≡ chains) rows
 
--- they are of 1 to 16 processors, and each has that many chains
+-- it is of 1 to 16 processors, and each set has that many chains
+abbrev pub IsTableOf : ℕ → Table → Type 0
+IsTableOf chains table = (1 ≤ table.spes) × (table.spes ≤ 16) × (3 * table.spes + 1 ≡ chains) × Each (λ b. AreRowsOf chains b.rows.items) table.buckets.items
+
+-- the same of all sets, of which each processor has its own
 abbrev pub AreOf : ℕ → Sets → Type 0
-AreOf chains sets = (1 ≤ sets.spes) × (sets.spes ≤ 16) × (3 * sets.spes + 1 ≡ chains) × Each (λ b. AreRowsOf chains b.rows.items) sets.buckets.items
+AreOf chains sets = IsTableOf chains sets.table × (length sets.own.items ≡ sets.table.spes) × Each (λ (known : Known). known.chains ≡ chains) sets.own.items
 
 -- the move brings the step into the role's set
 abbrev pub moves_to : Sets → QueueRole → At → Move → Bool

@@ -8,7 +8,7 @@ ghost use Rattle.race_order.specs.Counted.{Fits};
 ghost use Rattle.race_order.specs.Lives.{HaveRoom, AreWithin, AreOutstanding, lives_of, near};
 ghost use Rattle.race_order.specs.Ordering.{issued_in, issue_list, spe_in};
 ghost use Rattle.race_order.specs.Passes.{AreMoved, is_over};
-ghost use Rattle.race_order.specs.Bringing.{has_brought, IsOfChains, entered, nexts, AreStepped, AreKept, KnowsOwn};
+ghost use Rattle.race_order.specs.Bringing.{has_brought, IsOfChains, entered, nexts, AreStepped, AreKept};
 ghost use Rattle.race_order.specs.Standing.{with_issued};
 ghost use Rattle.race_order.specs.Tables.{sets_have, AreOf};
 
@@ -20,7 +20,6 @@ use crate::going::go_on_all;
 use crate::lists::{find_issue, spe_of};
 use crate::lives::{Live, touch_all};
 use crate::passes::{pass_done, pass_fixed, pass_issued};
-use crate::plain::{enter_own, plain_of};
 use crate::progress::begin;
 use crate::sets::Sets;
 use cell_base::Step;
@@ -40,8 +39,8 @@ fn pass_issue(sets: &mut Sets, spare: &mut Known, step: Step, note: Note) -> Res
     }
 }
 
-/// Any step and its moves, one after the other. The commands are then as after it, also complete ones; answers whether there is one of these.
-fn apply_any(
+/// The step and its moves, one after the other. The commands are then as after it, also complete ones; answers whether there is one of these.
+fn apply(
     sets: &mut Sets,
     spare: &mut Known,
     lives: &mut [Live],
@@ -69,37 +68,6 @@ fn apply_any(
     pass_done(sets, spare, lives, done)?;
     pass_fixed(sets, spare, step, brought.effect.fixed)?;
     Ok(done)
-}
-
-/// The step and its moves. The commands are then as after it, also complete ones; answers whether there is one of these.
-fn apply(
-    sets: &mut Sets,
-    spare: &mut Known,
-    lives: &mut [Live],
-    boxes: &Boxes,
-    brought: &Brought,
-) -> Result<bool, OrderError>
-    requires fits { Fits boxes.now brought.now.effect.now.note }
-    requires room { HaveRoom lives.old }
-    requires live { AreOutstanding lives.old }
-    requires within { AreWithin brought.now.spes lives.old }
-    requires brought { IsOfChains brought.now }
-    requires sets { AreOf (3 * brought.now.spes + 1) sets.old }
-    requires own { KnowsOwn brought.now (sets_have sets.old) }
-    requires spare { spare.old.chains ≡ 3 * brought.now.spes + 1 }
-    ensures stepped { OnOk result (AreStepped brought.now.spes brought.now.step brought.now.effect.now (has_brought brought.now) lives.old (entered boxes.now brought.now) (sets_have sets.old) (sets_have sets.new)) }
-    ensures next { OnOk result (lives.new ≡ nexts brought.now.step brought.now.effect.now lives.old) }
-    ensures done { IfOk result (λ done. done ≡ list_any (λ l. l.progress.done) lives.new) }
-    ensures chains { OnOk result (AreOf (3 * brought.now.spes + 1) sets.new) }
-    ensures spare { spare.new.chains ≡ spare.old.chains }
-{
-    match plain_of(brought) {
-        Some(spe) => {
-            enter_own(sets, spe, brought)?;
-            Ok(false)
-        }
-        None => apply_any(sets, spare, lives, boxes, brought),
-    }
 }
 
 /// Drops the commands that are complete, of which there is one or none, and the sets that their steps waited for.
@@ -143,7 +111,6 @@ fn take_own(
     requires within { AreWithin brought.now.spes lives.old.items }
     requires brought { IsOfChains brought.now }
     requires sets { AreOf (3 * brought.now.spes + 1) sets.old }
-    requires own { KnowsOwn brought.now (sets_have sets.old) }
     requires spare { spare.old.chains ≡ 3 * brought.now.spes + 1 }
     ensures stepped { OnOk result (AreKept brought.now.spes brought.now.step brought.now.effect.now (has_brought brought.now) lives.old.items (entered boxes.now brought.now) (sets_have sets.old) (sets_have sets.new)) }
     ensures lives { OnOk result (lives.new.items ≡ with_issued (issued_in brought.now.step brought.now.effect.now.note) (filter (λ l. not l.progress.done) (nexts brought.now.step brought.now.effect.now lives.old.items))) }
@@ -166,7 +133,6 @@ fn take_host(
     requires fits { Fits boxes.now brought.now.effect.now.note }
     requires brought { IsOfChains brought.now }
     requires sets { AreOf (3 * brought.now.spes + 1) sets.old }
-    requires own { KnowsOwn brought.now (sets_have sets.old) }
     requires spare { spare.old.chains ≡ 3 * brought.now.spes + 1 }
     ensures stepped { OnOk result (AreKept brought.now.spes brought.now.step brought.now.effect.now (has_brought brought.now) [] (entered boxes.now brought.now) (sets_have sets.old) (sets_have sets.new)) }
     ensures chains { OnOk result (AreOf (3 * brought.now.spes + 1) sets.new) }
@@ -191,7 +157,6 @@ pub(crate) fn take_in(
     requires within { AreWithin brought.now.spes (near lives.old.items (spe_in brought.now.step)) }
     requires brought { IsOfChains brought.now }
     requires sets { AreOf (3 * brought.now.spes + 1) sets.old }
-    requires own { KnowsOwn brought.now (sets_have sets.old) }
     requires spare { spare.old.chains ≡ 3 * brought.now.spes + 1 }
     ensures stepped { OnOk result (AreKept brought.now.spes brought.now.step brought.now.effect.now (has_brought brought.now) (near lives.old.items (spe_in brought.now.step)) (entered boxes.now brought.now) (sets_have sets.old) (sets_have sets.new)) }
     ensures own { OnOk result ((p : ℕ) → spe_in brought.now.step ≡ Some p → lives_of lives.new.items p ≡ with_issued (issued_in brought.now.step brought.now.effect.now.note) (filter (λ l. not l.progress.done) (nexts brought.now.step brought.now.effect.now (lives_of lives.old.items p)))) }

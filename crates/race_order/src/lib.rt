@@ -23,6 +23,7 @@ mod progress;
 mod roles;
 mod sets;
 mod stamps;
+mod table;
 
 pub use error::OrderError;
 pub use orderer::Orderer;

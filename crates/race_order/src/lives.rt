@@ -220,9 +220,9 @@ pub(crate) fn may_touch(step: Step, note: Note) -> bool
 
 /// Adds that the command is complete, where it is.
 fn add_whole(sets: &mut Sets, role: QueueRole, chain: u8, live: &Live) -> Result<(), OrderError>
-    requires { AreOf (3 * sets.old.spes + 1) sets.old }
+    requires { AreOf (3 * sets.old.table.spes + 1) sets.old }
     ensures has { OnOk result ((r : ARole) (at : AnAt) → sets_have sets.new r at ≡ (sets_have sets.old r at || (same_role role r && (live.now.progress.done && covers (Whole chain live.now.cmd) at)))) }
-    ensures chains { OnOk result (AreOf (3 * sets.old.spes + 1) sets.new) }
+    ensures chains { OnOk result (AreOf (3 * sets.old.table.spes + 1) sets.new) }
 {
     if live.progress.done {
         sets.add(

@@ -1,13 +1,15 @@
 //! The order of a run, step by step.
 
-ghost use Rattle.std.specs.Prelude.{Some, ◌≡◌, ◌+◌, ◌-◌, ◌<◌, ◌≤◌, ◌^◌, ◌↔◌, ◌++◌, ◌∷◌, [], IfOk, IsTrue, length};
+ghost use Rattle.std.specs.Prelude.{Some, ◌≡◌, ◌+◌, ◌-◌, ◌*◌, ◌<◌, ◌≤◌, ◌^◌, ◌↔◌, ◌++◌, ◌∷◌, [], IfOk, IfSome, IsTrue, length};
 ghost use Rattle.race_order.specs.Trace.{Trace};
 ghost use Rattle.race_order.specs.Rules.{Rule, Ordered};
 ghost use Rattle.race_order.specs.StatusRules.{Rule as RuleByStatus};
 ghost use Rattle.race_order.specs.Stamps.{event_of};
+ghost use Rattle.race_order.specs.Bringing.{IsPlain};
 ghost use Rattle.race_order.specs.Orderly.{MayCome};
 ghost use Rattle.race_order.specs.Premises.{QueueMay};
-ghost use Rattle.race_order.specs.Standing.{StandsFor};
+ghost use Rattle.race_order.specs.Standing.{StandsFor, known_in};
+ghost use Rattle.race_order.specs.Tables.{AreOf};
 ghost use Rattle.race_order.specs.OrderedRuns.{OnTrace, StandsForRun};
 ghost use Rattle.race_order.specs.RunLaws.{TracesTell, TracesAreOrderly};
 ghost use Rattle.cell_machine.specs.Run.{Ran};
@@ -19,11 +21,12 @@ use crate::brought::Brought;
 use crate::error::OrderError;
 use crate::gathering::fill;
 use crate::lives::{Live, is_only_step, moves_line, no_lives};
+use crate::plain::plain_of;
 use crate::sets::Sets;
 use crate::stamps::{fact, name};
 use cell_base::Step;
 use cell_machine::{Effect, Setup};
-use order_sets::{At, Known};
+use order_sets::{At, Fact, Known};
 use std::alloc::Global;
 
 #[derive(Drop)]
@@ -34,7 +37,9 @@ pub struct Orderer {
     names: Vec<At>,
     // the outstanding commands of each processor
     lives: Vec<Vec<Live>>,
-    // what is known before the last step
+    // the processor of the last step, where that was an instruction that tells nothing: the set of its instructions has what is known before it
+    own: Option<u8>,
+    // else what is known before the last step
     last: Known,
     // a set by way of which sets go into one another
     spare: Known,
@@ -49,17 +54,18 @@ impl Orderer {
     {
         Ok(Orderer {
             spes,
-            sets: Sets::new(alloc, spes),
+            sets: Sets::new(alloc, spes)?,
             boxes: Boxes::new(alloc, spes)?,
             names: Vec::with_capacity(alloc, room as usize)?,
             lives: no_lives(alloc, spes)?,
+            own: None,
             last: Known::new(alloc, spes)?,
             spare: Known::new(alloc, spes)?,
         })
     }
 
-    /// Takes the next step of a trace, and answers its place.
-    fn take(&mut self, step: Step, effect: Effect) -> Result<u32, OrderError>
+    /// Takes any next step of a trace, and answers its place.
+    fn take_any(&mut self, step: Step, effect: Effect) -> Result<u32, OrderError>
         ghost trace: { Trace }
         requires stands { StandsFor self.old trace }
         requires may { MayCome self.old.spes trace (event_of step effect) }
@@ -97,7 +103,59 @@ impl Orderer {
         )?;
         self.boxes.note(effect.note);
         self.names.push(at)?;
+        self.own = None;
         Ok(place)
+    }
+
+    /// Takes an instruction that tells nothing: it goes into the set of its processor's instructions, which has what is known before it.
+    fn take_plain(&mut self, spe: u8, step: Step, effect: &Effect) -> Result<u32, OrderError>
+        ghost trace: { Trace }
+        requires plain { IsPlain step effect.now spe }
+        requires stands { StandsFor self.old trace }
+        requires may { MayCome self.old.spes trace (event_of step effect.now) }
+        requires queue { QueueMay trace (event_of step effect.now) }
+        requires room { length trace + 1 < 2 ^ 32 }
+        ensures stands { IfOk result (λ place. StandsFor self.new (trace ++ (event_of step effect.now ∷ []))) }
+        ensures place { IfOk result (λ place. place ≡ length trace) }
+        ensures spes { self.new.spes ≡ self.old.spes }
+    {
+        let place = self.names.len() as u32;
+        let at = name(self.spes, place, step, effect);
+        self.sets.add_own(spe, Fact::Upto { chain: spe, place })?;
+        self.names.push(at)?;
+        self.own = Some(spe);
+        Ok(place)
+    }
+
+    /// Takes the next step of a trace, and answers its place.
+    fn take(&mut self, step: Step, effect: Effect) -> Result<u32, OrderError>
+        ghost trace: { Trace }
+        requires stands { StandsFor self.old trace }
+        requires may { MayCome self.old.spes trace (event_of step effect) }
+        requires queue { QueueMay trace (event_of step effect) }
+        requires room { length trace + 1 < 2 ^ 32 }
+        ensures stands { IfOk result (λ place. StandsFor self.new (trace ++ (event_of step effect ∷ []))) }
+        ensures place { IfOk result (λ place. place ≡ length trace) }
+        ensures spes { self.new.spes ≡ self.old.spes }
+    {
+        match plain_of(step, &effect) {
+            Some(spe) => self.take_plain(spe, step, &effect),
+            None => self.take_any(step, effect),
+        }
+    }
+
+    /// Whether the step is known before the last one.
+    fn knows(&self, at: At) -> bool
+        requires sets { AreOf (3 * self.now.spes + 1) self.now.sets }
+        requires own { IfSome self.now.own (λ spe. spe < self.now.spes) }
+        requires last { self.now.last.chains ≡ 3 * self.now.spes + 1 }
+        requires chain { at.chain < 3 * self.now.spes + 1 }
+        ensures { result ≡ known_in self.now.own self.now.sets self.now.last at }
+    {
+        match self.own {
+            Some(spe) => self.sets.has_own(spe, at),
+            None => self.last.has(at),
+        }
     }
 
     /// Whether step i of a trace is ordered before the last one.
@@ -107,7 +165,7 @@ impl Orderer {
         requires below { i + 1 < length trace }
         ensures { IsTrue result ↔ Ordered RuleByStatus trace i (length trace - 1) }
     {
-        self.last.has(self.names[i as usize])
+        self.knows(self.names[i as usize])
     }
 
     /// The orderer of the empty run from a setup, which has a processor.

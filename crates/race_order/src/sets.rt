@@ -1,120 +1,171 @@
 //! A set of known steps for each role.
 
-ghost use Rattle.std.specs.Prelude.{◌≡◌, ℕ, ◌+◌, ◌*◌, ◌<◌, ◌||◌, ◌&&◌, OnOk, IfOk, length, [], false};
-ghost use Rattle.order_sets.specs.declared.facts.At.{At};
+ghost use Rattle.std.specs.Prelude.{◌≡◌, ◌+◌, ◌*◌, ◌<◌, ◌≤◌, ◌||◌, ◌&&◌, ℕ, OnOk, IfOk, IfSome, IfNone, length, false, None, All as Each};
+ghost use Rattle.order_sets.specs.declared.facts.At.{At as AnAt};
+ghost use Rattle.order_sets.specs.declared.known.Known.{Known as AKnown};
 ghost use Rattle.order_sets.specs.Facts.{covers};
 ghost use Rattle.order_sets.specs.Stands.{has_at};
 ghost use Rattle.race_order.specs.declared.roles.QueueRole.{QueueRole as ARole};
-ghost use Rattle.race_order.specs.Tables.{same_role, number, sets_have, AreOf, FitsChains};
+ghost use Rattle.race_order.specs.declared.roles.QueueRole.TheVariants.{Base};
+ghost use Rattle.race_order.specs.declared.roles.Role.TheVariants.{OfExec};
+ghost use Rattle.race_order.specs.Tables.{same_role, own_of, sets_have, AreOf, FitsChains};
 ghost use Rattle.race_order.specs.Bringing.{has_brought, IsOfChains};
 ghost use Rattle.race_order.specs.Passes.{is_over};
 
 use crate::brought::Brought;
-use crate::buckets::Bucket;
 use crate::error::OrderError;
 use crate::lives::Live;
-use crate::numbers::number;
-use crate::roles::QueueRole;
-use order_sets::{Fact, Known};
+use crate::roles::{QueueRole, Role};
+use crate::table::Table;
+use order_sets::{At, Fact, Known};
 use std::alloc::Global;
 
-/// The sets of `spes` processors, each in the bucket of its role's number. A role without one has the empty set.
+/// The set of each role. Most steps go into the set of a processor's instructions and are looked up in it, so these stand apart.
 #[derive(Drop)]
 pub(crate) struct Sets {
-    pub(crate) alloc: Global,
-    pub(crate) spes: u8,
-    pub(crate) buckets: Vec<Bucket>,
+    // of each processor the set of its instructions
+    pub(crate) own: Vec<Known>,
+    // those of the other roles
+    pub(crate) table: Table,
+}
+
+/// For each of `spes` processors an empty set.
+fn empty_sets(alloc: Global, spes: u8) -> Result<Vec<Known>, OrderError>
+    requires { (1 ≤ spes) × (spes ≤ 16) }
+    ensures long { IfOk result (λ sets. length sets.items ≡ spes) }
+    ensures chains { IfOk result (λ sets. Each (λ (known : AKnown). known.chains ≡ 3 * spes + 1) sets.items) }
+    ensures empty { IfOk result (λ sets. Each (λ (known : AKnown). (at : AnAt) → has_at known at ≡ false) sets.items) }
+{
+    let mut sets = Vec::new(alloc);
+    for _ in 0..spes {
+        let known = Known::new(alloc, spes)?;
+        sets.push(known)?;
+    }
+    Ok(sets)
 }
 
 impl Sets {
     /// The empty sets of `spes` processors.
-    pub(crate) fn new(alloc: Global, spes: u8) -> Sets
-        ensures buckets { result.buckets.items ≡ [] }
-        ensures spes { result.spes ≡ spes }
+    pub(crate) fn new(alloc: Global, spes: u8) -> Result<Sets, OrderError>
+        requires { (1 ≤ spes) × (spes ≤ 16) }
+        ensures empty { IfOk result (λ sets. (r : ARole) (at : AnAt) → sets_have sets r at ≡ false) }
+        ensures chains { IfOk result (AreOf (3 * spes + 1)) }
     {
-        Sets {
-            alloc,
-            spes,
-            buckets: Vec::new(alloc),
-        }
+        Ok(Sets {
+            own: empty_sets(alloc, spes)?,
+            table: Table::new(alloc, spes),
+        })
     }
 
-    /// Adds so many empty buckets.
-    fn lengthen(&mut self, count: usize) -> Result<(), OrderError>
-        ensures has { OnOk result ((r : ARole) (at : At) → sets_have self.new r at ≡ sets_have self.old r at) }
-        ensures chains { OnOk result ((chains : ℕ) → AreOf chains self.old → AreOf chains self.new) }
-        ensures long { OnOk result (length self.new.buckets.items ≡ length self.old.buckets.items + count) }
+    /// The processor whose instructions the role's set is of, where it stands apart.
+    fn own_at(&self, role: QueueRole) -> Option<u8>
+        ensures here { IfSome result (λ spe. (role ≡ Base (OfExec spe)) × (spe < length self.now.own.items)) }
+        ensures none { IfNone result (own_of self.now.own.items role ≡ None) }
     {
-        for _ in 0..count {
-            self.buckets.push(Bucket::new(self.alloc))?;
+        match role {
+            QueueRole::Base {
+                role: Role::OfExec { spe },
+            } if usize::from(spe) < self.own.len() => Some(spe),
+            _ => None,
         }
-        Ok(())
     }
 
     /// Whether the role has a set; else its set is empty.
     pub(crate) fn holds(&self, role: QueueRole) -> bool
-        ensures { result ≡ false → (at : At) → sets_have self.now role at ≡ false }
+        ensures { result ≡ false → (at : AnAt) → sets_have self.now role at ≡ false }
     {
-        let k = number(role) as usize;
-        k < self.buckets.len() && self.buckets[k].holds(role)
+        match self.own_at(role) {
+            Some(_) => true,
+            None => self.table.holds(role),
+        }
+    }
+
+    /// Whether the step is in the set of the processor's instructions.
+    pub(crate) fn has_own(&self, spe: u8, at: At) -> bool
+        requires inside { spe < length self.now.own.items }
+        requires sets { AreOf (3 * self.now.table.spes + 1) self.now }
+        requires chain { at.chain < 3 * self.now.table.spes + 1 }
+        ensures { result ≡ sets_have self.now (Base (OfExec spe)) at }
+    {
+        self.own[usize::from(spe)].has(at)
+    }
+
+    /// Adds to the known steps the set of the processor's instructions.
+    fn gather_own(&self, spe: u8, known: &mut Known) -> Result<(), OrderError>
+        requires inside { spe < length self.now.own.items }
+        requires sets { AreOf (known.old.chains) self.now }
+        ensures has { OnOk result ((at : AnAt) → has_at known.new at ≡ (has_at known.old at || sets_have self.now (Base (OfExec spe)) at)) }
+        ensures chains { known.new.chains ≡ known.old.chains }
+    {
+        known.join(&self.own[usize::from(spe)])?;
+        Ok(())
     }
 
     /// Adds to the known steps what the role's set has.
     pub(crate) fn gather(&self, role: QueueRole, known: &mut Known) -> Result<(), OrderError>
         requires { AreOf (known.old.chains) self.now }
-        ensures has { OnOk result ((at : At) → has_at known.new at ≡ (has_at known.old at || sets_have self.now role at)) }
+        ensures has { OnOk result ((at : AnAt) → has_at known.new at ≡ (has_at known.old at || sets_have self.now role at)) }
         ensures chains { known.new.chains ≡ known.old.chains }
     {
-        let k = number(role) as usize;
-        if k < self.buckets.len() {
-            self.buckets[k].gather(role, known)?;
+        match self.own_at(role) {
+            Some(spe) => self.gather_own(spe, known),
+            None => self.table.gather(role, known),
         }
-        Ok(())
     }
 
-    /// The number of the role's bucket, which is there then.
-    fn bucket(&mut self, role: QueueRole) -> Result<usize, OrderError>
-        ensures has { OnOk result ((r : ARole) (at : At) → sets_have self.new r at ≡ sets_have self.old r at) }
-        ensures chains { OnOk result ((chains : ℕ) → AreOf chains self.old → AreOf chains self.new) }
-        ensures number { IfOk result (λ k. k ≡ number role) }
-        ensures inside { IfOk result (λ k. k < length self.new.buckets.items) }
+    /// Adds the known steps to the set of the processor's instructions.
+    fn put_own(&mut self, spe: u8, known: &Known) -> Result<(), OrderError>
+        requires inside { spe < length self.old.own.items }
+        requires sets { AreOf (known.now.chains) self.old }
+        ensures has { OnOk result ((r : ARole) (at : AnAt) → sets_have self.new r at ≡ (sets_have self.old r at || (same_role (Base (OfExec spe)) r && has_at known.now at))) }
+        ensures chains { OnOk result (AreOf (known.now.chains) self.new) }
     {
-        let k = number(role) as usize;
-        let count = self.buckets.len();
-        self.lengthen((k + 1).saturating_sub(count))?;
-        Ok(k)
+        self.own[usize::from(spe)].join(known)?;
+        Ok(())
     }
 
     /// Adds the known steps to the role's set.
     pub(crate) fn put(&mut self, role: QueueRole, known: &Known) -> Result<(), OrderError>
         requires { AreOf (known.now.chains) self.old }
-        ensures has { OnOk result ((r : ARole) (at : At) → sets_have self.new r at ≡ (sets_have self.old r at || (same_role role r && has_at known.now at))) }
+        ensures has { OnOk result ((r : ARole) (at : AnAt) → sets_have self.new r at ≡ (sets_have self.old r at || (same_role role r && has_at known.now at))) }
         ensures chains { OnOk result (AreOf (known.now.chains) self.new) }
     {
-        let k = self.bucket(role)?;
-        let (alloc, spes) = (self.alloc, self.spes);
-        self.buckets[k].put(alloc, spes, role, known)?;
+        match self.own_at(role) {
+            Some(spe) => self.put_own(spe, known),
+            None => self.table.put(role, known),
+        }
+    }
+
+    /// Adds what the fact covers to the set of the processor's instructions.
+    pub(crate) fn add_own(&mut self, spe: u8, fact: Fact) -> Result<(), OrderError>
+        requires inside { spe < length self.old.own.items }
+        requires sets { AreOf (3 * self.old.table.spes + 1) self.old }
+        requires fact { FitsChains (3 * self.old.table.spes + 1) fact }
+        ensures has { OnOk result ((r : ARole) (at : AnAt) → sets_have self.new r at ≡ (sets_have self.old r at || (same_role (Base (OfExec spe)) r && covers fact at))) }
+        ensures chains { OnOk result (AreOf (3 * self.old.table.spes + 1) self.new) }
+    {
+        self.own[usize::from(spe)].add(fact)?;
         Ok(())
     }
 
     /// Adds what the fact covers to the role's set.
     pub(crate) fn add(&mut self, role: QueueRole, fact: Fact) -> Result<(), OrderError>
-        requires sets { AreOf (3 * self.old.spes + 1) self.old }
-        requires fact { FitsChains (3 * self.old.spes + 1) fact }
-        ensures has { OnOk result ((r : ARole) (at : At) → sets_have self.new r at ≡ (sets_have self.old r at || (same_role role r && covers fact at))) }
-        ensures chains { OnOk result (AreOf (3 * self.old.spes + 1) self.new) }
+        requires sets { AreOf (3 * self.old.table.spes + 1) self.old }
+        requires fact { FitsChains (3 * self.old.table.spes + 1) fact }
+        ensures has { OnOk result ((r : ARole) (at : AnAt) → sets_have self.new r at ≡ (sets_have self.old r at || (same_role role r && covers fact at))) }
+        ensures chains { OnOk result (AreOf (3 * self.old.table.spes + 1) self.new) }
     {
-        let k = self.bucket(role)?;
-        let (alloc, spes) = (self.alloc, self.spes);
-        self.buckets[k].add(alloc, spes, role, fact)?;
-        Ok(())
+        match self.own_at(role) {
+            Some(spe) => self.add_own(spe, fact),
+            None => self.table.add(role, fact),
+        }
     }
 
     /// Adds what the step brings to the role's set.
     pub(crate) fn bring(&mut self, role: QueueRole, brought: &Brought) -> Result<(), OrderError>
         requires brought { IsOfChains brought.now }
         requires sets { AreOf (3 * brought.now.spes + 1) self.old }
-        ensures has { OnOk result ((r : ARole) (at : At) → sets_have self.new r at ≡ (sets_have self.old r at || (same_role role r && has_brought brought.now at))) }
+        ensures has { OnOk result ((r : ARole) (at : AnAt) → sets_have self.new r at ≡ (sets_have self.old r at || (same_role role r && has_brought brought.now at))) }
         ensures chains { OnOk result (AreOf (3 * brought.now.spes + 1) self.new) }
     {
         self.put(role, brought.known)?;
@@ -124,27 +175,9 @@ impl Sets {
 
     /// Drops the sets that the steps of complete commands waited for.
     pub(crate) fn drop_over(&mut self, next: &[Live])
-        ensures has { (r : ARole) (at : At) → is_over next.now r ≡ false → sets_have self.new r at ≡ sets_have self.old r at }
+        ensures has { (r : ARole) (at : AnAt) → is_over next.now r ≡ false → sets_have self.new r at ≡ sets_have self.old r at }
         ensures chains { (chains : ℕ) → AreOf chains self.old → AreOf chains self.new }
     {
-        for live in next {
-            if live.progress.done {
-                self.drop_from(live, next);
-            }
-        }
-    }
-
-    /// Drops them from the bucket of one such command.
-    fn drop_from(&mut self, live: &Live, next: &[Live])
-        ensures has { (r : ARole) (at : At) → is_over next.now r ≡ false → sets_have self.new r at ≡ sets_have self.old r at }
-        ensures chains { (chains : ℕ) → AreOf chains self.old → AreOf chains self.new }
-    {
-        let k = number(QueueRole::Waits {
-            spe: live.spe,
-            cmd: live.cmd,
-        }) as usize;
-        if k < self.buckets.len() {
-            self.buckets[k].drop_over(next);
-        }
+        self.table.drop_over(next);
     }
 }

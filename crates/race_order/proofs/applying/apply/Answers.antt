@@ -1,54 +1,42 @@
-use Rattle.std.proofs.Common.{◌≡◌, ◌||◌, ◌&&◌, false, sym, ap, subst, ◌∙◌}
+use Rattle.std.proofs.Common.{◌≡◌, ◌||◌, List, ap, subst, ◌∙◌}
 use Rattle.std.specs.List.{list_any}
-use Rattle.std.proofs.lemmas.List.Folds.{list_any_none}
 use Rattle.race_order.specs.declared.lives.Live.{Live}
-use Rattle.race_order.specs.Bringing.{has_brought, nexts, IsPlain}
-use Rattle.race_order.specs.Lives.{moved, touch_brings}
-use Rattle.race_order.specs.Ordering.{issue_list, issued_in, fix_list, spe_in}
-use Rattle.race_order.specs.Passes.{stall_any, done_any}
-use Rattle.race_order.specs.Tables.{is_among, sets_have}
-use Rattle.race_order.proofs.Moved.{still}
-use Rattle.race_order.proofs.Passed.{none_any}
-use Rattle.race_order.proofs.OwnSteps.{entered_own, untouched, touched_own, none_issued, none_fixed}
-use Rattle.race_order.proofs.Untouched.{not_moved, not_stalled, all_same, none_passes}
+use Rattle.race_order.specs.Bringing.{has_brought}
+use Rattle.race_order.specs.Lives.{touch_brings}
+use Rattle.race_order.specs.Passes.{AreMoved, done_any}
+use Rattle.race_order.specs.Tables.{sets_have, AreOf}
 use Rattle.race_order.proofs.applying.apply.Goals as goal
-use Rattle.race_order.proofs.applying.apply.Goals.{In_ok-enter_own-in-Some}
+use Rattle.race_order.proofs.applying.apply.Goals.{In_ok-pass_fixed}
 
-plain : (c : In_ok-enter_own-in-Some) → IsPlain c.args.brought.now c.in-Some.spe
-plain c = c.in-Some.ensures
-
-same_lives : (c : In_ok-enter_own-in-Some) → nexts c.args.brought.now.step c.args.brought.now.effect.now c.args.lives.now ≡ c.args.lives.now
-same_lives c =
+pub returns-clause-stepped : goal.returns-clause-stepped
+returns-clause-stepped c =
     let b = c.args.brought.now in
-    all_same (λ (l : Live). moved l b.step b.effect.now.note) c.args.lives.now (λ l. not_moved l b.step b.effect.now.note (untouched l b.step b.effect.now.note c.in-Some.spe (plain c).step (plain c).note))
-
-none_done : (c : In_ok-enter_own-in-Some) → list_any (λ (l : Live). l.progress.done) c.args.lives.now ≡ false
-none_done c = list_any_none (λ (l : Live). l.progress.done) c.args.lives.now c.requires.live
-
-pub returns-in_ok-enter_own-in-Some-clause-stepped : goal.returns-in_ok-enter_own-in-Some-clause-stepped
-returns-in_ok-enter_own-in-Some-clause-stepped c =
-    let b = c.args.brought.now in
-    let p = c.in-Some.spe in
-    let t = sets_have c.enter_own.new.sets in
-    let next = nexts b.step b.effect.now c.args.lives.now in
     record {
-      touched = t;
-      issued = t;
-      stalled = t;
-      done = t;
+      touched = sets_have c.touch_all.new.sets;
+      issued = sets_have c.pass_issue.new.sets;
+      stalled = sets_have c.go_on_all.new.sets;
+      done = sets_have c.pass_done.new.sets;
       is_touched = λ r a.
-          subst (λ into. t r a ≡ ((sets_have c.args.sets.now r a || (is_among r into && has_brought b a)) || list_any (touch_brings b.spes b.step b.effect.now.note (has_brought b) r a) c.args.lives.now))
-          (sym (entered_own c.args.boxes.now b p (plain c)))
-          (touched_own b.spes p b.step b.effect.now.note (has_brought b) c.args.lives.now (sets_have c.args.sets.now) r a (t r a) (plain c).step (plain c).note (c.in_ok-enter_own-in-Some.ensures.has r a));
-      is_issued = still (λ g. list_any g (issue_list (issued_in b.step b.effect.now.note))) t (λ g. ap (λ i. list_any g (issue_list i)) (none_issued b.step b.effect.now.note p (plain c).step (plain c).note));
-      is_stalled = still (λ g. list_any (stall_any g b.step b.effect.now.note) c.args.lives.now) t
-          (λ g. none_any (stall_any g b.step b.effect.now.note) c.args.lives.now (λ l. not_stalled g l b.step b.effect.now.note (untouched l b.step b.effect.now.note p (plain c).step (plain c).note)));
-      is_done = still (λ g. list_any (done_any g next) next) t (λ g. none_passes g next next (ap (list_any (λ (l : Live). l.progress.done)) (same_lives c) ∙ none_done c));
-      is_fixed = still (λ g. list_any g (fix_list b.effect.now.fixed (spe_in b.step))) t (λ g. ap (list_any g) (none_fixed b.effect.now.fixed b.step p (plain c).step (plain c).fixed));
+          c.in_ok-touch_all.ensures.has r a
+          ∙ ap (λ x. x || list_any (touch_brings b.spes b.step b.effect.now.note (has_brought c.args.brought.now) r a) c.args.lives.now) (c.in_ok-enter_all.ensures.has r a);
+      is_issued = c.in_ok-pass_issue.ensures.has;
+      is_stalled = c.in_ok-done.ensures.has;
+      is_done = subst (λ (next : List Live). AreMoved (λ g. list_any (done_any g next) next) (sets_have c.go_on_all.new.sets) (sets_have c.pass_done.new.sets)) c.in_ok-done.ensures.next c.in_ok-pass_done.ensures.has;
+      is_fixed = c.in_ok-pass_fixed.ensures.has;
     }
 
-pub returns-in_ok-enter_own-in-Some-clause-next : goal.returns-in_ok-enter_own-in-Some-clause-next
-returns-in_ok-enter_own-in-Some-clause-next c = sym (same_lives c)
+-- the spare set stays of as many chains
+same_chains : (c : In_ok-pass_fixed) → c.pass_done.new.spare.chains ≡ c.args.spare.now.chains
+same_chains c = c.pass_done.ensures.spare ∙ (c.go_on_all.ensures.spare ∙ c.pass_issue.ensures.spare)
 
-pub returns-in_ok-enter_own-in-Some-clause-done : goal.returns-in_ok-enter_own-in-Some-clause-done
-returns-in_ok-enter_own-in-Some-clause-done c = sym (none_done c)
+pub returns-clause-next : goal.returns-clause-next
+returns-clause-next c = c.in_ok-done.ensures.next
+
+pub returns-clause-done : goal.returns-clause-done
+returns-clause-done c = c.in_ok-done.ensures.done
+
+pub returns-clause-chains : goal.returns-clause-chains
+returns-clause-chains c = subst (λ n. AreOf n c.pass_fixed.new.sets) (same_chains c ∙ c.requires.spare) c.in_ok-pass_fixed.ensures.chains
+
+pub returns-clause-spare : goal.returns-clause-spare
+returns-clause-spare c = c.pass_fixed.ensures.spare ∙ same_chains c

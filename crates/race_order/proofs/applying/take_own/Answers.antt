@@ -32,3 +32,6 @@ returns-clause-stepped c =
 pub returns-clause-lives : goal.returns-clause-lives
 returns-clause-lives c =
     c.in_ok-add_issued.ensures ∙ ap (with_issued (issued_in c.args.brought.now.step c.args.brought.now.effect.now.note)) (c.drop_done.ensures.lives ∙ ap (filter (λ l. not l.progress.done)) (next c))
+
+pub returns-clause-chains : goal.returns-clause-chains
+returns-clause-chains c = c.drop_done.ensures.chains _ c.in_ok-done.ensures.chains

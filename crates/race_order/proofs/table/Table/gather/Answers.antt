@@ -1,8 +1,8 @@
 use Rattle.std.proofs.Common.{rules, ◌≡◌, ◌<◌, ◌≤◌, ◌||◌, Bool, true, false, length, get_or, refl, ap, sym, ◌∙◌}
 use Rattle.order_sets.specs.Stands.{has_at}
-use Rattle.race_order.specs.Tables.{has_in, bucket_has, sets_have}
+use Rattle.race_order.specs.Tables.{has_in, bucket_has, table_has}
 use Rattle.race_order.proofs.HasIn.{has_there, has_past}
-use Rattle.race_order.proofs.sets.Sets.gather.Goals as goal
+use Rattle.race_order.proofs.table.Table.gather.Goals as goal
 
 pub returns-in_ok-gather-clause-has : goal.returns-in_ok-gather-clause-has
 returns-in_ok-gather-clause-has c = λ at.
@@ -19,5 +19,5 @@ or_none false b e = sym e
 pub returns-else-k-len-clause-has : goal.returns-else-k-len-clause-has
 returns-else-k-len-clause-has c = λ at.
     let past : length c.args.self.now.buckets.items ≤ c.number-k.result = search rules in
-    or_none (has_at c.args.known.now at) (sets_have c.args.self.now c.args.role at)
+    or_none (has_at c.args.known.now at) (table_has c.args.self.now c.args.role at)
     (ap (λ k. has_in c.args.self.now.buckets.items k c.args.role at) (sym c.number-k.ensures.number) ∙ has_past c.args.self.now.buckets.items c.number-k.result c.args.role at past)

@@ -3,7 +3,7 @@ use Rattle.std.proofs.lemmas.List.Elements.{All-set}
 use Rattle.race_order.specs.declared.buckets.Bucket.{Bucket}
 use Rattle.race_order.specs.Tables.{number, bucket_has, AreRowsOf}
 use Rattle.race_order.proofs.HasIn.{has_kept}
-use Rattle.race_order.proofs.sets.Sets.drop_from.Goals as goal
+use Rattle.race_order.proofs.table.Table.drop_from.Goals as goal
 
 pub returns-then-k-len-clause-has : goal.returns-then-k-len-clause-has
 returns-then-k-len-clause-has c = λ r at q.

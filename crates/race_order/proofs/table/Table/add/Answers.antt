@@ -2,7 +2,7 @@ use Rattle.std.proofs.Common.{◌<◌, ◌||◌, ◌&&◌, length, ap, ◌∙◌
 use Rattle.order_sets.specs.Facts.{covers}
 use Rattle.race_order.specs.Tables.{same_role, bucket_has}
 use Rattle.race_order.proofs.HasIn.{has_more}
-use Rattle.race_order.proofs.sets.Sets.add.Goals as goal
+use Rattle.race_order.proofs.table.Table.add.Goals as goal
 
 pub returns-clause-has : goal.returns-clause-has
 returns-clause-has c = λ r at.

@@ -19,8 +19,7 @@ use Rattle.race_order.proofs.LivesNext.{ShowsNear, have_room, are_outstanding, a
 use Rattle.race_order.proofs.Naming.{Names, fact_names}
 use Rattle.race_order.proofs.Standings.{moves_same, keep_next, own_next, last_next, queued_next, near_stands, lives_stand}
 use Rattle.race_order.proofs.Stands.{fact_fits, counts_fit, counts_next, names_next, orderly_next, read_same, write_same}
-use Rattle.race_order.proofs.OwnSteps.{knows_own}
-use Rattle.race_order.proofs.orderer.Orderer.take.Goals as goal
+use Rattle.race_order.proofs.orderer.Orderer.take_any.Goals as goal
 
 pub fill-requires-clause-fits : goal.fill-requires-clause-fits
 fill-requires-clause-fits g c = counts_fit c.args.self.now.spes g.trace c.args.self.now.boxes c.requires.0.counts c.args.effect.note c.requires.1.0.noted c.requires.1.1.1
@@ -65,10 +64,6 @@ take_in-requires-clause-brought g c =
           (fact_fits c.args.self.now.spes c.is_only_step.result c.name-at.result c.args.step c.requires.1.0.within);
     }
 
-pub take_in-requires-clause-own : goal.take_in-requires-clause-own
-take_in-requires-clause-own g c = λ p a plain k.
-    knows_own c.args.self.now.boxes c.moves_line-whole.result c.args.step c.args.effect p (sets_have c.args.self.now.sets) a (has_at c.fill.new.known a) plain.step plain.note plain.whole (c.in_ok-fill.ensures.has a) k
-
 pub returns-clause-stands : goal.returns-clause-stands
 returns-clause-stands g c =
     let n = c.args.self.now.spes in
@@ -99,6 +94,7 @@ returns-clause-stands g c =
       orderly = orderly;
       queued = queued;
       chains = c.in_ok-take_in.ensures.chains;
+      own_spe = search rules;
       last_chains = c.in_ok-fill.ensures.chains ∙ st.last_chains;
       spare_chains = c.in_ok-take_in.ensures.spare ∙ st.spare_chains;
       counts = counts_next n g.trace c.args.self.now.boxes st.counts e c.note.new.self may.noted c.note.ensures.puts c.note.ensures.takes;

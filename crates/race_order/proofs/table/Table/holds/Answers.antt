@@ -2,7 +2,7 @@ use Rattle.std.proofs.Common.{rules, ◌≡◌, ◌<◌, ◌≤◌, length, get_
 use Rattle.race_order.specs.Tables.{has_in, bucket_has}
 use Rattle.race_order.proofs.SameRoles.{none_has}
 use Rattle.race_order.proofs.HasIn.{has_there, has_past}
-use Rattle.race_order.proofs.sets.Sets.holds.Goals as goal
+use Rattle.race_order.proofs.table.Table.holds.Goals as goal
 
 pub returns-then-k-len : goal.returns-then-k-len
 returns-then-k-len c = λ q at.

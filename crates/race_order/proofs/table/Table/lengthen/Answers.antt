@@ -4,7 +4,7 @@ use Rattle.std.proofs.lemmas.List.Elements.{All-push, All-nil}
 use Rattle.race_order.specs.declared.buckets.Bucket.{Bucket}
 use Rattle.race_order.specs.Tables.{number, has_in, AreRowsOf}
 use Rattle.race_order.proofs.HasIn.{has_longer}
-use Rattle.race_order.proofs.sets.Sets.lengthen.Goals as goal
+use Rattle.race_order.proofs.table.Table.lengthen.Goals as goal
 
 pub loop-preserved : goal.loop-preserved
 loop-preserved c = record {
