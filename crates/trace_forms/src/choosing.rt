@@ -1,6 +1,6 @@
 //! Runs on one thread, by choices.
 
-ghost use Rattle.std.specs.Prelude.{◌≡◌, ◌≤◌, ◌+◌, false, IfNone, IfSome, IsSome, IsTrue, length};
+ghost use Rattle.std.specs.Prelude.{◌≡◌, ◌≤◌, ◌+◌, ◌*◌, ◌/◌, ◌%◌, false, IfNone, IfSome, IsSome, IsTrue, length};
 ghost use Rattle.cell_base.specs.declared.steps.Step.{Step as AStep};
 ghost use Rattle.cell_machine.specs.Run.{next_of};
 ghost use Rattle.trace_forms.specs.Choices.{actor_of, chosen_in, start, with_choice, with_choices, TakesTurns};
@@ -22,15 +22,23 @@ pub fn actor_of(spes: u8, number: u64) -> Actor
     }
 }
 
+/// What the number chooses, of so many processors: its remainder the actor, and the rest one of its steps.
+fn choice_of(spes: u8, number: u64) -> (Actor, u64)
+    requires { spes ≤ 16 }
+    ensures { result ≡ (actor_of spes (number % (2 * spes + 1)), number / (2 * spes + 1)) }
+{
+    let actors = 2 * u64::from(spes) + 1;
+    (actor_of(spes, number % actors), number / actors)
+}
+
 /// The step that the number chooses: its remainder the actor, and the rest one of its steps. Where the actor has none, the first that is allowed.
 pub fn chosen(machine: &Machine, number: u64) -> Option<Step>
     ensures chosen { result ≡ chosen_in machine.now number }
     ensures allowed { IfSome result (λ s. IsSome (next_of machine.now s)) }
     ensures none { IfNone result ((s : AStep) → next_of machine.now s ≡ None) }
 {
-    let spes = machine.setup().spes();
-    let actors = 2 * u64::from(spes) + 1;
-    let picked = machine.pick(actor_of(spes, number % actors), number / actors);
+    let (actor, choice) = choice_of(machine.setup().spes(), number);
+    let picked = machine.pick(actor, choice);
     if picked.is_some() {
         picked
     } else {
@@ -46,10 +54,8 @@ fn make_chosen(machine: &mut Machine, number: u64) -> bool
     ensures same { result ≡ false → machine.new ≡ machine.old }
     ensures over { result ≡ false → (s : AStep) → next_of machine.old s ≡ None }
 {
-    match chosen(machine, number) {
-        Some(step) => machine.step(step).is_ok(),
-        None => false,
-    }
+    let (actor, choice) = choice_of(machine.setup().spes(), number);
+    machine.step_as(actor, choice).is_some() || machine.step_any().is_some()
 }
 
 /// Makes the step that each number chooses, where one is allowed.
