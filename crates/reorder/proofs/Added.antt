@@ -7,7 +7,7 @@ use Rattle.run_frames.specs.OrderedLaws.{IsOrdered}
 use Rattle.settled.specs.Lists.{IsIn, Each, AreChanged}
 use Rattle.reorder.specs.Lists.{One}
 use Rattle.reorder.specs.Needs.{IsCovered, AreNeedsOf}
-use Rattle.reorder.specs.Tracks.{IsChain, IsEnd, IsLoose, MayBeUntil, IsBounded, IsBelow, IsBlock, IsTrack, IsOnBlock, IsOn, CoversTrack, IsClosed, IsBlockClosed, IsPut, AreTracks}
+use Rattle.reorder.specs.Tracks.{IsChain, IsEnd, IsLoose, MayBeUntil, IsBounded, IsBelow, IsBlock, IsPast, IsTrack, IsOnBlock, IsOn, CoversTrack, IsClosed, IsBlockClosed, IsPut, AreTracks}
 use Rattle.reorder.specs.declared.block.Block.{Block}
 use Rattle.reorder.specs.declared.block.Loose.{Loose}
 use Rattle.reorder.specs.declared.track.Track.{Track}
@@ -16,6 +16,7 @@ use Rattle.reorder.proofs.Changes.{each-set, changed-each}
 use Rattle.reorder.proofs.Entries.{in-left, in-push}
 use Rattle.reorder.proofs.Ordered.{ordered-up}
 use Rattle.reorder.proofs.Ends.{covers-more, chain-later, chain-more, loose-later, loose-closed}
+use Rattle.reorder.proofs.Passed.{past-push, past-set}
 use Rattle.reorder.proofs.Ones.{one-changed, one-kept, one-last, one-left, one-new}
 
 -- ---- one block
@@ -39,12 +40,13 @@ closed-on m j index i b n closed h =
 pushed-block : (m : Ran) (j : ℕ) (chain : List ℕ) (l : Loose) (b n : Block) → n.steps.items ≡ b.steps.items ++ l ∷ [] → (IsBounded b → IsBounded n) → IsLoose m j chain l → IsBlock m j chain b → IsBlock m j chain n
 pushed-block m j chain l b n steps bounded loose is = record { bounded = bounded is.bounded; loose = subst (Each (IsLoose m j chain)) (sym steps) (each-end (IsLoose m j chain) b.steps.items l is.loose loose) }
 
-pub put-at : (bs : List Block) (k : ℕ) (l : Loose) (n : Block) → k < length bs → n.steps.items ≡ (slice_index_or bs k n).steps.items ++ l ∷ [] → (IsBounded (slice_index_or bs k n) → IsBounded n) → IsPut l bs (slice_set bs k n)
-put-at bs k l n low steps bounded =
+pub put-at : (bs : List Block) (k : ℕ) (l : Loose) (n : Block) → k < length bs → length bs ≤ k + 1 → n.steps.items ≡ (slice_index_or bs k n).steps.items ++ l ∷ [] → (IsBounded (slice_index_or bs k n) → IsBounded n) → IsPut l bs (slice_set bs k n)
+put-at bs k l n low last steps bounded =
     record {
       blocks = λ m j chain loose each. each-set (IsBlock m j chain) bs k n each (pushed-block m j chain l (slice_index_or bs k n) n steps bounded loose (each-at (IsBlock m j chain) bs k n each low));
       kept = λ i h. one-kept (IsOnBlock i) bs k n low (λ on. subst (One (λ (x : Loose). x.place ≡ i)) (sym steps) (one-left (λ (x : Loose). x.place ≡ i) (slice_index_or bs k n).steps.items l on)) h;
       added = one-new (IsOnBlock l.place) bs k n low (subst (One (λ (x : Loose). x.place ≡ l.place)) (sym steps) (one-last (λ (x : Loose). x.place ≡ l.place) (slice_index_or bs k n).steps.items l refl));
+      past = λ p is. past-set p bs k n last is;
     }
 
 -- in a block of its own
@@ -54,21 +56,23 @@ put-new bs l n steps bounded =
       blocks = λ m j chain loose each. each-end (IsBlock m j chain) bs n each (record { bounded = bounded; loose = subst (Each (IsLoose m j chain)) (sym steps) (loose, tt) });
       kept = λ i h. one-left (IsOnBlock i) bs n h;
       added = one-last (IsOnBlock l.place) bs n (subst (One (λ (x : Loose). x.place ≡ l.place)) (sym steps) (inl refl));
+      past = λ p is. past-push p bs n is;
     }
 
 -- ---- one track
 
 pub track-later : (m : Ran) (j : ℕ) (t : Track) → IsTrack m j t → IsTrack m (j + 1) t
-track-later m j t is = record { chain = chain-later m j t.chain.items is.chain; blocks = each-on (IsBlock m j t.chain.items) (IsBlock m (j + 1) t.chain.items) t.blocks.items (block-later m j t.chain.items) is.blocks }
+track-later m j t is = record { chain = chain-later m j t.chain.items is.chain; blocks = each-on (IsBlock m j t.chain.items) (IsBlock m (j + 1) t.chain.items) t.blocks.items (block-later m j t.chain.items) is.blocks; past = is.past }
 
 -- the step goes to the chain
 pub track-linked : (m : Ran) (j : ℕ) (t n : Track) (closed : List Block) → IsTrack m j t → IsEnd m j t.chain.items (length t.chain.items) → AreChanged (IsBlockClosed m j (length t.chain.items)) (length t.blocks.items) t.blocks.items closed
-    → n.chain.items ≡ t.chain.items ++ j ∷ [] → n.blocks.items ≡ closed → IsTrack m (j + 1) n
-track-linked m j t n closed is end changed chain blocks =
+    → n.chain.items ≡ t.chain.items ++ j ∷ [] → n.blocks.items ≡ closed → IsPast n.past closed → IsTrack m (j + 1) n
+track-linked m j t n closed is end changed chain blocks past =
     let more = changed-each (IsBlockClosed m j (length t.chain.items)) (IsBlock m j t.chain.items) (IsBlock m (j + 1) (t.chain.items ++ j ∷ [])) (length t.blocks.items) t.blocks.items closed (omega arith) changed (λ b c r p. block-closed m j t.chain.items b c r p) is.blocks in
     record {
       chain = subst (IsChain m (j + 1)) (sym chain) (chain-more m j t.chain.items is.chain end);
       blocks = subst (λ c. Each (IsBlock m (j + 1) c) n.blocks.items) (sym chain) (subst (Each (IsBlock m (j + 1) (t.chain.items ++ j ∷ []))) (sym blocks) more);
+      past = subst (IsPast n.past) (sym blocks) past;
     }
 
 pub linked-on : (m : Ran) (j : ℕ) (t n : Track) (closed : List Block) → AreChanged (IsBlockClosed m j (length t.chain.items)) (length t.blocks.items) t.blocks.items closed → n.chain.items ≡ t.chain.items ++ j ∷ [] → n.blocks.items ≡ closed → (i : ℕ) → IsOn t i → IsOn n i
@@ -80,8 +84,8 @@ pub linked-new : (j : ℕ) (t n : Track) → n.chain.items ≡ t.chain.items ++ 
 linked-new j t n chain = inl (subst (IsIn j) (sym chain) ((in-push t.chain.items j j).1 (inr refl)))
 
 -- it goes to the others
-pub track-loosed : (m : Ran) (j : ℕ) (t n : Track) (l : Loose) → IsTrack m j t → IsEnd m j t.chain.items l.from → l.place ≡ j → l.until ≡ None → n.chain.items ≡ t.chain.items → IsPut l t.blocks.items n.blocks.items → IsTrack m (j + 1) n
-track-loosed m j t n l is end place until chain put =
+pub track-loosed : (m : Ran) (j : ℕ) (t n : Track) (l : Loose) → IsTrack m j t → IsEnd m j t.chain.items l.from → l.place ≡ j → l.until ≡ None → n.chain.items ≡ t.chain.items → n.past ≡ t.past → IsPut l t.blocks.items n.blocks.items → IsTrack m (j + 1) n
+track-loosed m j t n l is end place until chain past put =
     let later = track-later m j t is in
     let one : IsLoose m (j + 1) t.chain.items l =
     record {
@@ -93,6 +97,7 @@ track-loosed m j t n l is end place until chain put =
     record {
       chain = subst (IsChain m (j + 1)) (sym chain) later.chain;
       blocks = subst (λ c. Each (IsBlock m (j + 1) c) n.blocks.items) (sym chain) (put.blocks m (j + 1) t.chain.items one later.blocks);
+      past = subst (λ p. IsPast p n.blocks.items) (sym past) (put.past t.past is.past);
     }
 
 pub loosed-on : (t n : Track) (l : Loose) → n.chain.items ≡ t.chain.items → IsPut l t.blocks.items n.blocks.items → (i : ℕ) → IsOn t i → IsOn n i

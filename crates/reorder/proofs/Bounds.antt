@@ -1,5 +1,5 @@
 -- Blocks of loose steps and their bounds.
-use Rattle.std.proofs.Common.{ℕ, ◌≤◌, List, length, refl, sym, subst, arith, inl, Option, Some, None}
+use Rattle.std.proofs.Common.{ℕ, ◌≤◌, List, length, refl, sym, subst, arith, inl, inr, Option, Some, None}
 use Rattle.cell_machine.specs.Run.{Ran}
 use Rattle.settled.specs.Lists.{Each, AreChanged}
 use Rattle.reorder.specs.Tracks.{IsNotAbove, IsWithinBounds, IsBounded, IsClosed, IsBlockClosed}
@@ -16,7 +16,7 @@ closed-bounded m j index low high new ls ns changed within until =
 
 -- a block with an upper bound stays as it is
 pub none-closed : (m : Ran) (j index : ℕ) (b : Block) → IsBounded b → IsBlockClosed m j index b b
-none-closed m j index b bounded = record { steps = changed-same (IsClosed m j index) (length b.steps.items) b.steps.items (λ l. record { place = refl; from = refl; until = inl refl }); bounded = bounded }
+none-closed m j index b bounded = record { steps = changed-same (IsClosed m j index) (length b.steps.items) b.steps.items (λ l. record { place = refl; from = refl; until = inl refl }); bounded = bounded; kept = inr refl }
 
 -- below a bound is below a higher one
 pub above-more : (high new : ℕ) (until : Option ℕ) → high ≤ new → IsNotAbove (Some high) until → IsNotAbove (Some new) until

@@ -1,6 +1,6 @@
 -- What is gathered of a run, as it goes on.
-use Rattle.std.proofs.Common.{◌≡◌, ℕ, ◌+◌, ◌<◌, ◌≤◌, List, [], ◌∷◌, ◌++◌, length, refl, sym, ap, ◌∙◌, subst, arith, ◌⊎◌, inl, inr, Option, Some, None}
-use Rattle.std.specs.Prelude.{Vec, slice_get}
+use Rattle.std.proofs.Common.{◌≡◌, ℕ, ◌+◌, ◌<◌, List, [], ◌∷◌, ◌++◌, length, refl, sym, ap, ◌∙◌, subst, arith, inl, inr, Option, Some, None}
+use Rattle.std.specs.Prelude.{Vec}
 use Rattle.std.specs.declared.alloc.Global.{Global}
 use Rattle.cell_machine.specs.Opening.{Opening}
 use Rattle.cell_machine.specs.Run.{Ran, IsRun}
@@ -8,7 +8,7 @@ use Rattle.run_walk.specs.Ordered.{IsOrdered}
 use Rattle.race_check.proofs.Prefixes.{is_ordered-up, run-told}
 use Rattle.run_permute.specs.Places.{until}
 use Rattle.settled.proofs.Alike.{Alike, alike-first}
-use Rattle.settled.specs.Lists.{Each, IsIn}
+use Rattle.settled.specs.Lists.{Each}
 use Rattle.reorder.specs.declared.block.Block.{Block}
 use Rattle.reorder.specs.declared.block.Loose.{Loose}
 use Rattle.reorder.specs.declared.needs.Needs.{Needs}
@@ -47,7 +47,7 @@ module _ (m n : Ran) (j : ℕ) (a : Alike m n j) where
 
   each-track : (ts : List Track) → Each (IsTrack m j) ts → Each (IsTrack n j) ts
   each-track [] e = tt
-  each-track (t ∷ ts) e = (record { chain = chain-on t.chain.items e.0.chain; blocks = each-block t.chain.items t.blocks.items e.0.chain e.0.blocks }, each-track ts e.1)
+  each-track (t ∷ ts) e = (record { chain = chain-on t.chain.items e.0.chain; blocks = each-block t.chain.items t.blocks.items e.0.chain e.0.blocks; past = e.0.past }, each-track ts e.1)
 
   pub tracks-on : (ts : List Track) → AreTracks m j ts → AreTracks n j ts
   tracks-on ts t = record { each = each-track ts t.each; all = t.all }

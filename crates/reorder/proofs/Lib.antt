@@ -4,6 +4,7 @@ pub mod Rising
 pub mod Changes
 pub mod Ones
 pub mod Bounds
+pub mod Passed
 pub mod Frees
 pub mod Waiters
 pub mod Nths

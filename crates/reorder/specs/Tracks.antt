@@ -1,5 +1,5 @@
 -- The steps of each actor so far, and which of them are ordered.
-use Rattle.std.specs.Prelude.{◌≡◌, ℕ, ◌<◌, ◌≤◌, ◌⊎◌, List, length, Some, None, Option, slice_get}
+use Rattle.std.specs.Prelude.{◌≡◌, ℕ, ◌<◌, ◌≤◌, ◌⊎◌, ◌-◌, List, length, Some, None, Option, slice_get, take}
 use Rattle.cell_machine.specs.Run.{Ran}
 use Rattle.run_frames.specs.OrderedLaws.{IsOrdered}
 use Rattle.settled.specs.Lists.{IsIn, Each, AreChanged}
@@ -7,6 +7,7 @@ use Rattle.reorder.specs.Lists.{One}
 use Rattle.reorder.specs.Needs.{IsCovered}
 use Rattle.reorder.specs.declared.block.Block.{Block}
 use Rattle.reorder.specs.declared.block.Loose.{Loose}
+use Rattle.reorder.specs.declared.past.Past.{Past}
 use Rattle.reorder.specs.declared.track.Track.{Track}
 
 -- each step is below place j and ordered before those behind it
@@ -58,9 +59,20 @@ pub record IsBlock (m : Ran) (j : ℕ) (chain : List ℕ) (b : Block) : Type 0 w
   pub bounded : IsBounded b
   pub loose : Each (IsLoose m j chain) b.steps.items
 
+-- the block has a `high`, and the bounds are within these
+pub record IsSpanned (p : Past) (b : Block) : Type 0 where
+  pub low : p.low ≤ b.low
+  pub high : IsNotAbove (Some p.high) b.high
+
+-- so many of the first blocks are so, but not the last one
+pub record IsPast (p : Past) (bs : List Block) : Type 0 where
+  pub within : p.blocks ≤ length bs - 1
+  pub each : Each (IsSpanned p) (take p.blocks bs)
+
 pub record IsTrack (m : Ran) (j : ℕ) (t : Track) : Type 0 where
   pub chain : IsChain m j t.chain.items
   pub blocks : Each (IsBlock m j t.chain.items) t.blocks.items
+  pub past : IsPast t.past t.blocks.items
 
 -- step i is one of the block's
 abbrev pub IsOnBlock : ℕ → Block → Type 0
@@ -96,16 +108,18 @@ pub record IsClosed (m : Ran) (j index : ℕ) (l n : Loose) : Type 0 where
   pub from : n.from ≡ l.from
   pub until : (n.until ≡ l.until) ⊎ ((n.until ≡ Some index) × IsOrdered m l.place j)
 
--- each of the block's steps is so, and within the new bounds
+-- each of the block's steps is so, and within the new bounds; with a `high` the block stays as it is
 pub record IsBlockClosed (m : Ran) (j index : ℕ) (b n : Block) : Type 0 where
   pub steps : AreChanged (IsClosed m j index) (length b.steps.items) b.steps.items n.steps.items
   pub bounded : IsBounded n
+  pub kept : (b.high ≡ None) ⊎ (n ≡ b)
 
--- the step is on one of the blocks now, beside those that were
+-- the step is on one of the blocks now, beside those that were, and on none that is past
 pub record IsPut (l : Loose) (bs ns : List Block) : Type 0 where
   pub blocks : (m : Ran) (j : ℕ) (chain : List ℕ) → IsLoose m j chain l → Each (IsBlock m j chain) bs → Each (IsBlock m j chain) ns
   pub kept : (i : ℕ) → One (IsOnBlock i) bs → One (IsOnBlock i) ns
   pub added : One (IsOnBlock l.place) ns
+  pub past : (p : Past) → IsPast p bs → IsPast p ns
 
 -- the tracks have the steps below place j
 pub record AreTracks (m : Ran) (j : ℕ) (tracks : List Track) : Type 0 where

@@ -10,8 +10,8 @@ use run_walk::Walk;
 use settled::is_before;
 use std::alloc::{AllocError, Global};
 
-/// How many steps a block takes. A step looks at the bounds of all blocks, and at all steps of few of them.
-const ROOM: usize = 64;
+/// How many steps a block takes. A step looks at the bounds of those that aren't past, and at all steps of few of them.
+const ROOM: usize = 16;
 
 /// A step that isn't on its actor's chain: the steps of the chain below `from` are ordered before it, and it is ordered before the
 /// one at `until`, where one is known.
@@ -45,7 +45,7 @@ pub struct Block {
 
 /// Whether a step of this `from` and this `until` may be ordered before a step that has so many of the chain before it, and not before
 /// one of these.
-fn is_beside(from: u32, until: Option<u32>, end: usize) -> bool
+pub fn is_beside(from: u32, until: Option<u32>, end: usize) -> bool
     ensures { IsTrue result ↔ IsBeside from until end }
 {
     if from as usize > end {
@@ -148,6 +148,20 @@ impl Block {
             high: None,
             steps,
         })
+    }
+
+    /// What no `from` is below.
+    pub fn low(&self) -> u32
+        ensures { result ≡ self.now.low }
+    {
+        self.low
+    }
+
+    /// What no `until` is above, where each step has one.
+    pub fn high(&self) -> Option<u32>
+        ensures { result ≡ self.now.high }
+    {
+        self.high
     }
 
     /// Whether it takes no more steps.

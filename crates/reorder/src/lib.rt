@@ -9,6 +9,7 @@ mod choosing;
 mod laws;
 mod needs;
 mod order;
+mod past;
 mod permuting;
 mod track;
 mod tracks;

@@ -7,15 +7,17 @@ ghost use Rattle.settled.specs.Walks.{Here, IsAt};
 ghost use Rattle.reorder.specs.Tracks.{CoversTrack, IsBelow, IsBlockClosed, IsBlockFound, IsBounded, IsChain, IsEnd, IsOn, IsPut, IsTrack};
 
 use crate::block::{Block, Loose};
+use crate::past::Past;
 use run_walk::Walk;
 use settled::is_before;
 use std::alloc::{AllocError, Global};
 
-/// The steps of an actor so far: a chain, each ordered before the next, and the others.
+/// The steps of an actor so far: a chain, each ordered before the next, and the others in blocks, of which the first are past.
 #[derive(Drop)]
 pub struct Track {
     chain: Vec<u32>,
     blocks: Vec<Block>,
+    past: Past,
 }
 
 /// Whether the step at the index, if there is one, isn't ordered before the last step.
@@ -76,18 +78,18 @@ fn search_end(chain: &[u32], walk: &Walk) -> usize
     low
 }
 
-/// How many of the steps of a chain are ordered before the last step. Mostly they are all or none.
+/// How many of the steps of a chain are ordered before the last step. Mostly they are none, as those of other actors, or all.
 fn end_of(chain: &[u32], walk: &Walk) -> usize
     ghost here: { Here }
     requires at { IsAt walk.now here.run (here.place + 1) }
     requires chain { IsChain here.run here.place chain.now }
     ensures { IsEnd here.run here.place chain.now result }
 {
-    if is_end(chain, walk, chain.len()) {
-        return chain.len();
-    }
     if is_end(chain, walk, 0) {
         return 0;
+    }
+    if is_end(chain, walk, chain.len()) {
+        return chain.len();
     }
     search_end(chain, walk)
 }
@@ -130,15 +132,16 @@ fn gather_blocks(
     Ok(())
 }
 
-/// Closes all of the loose steps that can be.
-fn close_blocks(blocks: &mut [Block], walk: &Walk, index: u32)
+/// Closes all of the loose steps that can be, of which there are none in the first blocks that are past.
+fn close_blocks(blocks: &mut [Block], walk: &Walk, index: u32, past: usize)
     ghost here: { Here }
     requires at { IsAt walk.now here.run (here.place + 1) }
     requires below { Each (IsBelow here.place) blocks.old }
     requires bounded { Each IsBounded blocks.old }
+    requires past { past ≤ length blocks.old }
     ensures { AreChanged (IsBlockClosed here.run here.place index) (length blocks.old) blocks.old blocks.new }
 {
-    for k in 0..blocks.len() {
+    for k in past..blocks.len() {
         blocks[k].close(walk, index);
     }
 }
@@ -185,6 +188,7 @@ impl Track {
         Track {
             chain: Vec::new(alloc),
             blocks: Vec::new(alloc),
+            past: Past::none(),
         }
     }
 
@@ -198,7 +202,8 @@ impl Track {
         ensures covers { IfOk result (λ _. CoversTrack here.run here.place self.now needs.new.items) }
     {
         let end = gather_chain(&self.chain, walk, needs)?;
-        gather_blocks(&self.blocks, walk, end, needs)?;
+        let passed = self.past.passed(end);
+        gather_blocks(&self.blocks[passed..], walk, end, needs)?;
         Ok(())
     }
 
@@ -214,7 +219,8 @@ impl Track {
         ensures added { IfOk result (λ _. IsOn self.new place) }
     {
         let index = self.chain.len() as u32;
-        close_blocks(self.blocks.as_mut_slice(), walk, index);
+        close_blocks(self.blocks.as_mut_slice(), walk, index, self.past.blocks);
+        self.past = self.past.advanced(&self.blocks);
         self.chain.push(place)?;
         Ok(())
     }

@@ -5,6 +5,7 @@ use Rattle.reorder.specs.Tracks.{IsBelow, IsBlockClosed, IsBounded}
 use Rattle.reorder.specs.declared.block.Block.{Block}
 use Rattle.settled.proofs.Entries.{each-at}
 use Rattle.settled.proofs.Changes.{changed-at, changed-more}
+use Rattle.reorder.proofs.Passed.{front-closed}
 use Rattle.reorder.proofs.track.close_blocks.Goals as goal
 
 pub close-requires : goal.close-requires
@@ -12,7 +13,10 @@ close-requires g c =
     let d = c.index-blocks-k.result in
     let blocks = c.args.blocks.now in
     let same = changed-at (IsBlockClosed g.here.run g.here.place c.args.index) c.loop-k.k blocks c.loop-k.blocks d c.loop-k.invariant in
-    (c.requires.0, (subst (IsBelow g.here.place) (sym same) (each-at (IsBelow g.here.place) blocks c.loop-k.k d c.requires.1.0 c.loop-k-test.true), subst IsBounded (sym same) (each-at IsBounded blocks c.loop-k.k d c.requires.1.1 c.loop-k-test.true)))
+    (c.requires.0, (subst (IsBelow g.here.place) (sym same) (each-at (IsBelow g.here.place) blocks c.loop-k.k d c.requires.1.0 c.loop-k-test.true), subst IsBounded (sym same) (each-at IsBounded blocks c.loop-k.k d c.requires.1.1.0 c.loop-k-test.true)))
+
+pub loop-k-init : goal.loop-k-init
+loop-k-init g c = front-closed g.here.run g.here.place c.args.index c.args.past c.args.blocks.now c.requires.1.1.0
 
 pub loop-k-preserved : goal.loop-k-preserved
 loop-k-preserved g c =

@@ -1,4 +1,4 @@
-use Rattle.std.proofs.Common.{◌≡◌, List, length, sym, ◌∙◌, subst}
+use Rattle.std.proofs.Common.{rules, ◌≡◌, List, length, sym, ◌∙◌, subst, inl}
 use Rattle.std.specs.Vec.{with_items}
 use Rattle.cell_machine.proofs.AllTwo.{whole}
 use Rattle.settled.specs.Lists.{Each, AreChanged}
@@ -22,6 +22,7 @@ returns-then-is_none g c =
     record {
       steps = subst (AreChanged R (length old.steps.items) old.steps.items) (sym same) changed;
       bounded = subst (Each (IsWithinBounds old.low high)) (sym same) (closed-bounded m j c.args.index old.low old.high high old.steps.items ws changed c.requires.1.1 until);
+      kept = inl (search rules);
     }
 
 pub returns-else-is_none : goal.returns-else-is_none

@@ -5,7 +5,7 @@ use Rattle.race_order.specs.Orderly.{IsWithin}
 use Rattle.run_walk.specs.Ordered.{IsOrdered}
 use Rattle.run_walk.specs.Walks.{walked}
 use Rattle.settled.specs.Walks.{IsAt}
-use Rattle.settled.proofs.Settlings.{Stepped, stepped}
+use Rattle.settled.proofs.Settlings.{stepped}
 use Rattle.settled.proofs.Walking.{step-inside}
 use Rattle.reorder.specs.Needs.{AreNeedsOf}
 use Rattle.reorder.specs.Tracks.{AreTracks}

@@ -1,5 +1,4 @@
 use Rattle.std.proofs.Common.{[], sym}
-use Rattle.cell_machine.specs.Opening.{Opening}
 use Rattle.cell_machine.specs.Run.{Ran}
 use Rattle.settled.specs.Walks.{Here}
 use Rattle.reorder.proofs.Gathering.{begun-gathers}

@@ -1,14 +1,20 @@
-use Rattle.std.proofs.Common.{ℕ, ◌-◌, ◌<◌, List, get_or, sym, subst}
+use Rattle.std.proofs.Common.{ℕ, ◌-◌, ◌<◌, List, drop, get_or, sym, ap, ◌∙◌, subst}
+use Rattle.std.proofs.lemmas.List.{take_rest}
 use Rattle.settled.specs.Lists.{IsIn, Each}
 use Rattle.reorder.specs.Tracks.{IsBelow, IsBlockFound, IsBounded, IsEnd}
 use Rattle.reorder.proofs.Added.{blocks-below, blocks-bounded, sound-more}
 use Rattle.reorder.proofs.Ends.{covers-track}
+use Rattle.reorder.proofs.Passed.{each-drop, past-found}
 use Rattle.reorder.proofs.track.Track.gather.Goals as goal
 
 pub gather_blocks-requires : goal.gather_blocks-requires
 gather_blocks-requires g c =
-    let bs = c.deref-2.ensures.value in
-    (c.requires.0, (subst (Each (IsBelow g.here.place)) (sym bs) (blocks-below g.here.run g.here.place c.args.self.now c.requires.1), subst (Each IsBounded) (sym bs) (blocks-bounded g.here.run g.here.place c.args.self.now c.requires.1)))
+    let m = g.here.run in
+    let j = g.here.place in
+    let self = c.args.self.now in
+    let passed = c.passed-passed.result in
+    let behind = take_rest c.deref-2.result.now passed ∙ ap (drop passed) c.deref-2.ensures.value in
+    (c.requires.0, (subst (Each (IsBelow j)) (sym behind) (each-drop (IsBelow j) passed self.blocks.items (blocks-below m j self c.requires.1)), subst (Each IsBounded) (sym behind) (each-drop IsBounded passed self.blocks.items (blocks-bounded m j self c.requires.1))))
 
 pub returns-clause-kept : goal.returns-clause-kept
 returns-clause-kept g c = λ k h. c.in_ok-gather_blocks.ensures.kept k (c.in_ok-end.ensures.kept k h)
@@ -20,10 +26,14 @@ pub returns-clause-covers : goal.returns-clause-covers
 returns-clause-covers g c =
     let m = g.here.run in
     let j = g.here.place in
-    let chain = c.args.self.now.chain.items in
+    let self = c.args.self.now in
+    let chain = self.chain.items in
     let end = c.in_ok-end.end in
     let needs = c.gather_blocks.new.needs.items in
+    let passed = c.passed-passed.result in
     let is = subst (λ (xs : List ℕ). IsEnd m j xs end) c.deref.ensures.value c.in_ok-end.ensures.end in
     let last = subst (λ (xs : List ℕ). 0 < end → IsIn (get_or xs (end - 1) 0) c.gather_chain.new.needs.items) c.deref.ensures.value c.in_ok-end.ensures.last in
-    let found = subst (Each (IsBlockFound m j end needs)) c.deref-2.ensures.value c.in_ok-gather_blocks.ensures.found in
-    covers-track m j c.args.self.now end needs c.requires.1 is (λ some. c.in_ok-gather_blocks.ensures.kept (get_or chain (end - 1) 0) (last some)) found
+    let behind = take_rest c.deref-2.result.now passed ∙ ap (drop passed) c.deref-2.ensures.value in
+    let found = subst (Each (IsBlockFound m j end needs)) behind c.in_ok-gather_blocks.ensures.found in
+    let all = past-found m j end passed needs self.past self.blocks.items c.passed-passed.ensures.within c.passed-passed.ensures.beside c.requires.1.past (blocks-bounded m j self c.requires.1) found in
+    covers-track m j self end needs c.requires.1 is (λ some. c.in_ok-gather_blocks.ensures.kept (get_or chain (end - 1) 0) (last some)) all

@@ -1,12 +1,11 @@
 use Rattle.std.proofs.Common.{rules, ◌≡◌, ◌<◌, ◌≤◌, ◌^◌, ◌++◌, ◌∷◌, [], List, length, sym, ap, ◌∙◌, subst, arith}
 use Rattle.std.specs.Vec.{with_items}
-use Rattle.cell_machine.proofs.AllTwo.{whole}
 use Rattle.settled.specs.Lists.{Each, AreChanged}
-use Rattle.reorder.specs.Tracks.{IsBelow, IsBlockClosed, IsBounded}
+use Rattle.reorder.specs.Tracks.{IsBelow, IsBlockClosed, IsBounded, IsPast}
 use Rattle.reorder.specs.declared.block.Block.{Block}
 use Rattle.reorder.specs.declared.track.Track.{Track}
 use Rattle.reorder.proofs.Added.{blocks-below, blocks-bounded, track-linked, linked-on, linked-new}
-use Rattle.settled.proofs.Changes.{changed-long}
+use Rattle.reorder.proofs.Passed.{closed-items, past-closed, past-few}
 use Rattle.reorder.proofs.Ends.{chain-long}
 use Rattle.reorder.proofs.track.Track.link.Goals as goal
 
@@ -21,8 +20,22 @@ overflow_cast-index g c =
 
 pub close_blocks-requires : goal.close_blocks-requires
 close_blocks-requires g c =
+    let m = g.here.run in
+    let j = g.here.place in
+    let old = c.args.self.now in
     let bs = c.as_mut_slice.ensures.value in
-    (c.requires.0, (subst (Each (IsBelow g.here.place)) (sym bs) (blocks-below g.here.run g.here.place c.args.self.now c.requires.1.1.0), subst (Each IsBounded) (sym bs) (blocks-bounded g.here.run g.here.place c.args.self.now c.requires.1.1.0)))
+    (c.requires.0, (subst (Each (IsBelow j)) (sym bs) (blocks-below m j old c.requires.1.1.0), (subst (Each IsBounded) (sym bs) (blocks-bounded m j old c.requires.1.1.0), subst (λ (xs : List Block). old.past.blocks ≤ length xs) (sym bs) (past-few old.past old.blocks.items c.requires.1.1.0.past))))
+
+pub advanced-self-requires : goal.advanced-self-requires
+advanced-self-requires g c =
+    let m = g.here.run in
+    let j = g.here.place in
+    let old = c.args.self.now in
+    let ws = c.close_blocks.new.blocks in
+    let index = c.len-index.result in
+    let changed = subst (λ (ls : List Block). AreChanged (IsBlockClosed m j index) (length ls) ls ws) c.as_mut_slice.ensures.value c.close_blocks.ensures in
+    let same = closed-items m j index old.blocks ws changed in
+    subst (IsPast old.past) (sym (c.deref.ensures.value ∙ same)) (past-closed m j index old.past old.blocks.items ws changed c.requires.1.1.0.past)
 
 pub returns-clause-track : goal.returns-clause-track
 returns-clause-track g c =
@@ -30,13 +43,14 @@ returns-clause-track g c =
     let j = g.here.place in
     let old = c.args.self.now in
     let ws = c.close_blocks.new.blocks in
-    let n : Track = record { chain = c.push.new.self; blocks = with_items old.blocks ws } in
+    let past = c.advanced-self.result in
+    let n : Track = record { chain = c.push.new.self; blocks = with_items old.blocks ws; past = past } in
     let index : c.len-index.result ≡ length old.chain.items = search rules in
     let changed =
     subst (λ k. AreChanged (IsBlockClosed m j k) (length old.blocks.items) old.blocks.items ws) index
     (subst (λ (ls : List Block). AreChanged (IsBlockClosed m j c.len-index.result) (length ls) ls ws) c.as_mut_slice.ensures.value c.close_blocks.ensures) in
-    let same = whole old.blocks.len ws old.blocks.items (old.blocks.ok.0 ∙ sym (changed-long (IsBlockClosed m j (length old.chain.items)) (length old.blocks.items) old.blocks.items ws changed)) in
-    track-linked m j old n ws c.requires.1.1.0 c.requires.1.1.1 changed (c.in_ok-push.ensures.items ∙ ap (λ p. old.chain.items ++ p ∷ []) c.requires.1.0) same
+    let same = closed-items m j (length old.chain.items) old.blocks ws changed in
+    track-linked m j old n ws c.requires.1.1.0 c.requires.1.1.1 changed (c.in_ok-push.ensures.items ∙ ap (λ p. old.chain.items ++ p ∷ []) c.requires.1.0) same (subst (IsPast past) (c.deref.ensures.value ∙ same) c.advanced-self.ensures)
 
 pub returns-clause-kept : goal.returns-clause-kept
 returns-clause-kept g c =
@@ -44,15 +58,14 @@ returns-clause-kept g c =
     let j = g.here.place in
     let old = c.args.self.now in
     let ws = c.close_blocks.new.blocks in
-    let n : Track = record { chain = c.push.new.self; blocks = with_items old.blocks ws } in
+    let n : Track = record { chain = c.push.new.self; blocks = with_items old.blocks ws; past = c.advanced-self.result } in
     let index : c.len-index.result ≡ length old.chain.items = search rules in
     let changed =
     subst (λ k. AreChanged (IsBlockClosed m j k) (length old.blocks.items) old.blocks.items ws) index
     (subst (λ (ls : List Block). AreChanged (IsBlockClosed m j c.len-index.result) (length ls) ls ws) c.as_mut_slice.ensures.value c.close_blocks.ensures) in
-    let same = whole old.blocks.len ws old.blocks.items (old.blocks.ok.0 ∙ sym (changed-long (IsBlockClosed m j (length old.chain.items)) (length old.blocks.items) old.blocks.items ws changed)) in
-    linked-on m j old n ws changed (c.in_ok-push.ensures.items ∙ ap (λ p. old.chain.items ++ p ∷ []) c.requires.1.0) same
+    linked-on m j old n ws changed (c.in_ok-push.ensures.items ∙ ap (λ p. old.chain.items ++ p ∷ []) c.requires.1.0) (closed-items m j (length old.chain.items) old.blocks ws changed)
 
 pub returns-clause-added : goal.returns-clause-added
 returns-clause-added g c =
-    let n : Track = record { chain = c.push.new.self; blocks = with_items c.args.self.now.blocks c.close_blocks.new.blocks } in
+    let n : Track = record { chain = c.push.new.self; blocks = with_items c.args.self.now.blocks c.close_blocks.new.blocks; past = c.advanced-self.result } in
     linked-new c.args.place c.args.self.now n c.in_ok-push.ensures.items

@@ -22,12 +22,12 @@ returns-clause-track g c =
     let j = g.here.place in
     let old = c.args.self.now in
     let is = c.new-loose.ensures in
-    let n : Track = record { chain = old.chain; blocks = c.put_loose.new.blocks } in
-    track-loosed m j old n c.new-loose.result c.requires.1.0 (subst (IsEnd m j old.chain.items) (sym (ap (λ (l : Loose). l.from) is)) c.requires.1.1) (ap (λ (l : Loose). l.place) is ∙ c.requires.0) (ap (λ (l : Loose). l.until) is) refl c.in_ok-put_loose.ensures
+    let n : Track = record { chain = old.chain; blocks = c.put_loose.new.blocks; past = old.past } in
+    track-loosed m j old n c.new-loose.result c.requires.1.0 (subst (IsEnd m j old.chain.items) (sym (ap (λ (l : Loose). l.from) is)) c.requires.1.1) (ap (λ (l : Loose). l.place) is ∙ c.requires.0) (ap (λ (l : Loose). l.until) is) refl refl c.in_ok-put_loose.ensures
 
 pub returns-clause-kept : goal.returns-clause-kept
 returns-clause-kept g c =
-    let n : Track = record { chain = c.args.self.now.chain; blocks = c.put_loose.new.blocks } in
+    let n : Track = record { chain = c.args.self.now.chain; blocks = c.put_loose.new.blocks; past = c.args.self.now.past } in
     loosed-on c.args.self.now n c.new-loose.result refl c.in_ok-put_loose.ensures
 
 pub returns-clause-added : goal.returns-clause-added
