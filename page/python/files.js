@@ -131,7 +131,7 @@ const sys = { $isModule: true, stdout, stderr, stdin: null, argv: ['cell'], path
 
 /** How a program's words begin for the engine. */
 const PROGRAMS = {
-  [`${TOOLS}/cell`]: [], [`${TOOLS}/crates/cell_cli/out/cell_cli`]: [], [`${TOOLS}/hunt`]: ['hunt'], [`${TOOLS}/crates/run_trace/out/run_trace`]: ['trace'],
+  [`${TOOLS}/crates/cell_cli/out/cell_cli`]: [], [`${TOOLS}/crates/hunt/out/hunt`]: ['hunt'], [`${TOOLS}/crates/run_trace/out/run_trace`]: ['trace'],
 };
 const SHOWN = /^(?:cell|hunt|run_trace): /, RUN = /^run_trace: /; // a run is made by run_trace, and `cell` says the same of a file
 

@@ -4,7 +4,6 @@ import pathlib
 ROOT = pathlib.Path(__file__).resolve().parents[3]
 LAUNCH = ROOT / "tools" / "launch"
 CELL = ROOT / "cell"
-HUNT = ROOT / "hunt"
 PROGRAMS = ("cell_cli", "hunt", "run_trace")  # the proved ones
 
 

@@ -4,8 +4,8 @@ import subprocess
 import tempfile
 from typing import Iterable, Tuple
 
-from celltools.common.repository import CELL
 from celltools.common.texts import decoded, shown
+from celltools.run.runs import command_of
 
 MOST = 100  # faulty lines that are told of one file
 MOST_SHOWN = 120  # characters of a faulty line
@@ -28,7 +28,7 @@ class Report:
 
 def cell(*words: str) -> Tuple[int, str, str]:
     """What the program answers: its exit status, its output, and what it says of a fault."""
-    run = subprocess.run([CELL, *words], capture_output=True)
+    run = subprocess.run([*command_of("cell_cli"), *words], capture_output=True)
     said = re.search(rb"^cell: (?!running)(.*)", run.stderr, re.M)
     return run.returncode, run.stdout.decode("latin1"), said[1].decode("latin1") if said else ""
 

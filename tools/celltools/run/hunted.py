@@ -5,9 +5,8 @@ import dataclasses
 import functools
 from typing import Iterator, Optional, Sequence, Tuple
 
-from celltools.common.repository import HUNT
 from celltools.common.words import Words, file_name, number, number_up_to
-from celltools.run.runs import Refused, ended, next_step, prepare, said_of
+from celltools.run.runs import Refused, asked, next_step, said_of
 from celltools.run.snapshots import Snapshot, snapshots
 
 MOST_SEED = 0xFFFF_FFFF_FFFF_FFFF
@@ -68,8 +67,7 @@ def asked_of(reader: Words, words: Sequence[str], rest: int = 0, needs_record: b
 
 def record_of_hunt(machine: Snapshot, number: int, seed: int = FIRST_SEED) -> Snapshot:
     """The record of a hunt's run, put beside the copy of the machine file."""
-    prepare()
-    done = ended([HUNT, machine, "record", str(number), str(seed)])
+    done = asked("hunt", machine, "record", str(number), str(seed))
     if not done.stdout.startswith("cell-record"):
         said = said_of(done)
         raise Refused(said + next_step(said, machine, ""))

@@ -127,10 +127,14 @@ def prepare() -> bool:
     return status == 0
 
 
+def command_of(program: str) -> List[Path]:
+    """How the words begin by which a program is called: it is asked itself where it is proved, since the sources have been looked at."""
+    return [built(program)] if prepare() else [LAUNCH, program]
+
+
 def asked(program: str, *words: Path) -> "Done":
     """What a program answers."""
-    launcher: List[Path] = [built(program)] if prepare() else [LAUNCH, program]
-    return ended([*launcher, *words])
+    return ended([*command_of(program), *words])
 
 
 def ask_tracer(form: str, machine: Path, record: Path, *more: str) -> List[str]:

@@ -4,13 +4,12 @@ import subprocess
 import tempfile
 from typing import Dict, Iterable, Mapping, Tuple
 
-from celltools.common.repository import CELL
-from celltools.run.runs import Refused
+from celltools.run.runs import Refused, command_of
 
 MOST_WORDS = 256  # that a line of a script may ask for
 
 
-def instructions(words: Mapping[int, bytes], program: pathlib.Path = CELL) -> Dict[int, str]:
+def instructions(words: Mapping[int, bytes]) -> Dict[int, str]:
     """The instruction at each address of some words of four bytes; ValueError with the program's words where it refuses."""
     if not words:
         return {}
@@ -20,7 +19,7 @@ def instructions(words: Mapping[int, bytes], program: pathlib.Path = CELL) -> Di
         machine.write_text("cell-machine 1\nlines 1\nbudget 1\nspe\n" + "".join(placed))
         first, end = min(words), max(words) + 4
         script.write_text("".join(f"dis 0 {at} {min(MOST_WORDS, (end - at) // 4)}\n" for at in range(first, end, 4 * MOST_WORDS)))
-        run = subprocess.run([program, "debug", machine, script], capture_output=True, text=True)
+        run = subprocess.run([*command_of("cell_cli"), "debug", machine, script], capture_output=True, text=True)
     if run.returncode:
         raise ValueError(run.stderr.strip())
     lines = (line.split(" ", 2) for line in run.stdout.splitlines())

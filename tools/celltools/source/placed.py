@@ -10,8 +10,8 @@ import subprocess
 import tempfile
 from typing import Iterator, List, NamedTuple, Tuple
 
-from celltools.common.repository import CELL
 from celltools.common.texts import bytes_of, decoded
+from celltools.run.runs import command_of
 from celltools.source.language import DATA, NAME, SECTIONS, STORE, STRINGS, is_text_section, number_in
 
 LABELS = re.compile(r"\s*((?:[A-Za-z_.][\w.]*\s*:\s*)*)([\w.]*)(.*)", re.S | re.A)
@@ -59,7 +59,7 @@ def image(source: bytes) -> Image:
     with tempfile.NamedTemporaryFile("wb", suffix=".s") as file:
         file.write(source)
         file.flush()
-        run = subprocess.run([str(CELL), "asm", file.name], capture_output=True)
+        run = subprocess.run([*command_of("cell_cli"), "asm", file.name], capture_output=True)
     if run.returncode:
         raise ValueError(run.stderr.decode(errors="backslashreplace").strip())
     lines = [line.split() for line in run.stdout.decode().splitlines()]
