@@ -33,7 +33,10 @@ def status_of(main: Main, failed: int) -> int:
     except MemoryError:
         status, said = failed, "memory ran out"
     except Exception as why:  # whatever it is: its place helps more than a traceback does
-        status, said = FAULTY, f"a fault of this program itself, in {place_of(why)}: {type(why).__name__}: {why}"
+        if isinstance(why.__context__, KeyboardInterrupt):  # argparse fails so where it is interrupted
+            status, said = STOPPED, ""
+        else:
+            status, said = FAULTY, f"a fault of this program itself, in {place_of(why)}: {type(why).__name__}: {why}"
     drop_output()
     if said:
         tell(said)
