@@ -5,9 +5,10 @@ import pathlib
 import shutil
 import signal
 import subprocess
+import sys
 import tempfile
 import time
-from typing import Callable, Dict, Iterator
+from typing import Callable, Dict, Iterator, List
 
 from celltools.common.repository import ROOT
 from lib.hostility.rows import Ended, Row, ended, shown
@@ -39,12 +40,17 @@ esac
 TOLD = [f"cell: {number} of 3 crates, {name}".encode() for number, name in enumerate(("cell_cli", "hunt", "run_trace"), 1)]
 
 
+def of_others(_: str, names: List[str]) -> List[str]:
+    """What other Pythons keep compiled. What this one keeps is copied: to compile it takes longer than all else here."""
+    return [name for name in names if name.endswith(".pyc") and f".{sys.implementation.cache_tag}." not in name]
+
+
 @contextlib.contextmanager
 def unbuilt() -> Iterator[pathlib.Path]:
     """A checkout of three crates, of which nothing is built, with an `rt` in kit/ and a machine file."""
     with tempfile.TemporaryDirectory(prefix="cell-launching-") as room:
         folder = pathlib.Path(room).resolve()
-        shutil.copytree(ROOT / "tools", folder / "tools", ignore=shutil.ignore_patterns("__pycache__"))
+        shutil.copytree(ROOT / "tools", folder / "tools", ignore=of_others)
         for name in ("cell", "hunt"):
             shutil.copy(ROOT / name, folder)
         for crate in ("cell_cli", "hunt", "run_trace"):

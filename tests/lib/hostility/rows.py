@@ -10,6 +10,7 @@ import tempfile
 from typing import Callable, Iterator, List, Mapping, Optional, Sequence, Tuple, Union
 
 from celltools.common.repository import ROOT
+from lib import forking
 
 SHOWN = 2000  # bytes of what a failing row wrote
 TRACEBACK = b"Traceback (most recent call last)"
@@ -43,6 +44,16 @@ class Ended:
     error: bytes
 
 
+def asked(row: Row, folder: pathlib.Path) -> Optional[Ended]:
+    """What comes of a row in its folder. A tool is forked, where the row isn't about its start."""
+    program = ROOT / row.words[0]
+    command = [str(program), *row.words[1:]]
+    if row.environment or not forking.is_tool(program):
+        return ended(command, folder, row.seconds, row.megabytes, row.standard_input, row.environment)
+    found = forking.ended(command, folder, row.seconds, row.megabytes, row.standard_input)
+    return Ended(*found) if found else None
+
+
 def ended(words: Sequence[str], folder: pathlib.Path, seconds: float, megabytes: int, standard_input: bytes = b"",
           environment: Optional[Mapping[str, str]] = None) -> Optional[Ended]:
     """A command that has ended, in a folder; None where it doesn't end in time, which ends it with whatever it started."""
@@ -73,8 +84,7 @@ def faults_of(row: Row) -> List[str]:
     with tempfile.TemporaryDirectory(prefix="cell-hostile-") as room:
         folder = pathlib.Path(room).resolve()
         prepare(row, folder)
-        command = [str(ROOT / row.words[0]), *row.words[1:]]
-        found = ended(command, folder, row.seconds, row.megabytes, row.standard_input, row.environment)
+        found = asked(row, folder)
         if found is None:
             return [f"no end within {row.seconds} seconds"]
         faults = list(faults_in(row, found))

@@ -72,7 +72,7 @@ def each_test_loads() -> Iterator[str]:
     """The programs of tests/ and their modules load under the oldest and the newest Python."""
     programs = [str(path) for path in sorted((ROOT / "tests").iterdir()) if path.is_file() and os.access(path, os.X_OK)]
     for python in {pythons()[0], pythons()[-1]}:
-        found = ended([python, "-S", "-B", "-c", LOAD, *programs], ROOT, SECONDS, MEGABYTES)
+        found = ended([python, "-S", "-c", LOAD, *programs], ROOT, SECONDS, MEGABYTES)
         if found is None or found.status:
             yield "\n".join([f"{python} loads not all programs of tests/", *(shown(found) if found else [])])
 
