@@ -2,15 +2,15 @@
 import dataclasses
 import os
 import pathlib
-import subprocess
 from typing import Any, Dict, Iterator, List, Sequence, Tuple
 
 from celltools.common.repository import ROOT
+from lib import forking
 from lib.questions import Answer, Question, files_of
 
 Told = Dict[str, Any]  # questions or an answer, as they are sent
 
-SECONDS = 120
+SECONDS, MEGABYTES = 120, 4096
 EXAMPLES = ("races/mail_race", "races/list_race", "races/slowpath_race", "fault", "stuck", "counter")
 FAULTY = 12  # sources of tests/cases that are explained
 
@@ -40,9 +40,8 @@ def of_tools() -> Iterator[OfTool]:
 
 def told(question: OfTool) -> str:
     """What the tool of this clone tells."""
-    words = [str(ROOT / "tools" / question.tool), *map(str, question.command)]
-    said: str = subprocess.run(words, cwd=ROOT, stdin=subprocess.DEVNULL, capture_output=True, text=True, timeout=SECONDS).stdout
-    return said
+    found = forking.ended([f"tools/{question.tool}", *question.command], ROOT, SECONDS, MEGABYTES)
+    return found[1].decode() if found else f"no end within {SECONDS} seconds"
 
 
 # ---- how they are sent
