@@ -1,5 +1,5 @@
 """Which pairs of a run's steps docs/ORDER.md orders, directly and by chains, and which of them race: told once more, beside
-tools/celltools/order/graph.py, each rule as a look at one pair of places. Nothing here is fast: every rule looks at every pair.
+tools/celltools/order/graph.py, each rule as a look at one pair of places. Nothing here is fast: every rule looks at every pair of steps of the kinds that it speaks of.
 """
 import re
 from typing import Callable, Dict, Iterator, List, Optional, Sequence, Set, Tuple
@@ -170,18 +170,39 @@ RULES: Dict[str, Rule] = {
     "NextElement": next_element, "StallSeen": stall_seen, "Resumed": resumed, "ResumedEarlier": resumed_earlier, "TagSeen": tag_seen,
 }
 
+# What the first and the second of two steps have, at least, that a rule orders: it isn't asked about other pairs.
+OF_COMMAND, OF_LINE = "a command", "a line"
+INSTRUCTION, PIECE, ELEMENT, ATOMIC, HOST = (f"a step: {kind}" for kind in ("instruction", "piece", "element", "atomic", "host"))
+SIGNS: Dict[str, Tuple[str, str]] = {
+    "Program": (INSTRUCTION, INSTRUCTION), "Script": (HOST, HOST), "Issued": ("issue", OF_COMMAND), "AtomicIssued": ("atomic", ATOMIC),
+    "NextAtomic": (ATOMIC, "atomic"), "AtomicSeen": (ATOMIC, "atomicread"), "Line": (OF_LINE, OF_LINE), "Passed": ("put", "take"), "PlaceFree": ("take", "put"),
+    "Signalled": ("signal", "signal"), "Finished": ("ended", "awaited"), "Queue": (OF_COMMAND, OF_COMMAND), "ElementPiece": (ELEMENT, PIECE),
+    "NextElement": (OF_COMMAND, ELEMENT), "StallSeen": (OF_COMMAND, "stalls"), "Resumed": ("ack", OF_COMMAND), "ResumedEarlier": ("ack", OF_COMMAND),
+    "TagSeen": (OF_COMMAND, "tags"),
+}
+
+
+def signs_of(trace: Trace, place: int) -> Set[str]:
+    """What a step has of these."""
+    step = trace.steps[place]
+    return {f"a step: {step.kind}", *step.told, *[OF_COMMAND] * (step.command_key() is not None), *[OF_LINE] * bool(trace.whole_lines(place))}
+
 
 # ---- what follows from them
 
 def edges(trace: Trace) -> Dict[Pair, Set[str]]:
     """Of each pair of places that a rule orders directly, the names of these rules."""
-    count = len(trace.steps)
     found: Dict[Pair, Set[str]] = {}
-    for j in range(count):
-        for i in range(j):
-            names = {name for name, rule in RULES.items() if rule(trace, i, j)}
-            if names:
-                found[i, j] = names
+    places: Dict[str, List[int]] = {}  # with a sign, below j
+    for j in range(len(trace.steps)):
+        signs = signs_of(trace, j)
+        for name, rule in RULES.items():
+            first, second = SIGNS[name]
+            for i in places.get(first, ()) if second in signs else ():
+                if rule(trace, i, j):
+                    found.setdefault((i, j), set()).add(name)
+        for sign in signs:
+            places.setdefault(sign, []).append(j)
     return found
 
 
