@@ -1,15 +1,17 @@
 """Questions that the library and the WebAssembly module are asked, about all examples, and what the programs answer to them."""
 import concurrent.futures
 import dataclasses
+import hashlib
 import os
 import pathlib
 import re
 import subprocess
 from typing import Dict, Iterator, List, Sequence, Tuple
 
-from celltools.common.repository import ROOT, built
+from celltools.common.repository import PROGRAMS, ROOT, built
 
 EXAMPLES = ROOT / "examples"
+KEPT = ROOT / "tests" / "out" / "answers"
 SECONDS = 60
 FOUND = 1  # the greatest status of an answer that is no refusal
 RUNS, FEW, RUN, SEED = "12", "4", "5", "2"
@@ -124,7 +126,22 @@ def unnamed(line: bytes, words: Sequence[str]) -> bytes:
 
 
 def answers_of(asked: Sequence[Question], folder: pathlib.Path) -> List[Answer]:
-    """What the programs answer to all questions, asked side by side."""
+    """What the programs answer to all questions. It is kept, since three programs of tests/ ask for it, as long as the programs and the questions are the same."""
+    data = b"".join([*(built(program).read_bytes() for program in PROGRAMS), packed(asked)])
+    head = hashlib.sha256(data).hexdigest().encode()
+    kept, _, answers = KEPT.read_bytes().partition(b"\n") if KEPT.exists() else (b"", b"", b"")
+    if kept == head:
+        return [*unpacked(answers)]
+    found = asked_now(asked, folder)
+    beside = KEPT.with_name(f"{KEPT.name}.{os.getpid()}")
+    KEPT.parent.mkdir(exist_ok=True)
+    beside.write_bytes(b"".join([head, b"\n", *(b"%d %d\n%s" % (answer.status, len(answer.text), answer.text) for answer in found)]))
+    beside.replace(KEPT)
+    return found
+
+
+def asked_now(asked: Sequence[Question], folder: pathlib.Path) -> List[Answer]:
+    """What they answer, asked side by side."""
     os.symlink(EXAMPLES, folder / "examples")
     for name, text in (CHOICES, EXPECTED, ("faulty.s", b"_start: il $3\n")):
         (folder / name).write_bytes(text)
