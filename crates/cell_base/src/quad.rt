@@ -8,6 +8,9 @@ ghost use Rattle.cell_base.specs.Lanes.{lanes, of_lanes, splat, in_first_word};
 use std::marker::Model;
 use std::simd::prelude::*;
 
+/// How many numbers a doubleword has.
+const DOUBLE: u128 = 0x1_0000_0000_0000_0000;
+
 /// A quadword: 16 bytes, of which the first is the most significant.
 #[derive(Drop, Clone, Copy)]
 pub struct Quad {
@@ -125,9 +128,10 @@ impl Quad {
     pub fn of_bits(bits: u128) -> Quad
         ensures { result ≡ spelled 16 bits }
     {
-        Quad {
-            packed: u8x16::from_array(bits.to_be_bytes()),
-        }
+        // Lanes become bytes by one shuffle, where `to_be_bytes` makes each byte by itself.
+        let high = (bits / DOUBLE) as u64;
+        let low = (bits % DOUBLE) as u64;
+        Quad::of_double_lanes(u64x2::from_array([high, low]))
     }
 
     /// The quadword with this byte in each byte.
