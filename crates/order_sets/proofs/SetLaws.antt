@@ -31,6 +31,10 @@ or_swap true false = refl
 or_swap false true = refl
 or_swap false false = refl
 
+-- where there are no more, no more pass
+pub none_more : {X : Type 0} (p : X → Bool) (xs more : List X) → more ≡ [] → list_any p xs ≡ (list_any p xs || list_any p more)
+none_more p xs more e = sym (ap (λ l. list_any p xs || list_any p l) e ∙ or_swap (list_any p xs) false)
+
 -- w has r, and nothing but a and r
 same_or : (w a r : Bool) → (r ≡ true → w ≡ true) → (w ≡ true → (a || r) ≡ true) → (w || a) ≡ (a || r)
 same_or true a r more only = sym (only refl)

@@ -1,6 +1,6 @@
 //! The set of known steps.
 
-ghost use Rattle.std.specs.Prelude.{◌≡◌, ℕ, [], ◌∷◌, ◌++◌, ◌<◌, ◌≤◌, ◌*◌, ◌+◌, ◌||◌, List, length, vec_len, vec_capacity, OnOk, OnErr, IfOk, IsOk, max, nat_lt, slice_index, ◌≢◌};
+ghost use Rattle.std.specs.Prelude.{◌≡◌, ℕ, [], ◌∷◌, ◌++◌, ◌<◌, ◌≤◌, ◌*◌, ◌+◌, ◌||◌, List, length, vec_len, vec_capacity, OnOk, OnErr, IfOk, IsOk, IsTrue, max, nat_lt, slice_index, ◌≢◌};
 ghost use Rattle.std.specs.List.{list_any};
 ghost use Rattle.order_sets.specs.declared.facts.At.{At};
 ghost use Rattle.order_sets.specs.declared.facts.Fact.{Fact};
@@ -94,79 +94,85 @@ fn lower_all(ends: &mut [u32])
     }
 }
 
-/// Adds each of the other runs. Where there is room for them, none is missing.
-fn add_runs(runs: &mut Vec<Run>, other: &[Run]) -> Result<(), AllocError>
+/// Adds each of the other runs, and answers whether one was new. Where there is room for them, none is missing.
+fn add_runs(runs: &mut Vec<Run>, other: &[Run]) -> Result<bool, AllocError>
     ensures ok { OnOk result ((at : At) → list_any (in_run at) runs.new.items ≡ (list_any (in_run at) runs.old.items || list_any (in_run at) other.now)) }
     ensures room { vec_len runs.old + length other.now ≤ vec_capacity runs.old → IsOk result }
 {
     // Sets that were joined before mostly have the same runs at the same places.
+    let mut grows = false;
     for (i, r) in other.iter().enumerate() {
-        runs::add_near(runs, i, *r)?;
+        grows |= runs::add_near(runs, i, *r)?;
     }
-    Ok(())
+    Ok(grows)
 }
 
-/// Adds the other runs, as a copy where there are none. Where there is room for them, none is missing.
-fn join_runs(runs: &mut Vec<Run>, other: &[Run]) -> Result<(), AllocError>
+/// Adds the other runs, as a copy where there are none, and answers whether one was new. Where there is room for them, none is missing.
+fn join_runs(runs: &mut Vec<Run>, other: &[Run]) -> Result<bool, AllocError>
     ensures ok { OnOk result ((at : At) → list_any (in_run at) runs.new.items ≡ (list_any (in_run at) runs.old.items || list_any (in_run at) other.now)) }
     ensures room { vec_len runs.old + length other.now ≤ vec_capacity runs.old → IsOk result }
 {
     if other.is_empty() {
-        return Ok(());
+        return Ok(false);
     }
     if runs.is_empty() {
-        return runs.extend_from_slice(other);
+        runs.extend_from_slice(other)?;
+        return Ok(true);
     }
     add_runs(runs, other)
 }
 
-/// Adds each of the other elements. Where there is room for them, none is missing.
-fn add_parts(parts: &mut Vec<Part>, other: &[Part]) -> Result<(), AllocError>
+/// Adds each of the other elements, and answers whether one was new. Where there is room for them, none is missing.
+fn add_parts(parts: &mut Vec<Part>, other: &[Part]) -> Result<bool, AllocError>
     ensures ok { OnOk result ((at : At) → list_any (in_part at) parts.new.items ≡ (list_any (in_part at) parts.old.items || list_any (in_part at) other.now)) }
     ensures room { vec_len parts.old + length other.now ≤ vec_capacity parts.old → IsOk result }
 {
     // Sets that were joined before mostly have the same parts at the same places.
+    let mut grows = false;
     for (i, p) in other.iter().enumerate() {
-        parts::add_near(parts, i, *p)?;
+        grows |= parts::add_near(parts, i, *p)?;
     }
-    Ok(())
+    Ok(grows)
 }
 
-/// Adds the other elements, as a copy where there are none. Where there is room for them, none is missing.
-fn join_parts(parts: &mut Vec<Part>, other: &[Part]) -> Result<(), AllocError>
+/// Adds the other elements, as a copy where there are none, and answers whether one was new. Where there is room for them, none is missing.
+fn join_parts(parts: &mut Vec<Part>, other: &[Part]) -> Result<bool, AllocError>
     ensures ok { OnOk result ((at : At) → list_any (in_part at) parts.new.items ≡ (list_any (in_part at) parts.old.items || list_any (in_part at) other.now)) }
     ensures room { vec_len parts.old + length other.now ≤ vec_capacity parts.old → IsOk result }
 {
     if other.is_empty() {
-        return Ok(());
+        return Ok(false);
     }
     if parts.is_empty() {
-        return parts.extend_from_slice(other);
+        parts.extend_from_slice(other)?;
+        return Ok(true);
     }
     add_parts(parts, other)
 }
 
-/// Adds each of the other facts. Where there is room for them, none is missing.
-fn add_rest(rest: &mut Vec<Fact>, other: &[Fact]) -> Result<(), AllocError>
+/// Adds each of the other facts, and answers whether one was new. Where there is room for them, none is missing.
+fn add_rest(rest: &mut Vec<Fact>, other: &[Fact]) -> Result<bool, AllocError>
     ensures ok { OnOk result ((at : At) → list_any (λ f. covers f at) rest.new.items ≡ (list_any (λ f. covers f at) rest.old.items || list_any (λ f. covers f at) other.now)) }
     ensures room { vec_len rest.old + length other.now ≤ vec_capacity rest.old → IsOk result }
 {
+    let mut grows = false;
     for f in other {
-        rest::add(rest, *f)?;
+        grows |= rest::add(rest, *f)?;
     }
-    Ok(())
+    Ok(grows)
 }
 
-/// Adds the other facts, as a copy where there are none. Where there is room for them, none is missing.
-fn join_rest(rest: &mut Vec<Fact>, other: &[Fact]) -> Result<(), AllocError>
+/// Adds the other facts, as a copy where there are none, and answers whether one was new. Where there is room for them, none is missing.
+fn join_rest(rest: &mut Vec<Fact>, other: &[Fact]) -> Result<bool, AllocError>
     ensures ok { OnOk result ((at : At) → list_any (λ f. covers f at) rest.new.items ≡ (list_any (λ f. covers f at) rest.old.items || list_any (λ f. covers f at) other.now)) }
     ensures room { vec_len rest.old + length other.now ≤ vec_capacity rest.old → IsOk result }
 {
     if other.is_empty() {
-        return Ok(());
+        return Ok(false);
     }
     if rest.is_empty() {
-        return rest.extend_from_slice(other);
+        rest.extend_from_slice(other)?;
+        return Ok(true);
     }
     add_rest(rest, other)
 }
@@ -206,6 +212,15 @@ fn drop_ones(rest: &mut Vec<Fact>, runs: &[Run], parts: &[Part])
         return;
     }
     rest.retain(|f| is_needed(f, runs, parts));
+}
+
+/// Whether there is none of these.
+fn are_none(runs: &Vec<Run>, parts: &Vec<Part>, rest: &Vec<Fact>) -> bool
+    ensures runs { IsTrue result → runs.now.items ≡ [] }
+    ensures parts { IsTrue result → parts.now.items ≡ [] }
+    ensures rest { IsTrue result → rest.now.items ≡ [] }
+{
+    runs.is_empty() && parts.is_empty() && rest.is_empty()
 }
 
 impl Known {
@@ -254,30 +269,39 @@ impl Known {
         ensures chains { self.new.chains ≡ self.old.chains }
         ensures err { OnErr result (self.new ≡ self.old) }
     {
-        self.put(f)?;
-        self.drop_covered();
+        if self.put(f)? {
+            self.drop_covered();
+        }
         Ok(())
     }
 
-    /// Puts in what a fact covers. Where there is no memory, the set stays as it is.
-    fn put(&mut self, f: Fact) -> Result<(), AllocError>
+    /// Puts in what a fact covers, and answers whether that may cover other facts. Where there is no memory, the set stays as it is.
+    fn put(&mut self, f: Fact) -> Result<bool, AllocError>
         requires { Fits self.old f }
         ensures ok { OnOk result ((at : At) → has_at self.new at ≡ (has_at self.old at || covers f at)) }
         ensures chains { self.new.chains ≡ self.old.chains }
         ensures err { OnErr result (self.new ≡ self.old) }
     {
-        match f {
-            Fact::Upto { chain, place } => match place.checked_add(1) {
-                Some(end) => raise(self.ends.as_mut_slice(), chain, end),
-                None => rest::add(&mut self.rest, f)?,
-            },
+        let grows = match f {
+            Fact::Upto { chain, place } => {
+                match place.checked_add(1) {
+                    Some(end) => raise(self.ends.as_mut_slice(), chain, end),
+                    None => {
+                        rest::add(&mut self.rest, f)?;
+                    }
+                }
+                false
+            }
             Fact::Whole { chain, cmd } => runs::add(&mut self.runs, runs::single(chain, cmd))?,
             Fact::Elements { chain, cmd, below } => {
                 parts::add(&mut self.parts, parts::single(chain, cmd, below))?
             }
-            Fact::One { .. } => rest::add(&mut self.rest, f)?,
-        }
-        Ok(())
+            Fact::One { .. } => {
+                rest::add(&mut self.rest, f)?;
+                false
+            }
+        };
+        Ok(grows)
     }
 
     /// Adds what the other set has, which was made for the same number of processors. Where there is no memory, the set stays as it is.
@@ -288,27 +312,34 @@ impl Known {
         ensures chains { self.new.chains ≡ self.old.chains }
         ensures err { OnErr result (self.new ≡ self.old) }
     {
-        self.unite(other)?;
-        self.drop_covered();
+        if self.unite(other)? {
+            self.drop_covered();
+        }
         Ok(())
     }
 
-    /// Puts in all that the other set has. Where there is no memory, the set stays as it is.
-    fn unite(&mut self, other: &Known) -> Result<(), AllocError>
+    /// Puts in all that the other set has, and answers whether some of that and what was there may cover one another. Where there is no
+    /// memory, the set stays as it is.
+    fn unite(&mut self, other: &Known) -> Result<bool, AllocError>
         requires { AreAlike self.old other.now }
         ensures ok { OnOk result ((at : At) → has_at self.new at ≡ (has_at self.old at || has_at other.now at)) }
         ensures chains { self.new.chains ≡ self.old.chains }
         ensures err { OnErr result (self.new ≡ self.old) }
     {
+        if are_none(&other.runs, &other.parts, &other.rest) {
+            raise_all(self.ends.as_mut_slice(), other.ends.as_slice());
+            return Ok(false);
+        }
+        let had_none = are_none(&self.runs, &self.parts, &self.rest);
         self.runs.reserve(other.runs.len())?;
         self.parts.reserve(other.parts.len())?;
         self.rest.reserve(other.rest.len())?;
         // There is room now, so none of these fails after another has changed the set.
-        join_runs(&mut self.runs, &other.runs)?;
-        join_parts(&mut self.parts, &other.parts)?;
-        join_rest(&mut self.rest, &other.rest)?;
+        let more_runs = join_runs(&mut self.runs, &other.runs)?;
+        let more_parts = join_parts(&mut self.parts, &other.parts)?;
+        let more_rest = join_rest(&mut self.rest, &other.rest)?;
         raise_all(self.ends.as_mut_slice(), other.ends.as_slice());
-        Ok(())
+        Ok(!had_none && (more_runs || more_parts || more_rest))
     }
 
     /// Drops parts of commands and single steps that the set has anyway.

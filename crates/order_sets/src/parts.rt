@@ -91,8 +91,8 @@ fn covers_at(parts: &[Part], i: usize, part: &Part) -> bool
     i < parts.len() && is_inside(part, &parts[i])
 }
 
-/// Adds a part, if it has any element, which takes in those that it touches. Only where there is no room it may fail, and then all stays as it is.
-pub(crate) fn add(parts: &mut Vec<Part>, part: Part) -> Result<(), AllocError>
+/// Adds a part, if it has any element, which takes in those that it touches, and answers whether it was new. Only where there is no room it may fail, and then all stays as it is.
+pub(crate) fn add(parts: &mut Vec<Part>, part: Part) -> Result<bool, AllocError>
     ensures ok { OnOk result ((at : At) → list_any (in_part at) parts.new.items ≡ (list_any (in_part at) parts.old.items || in_part at part)) }
     ensures err { OnErr result (parts.new.items ≡ parts.old.items) }
     ensures len { vec_len parts.new ≤ vec_len parts.old + 1 }
@@ -100,16 +100,16 @@ pub(crate) fn add(parts: &mut Vec<Part>, part: Part) -> Result<(), AllocError>
     ensures room { vec_len parts.old < vec_capacity parts.old → IsOk result }
 {
     if part.below == 0 || covers(parts.as_slice(), &part) {
-        return Ok(());
+        return Ok(false);
     }
     let whole = grown(parts.as_slice(), part);
     parts.push(whole)?;
     parts.retain(|p| !is_inside(p, &whole) || is_inside(&whole, p));
-    Ok(())
+    Ok(true)
 }
 
 /// The same for a part that is looked for at the place first.
-pub(crate) fn add_near(parts: &mut Vec<Part>, i: usize, part: Part) -> Result<(), AllocError>
+pub(crate) fn add_near(parts: &mut Vec<Part>, i: usize, part: Part) -> Result<bool, AllocError>
     ensures ok { OnOk result ((at : At) → list_any (in_part at) parts.new.items ≡ (list_any (in_part at) parts.old.items || in_part at part)) }
     ensures err { OnErr result (parts.new.items ≡ parts.old.items) }
     ensures len { vec_len parts.new ≤ vec_len parts.old + 1 }
@@ -117,7 +117,7 @@ pub(crate) fn add_near(parts: &mut Vec<Part>, i: usize, part: Part) -> Result<()
     ensures room { vec_len parts.old < vec_capacity parts.old → IsOk result }
 {
     if covers_at(parts.as_slice(), i, &part) {
-        return Ok(());
+        return Ok(false);
     }
     add(parts, part)
 }

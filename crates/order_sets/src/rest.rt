@@ -40,8 +40,8 @@ fn is_there(rest: &[Fact], fact: &Fact) -> bool
     rest.iter().any(|f| f == fact)
 }
 
-/// Adds the fact where it isn't there. Only where there is no room it may fail, and then all stays as it is.
-pub(crate) fn add(rest: &mut Vec<Fact>, fact: Fact) -> Result<(), AllocError>
+/// Adds the fact where it isn't there, and answers whether it was new. Only where there is no room it may fail, and then all stays as it is.
+pub(crate) fn add(rest: &mut Vec<Fact>, fact: Fact) -> Result<bool, AllocError>
     ensures ok { OnOk result ((at : At) → list_any (λ f. covers f at) rest.new.items ≡ (list_any (λ f. covers f at) rest.old.items || covers fact at)) }
     ensures err { OnErr result (rest.new.items ≡ rest.old.items) }
     ensures len { vec_len rest.new ≤ vec_len rest.old + 1 }
@@ -49,8 +49,8 @@ pub(crate) fn add(rest: &mut Vec<Fact>, fact: Fact) -> Result<(), AllocError>
     ensures room { vec_len rest.old < vec_capacity rest.old → IsOk result }
 {
     if is_there(rest.as_slice(), &fact) {
-        return Ok(());
+        return Ok(false);
     }
     rest.push(fact)?;
-    Ok(())
+    Ok(true)
 }

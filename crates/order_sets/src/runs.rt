@@ -93,8 +93,8 @@ fn covers_at(runs: &[Run], i: usize, run: &Run) -> bool
     i < runs.len() && is_inside(run, &runs[i])
 }
 
-/// Adds a run, which takes in those that it touches. Only where there is no room it may fail, and then all stays as it is.
-pub(crate) fn add(runs: &mut Vec<Run>, run: Run) -> Result<(), AllocError>
+/// Adds a run, which takes in those that it touches, and answers whether it was new. Only where there is no room it may fail, and then all stays as it is.
+pub(crate) fn add(runs: &mut Vec<Run>, run: Run) -> Result<bool, AllocError>
     ensures ok { OnOk result ((at : At) → list_any (in_run at) runs.new.items ≡ (list_any (in_run at) runs.old.items || in_run at run)) }
     ensures err { OnErr result (runs.new.items ≡ runs.old.items) }
     ensures len { vec_len runs.new ≤ vec_len runs.old + 1 }
@@ -102,16 +102,16 @@ pub(crate) fn add(runs: &mut Vec<Run>, run: Run) -> Result<(), AllocError>
     ensures room { vec_len runs.old < vec_capacity runs.old → IsOk result }
 {
     if covers(runs.as_slice(), &run) {
-        return Ok(());
+        return Ok(false);
     }
     let whole = grown(runs.as_slice(), run);
     runs.push(whole)?;
     runs.retain(|r| !is_inside(r, &whole) || is_inside(&whole, r));
-    Ok(())
+    Ok(true)
 }
 
 /// The same for a run that is looked for at the place first.
-pub(crate) fn add_near(runs: &mut Vec<Run>, i: usize, run: Run) -> Result<(), AllocError>
+pub(crate) fn add_near(runs: &mut Vec<Run>, i: usize, run: Run) -> Result<bool, AllocError>
     ensures ok { OnOk result ((at : At) → list_any (in_run at) runs.new.items ≡ (list_any (in_run at) runs.old.items || in_run at run)) }
     ensures err { OnErr result (runs.new.items ≡ runs.old.items) }
     ensures len { vec_len runs.new ≤ vec_len runs.old + 1 }
@@ -119,7 +119,7 @@ pub(crate) fn add_near(runs: &mut Vec<Run>, i: usize, run: Run) -> Result<(), Al
     ensures room { vec_len runs.old < vec_capacity runs.old → IsOk result }
 {
     if covers_at(runs.as_slice(), i, &run) {
-        return Ok(());
+        return Ok(false);
     }
     add(runs, run)
 }

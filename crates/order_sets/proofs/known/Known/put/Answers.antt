@@ -19,16 +19,16 @@ returns-in-Some-clause-ok c = λ at.
     ∙ ap (λ l. nat_lt at.place (slice_index l at.chain) || covers (Upto c.in-Upto.chain c.in-Upto.place) at) c.as_mut_slice.ensures.value))
     ∙ ap₂ (λ b f. b || covers f at) (was c.self.inside _ at c.self.view_is) (sym c.in-Upto.is))
 
-pub returns-in_ok-add-in-Whole-clause-ok : goal.returns-in_ok-add-in-Whole-clause-ok
-returns-in_ok-add-in-Whole-clause-ok c = λ at.
+pub returns-in_ok-grows-in-Whole-clause-ok : goal.returns-in_ok-grows-in-Whole-clause-ok
+returns-in_ok-grows-in-Whole-clause-ok c = λ at.
     has_it c.self.inside.ends.items c.add-in-Whole.new.runs.items c.self.inside.parts.items c.self.inside.rest.items at
-    ∙ (more_runs c.self.inside c.add-in-Whole.new.runs.items at _ (c.in_ok-add-in-Whole.ensures.ok at ∙ ap (λ b. list_any (in_run at) c.self.inside.runs.items || b) (c.single.ensures at))
+    ∙ (more_runs c.self.inside c.add-in-Whole.new.runs.items at _ (c.in_ok-grows-in-Whole.ensures.ok at ∙ ap (λ b. list_any (in_run at) c.self.inside.runs.items || b) (c.single.ensures at))
     ∙ ap₂ (λ b f. b || covers f at) (was c.self.inside _ at c.self.view_is) (sym c.in-Whole.is))
 
-pub returns-in_ok-add-in-Elements-clause-ok : goal.returns-in_ok-add-in-Elements-clause-ok
-returns-in_ok-add-in-Elements-clause-ok c = λ at.
+pub returns-in_ok-grows-in-Elements-clause-ok : goal.returns-in_ok-grows-in-Elements-clause-ok
+returns-in_ok-grows-in-Elements-clause-ok c = λ at.
     has_it c.self.inside.ends.items c.self.inside.runs.items c.add-in-Elements.new.parts.items c.self.inside.rest.items at
-    ∙ (more_parts c.self.inside c.add-in-Elements.new.parts.items at _ (c.in_ok-add-in-Elements.ensures.ok at ∙ ap (λ b. list_any (in_part at) c.self.inside.parts.items || b) (c.single-in-Elements.ensures at))
+    ∙ (more_parts c.self.inside c.add-in-Elements.new.parts.items at _ (c.in_ok-grows-in-Elements.ensures.ok at ∙ ap (λ b. list_any (in_part at) c.self.inside.parts.items || b) (c.single-in-Elements.ensures at))
     ∙ ap₂ (λ b f. b || covers f at) (was c.self.inside _ at c.self.view_is) (sym c.in-Elements.is))
 
 pub returns-in_ok-add-in-One-clause-ok : goal.returns-in_ok-add-in-One-clause-ok
