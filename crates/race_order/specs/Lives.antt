@@ -15,6 +15,8 @@ use Rattle.race_order.specs.Status.{stepped, is_by, elements_done, has_one_piece
 use Rattle.race_order.specs.Queue.{Has}
 use Rattle.race_order.specs.Lines.{is_queued_line}
 use Rattle.race_order.specs.declared.lives.Live.{Live}
+use Rattle.race_order.specs.declared.lives.Target.{Target}
+use Rattle.race_order.specs.declared.lives.Target.TheVariants.{Command, Lists, Nothing}
 use Rattle.race_order.specs.declared.roles.QueueRole.{QueueRole}
 use Rattle.race_order.specs.declared.roles.QueueRole.TheVariants.{Waits}
 use Rattle.race_order.specs.Tables.{same_role}
@@ -69,6 +71,12 @@ is_only_step lives Host = false
 
 abbrev pub is_touched : Live → Step → Note → Bool
 is_touched l step note = is_of l.spe l.cmd step || acks l.spe l.progress step note
+
+-- the command is what is touched
+abbrev pub is_target : Target → Live → Bool
+is_target (Command p c) l = is_by l.spe l.cmd p c
+is_target (Lists p tag) l = p == l.spe && (l.progress.stalled && tag == l.progress.command.tag)
+is_target Nothing l = false
 
 abbrev pub moved : Live → Step → Note → Live
 moved l step note = record l { progress = stepped l.spe l.cmd l.progress step note }

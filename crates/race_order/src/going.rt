@@ -2,13 +2,14 @@
 
 ghost use Rattle.std.specs.Prelude.{◌≡◌, ◌+◌, ◌<◌, ◌^◌, ◌&&◌, IfOk, OnOk, map, not, false};
 ghost use Rattle.std.specs.List.{list_any};
-ghost use Rattle.race_order.specs.Lives.{moved, HaveRoom, AreOutstanding};
+ghost use Rattle.race_order.specs.declared.lives.Live.{Live as ALive};
+ghost use Rattle.race_order.specs.Lives.{is_target, is_touched, moved, HaveRoom, AreOutstanding};
 ghost use Rattle.race_order.specs.Passes.{AreMoved, into_stalled, stall_any};
 ghost use Rattle.race_order.specs.Tables.{sets_have, AreOf};
 
 use crate::brought::Brought;
 use crate::error::OrderError;
-use crate::lives::{Live, after_step, may_touch, touches};
+use crate::lives::{Live, Target, after_step, may_touch, target_of, touches};
 use crate::moves::{Move, make};
 use crate::roles::QueueRole;
 use crate::sets::Sets;
@@ -48,8 +49,10 @@ fn go_on(
     sets: &mut Sets,
     spare: &mut Known,
     live: &mut Live,
+    target: Target,
     brought: &Brought,
 ) -> Result<bool, OrderError>
+    requires target { (l : ALive) → is_target target l ≡ is_touched l brought.now.step brought.now.effect.now.note }
     requires room { live.old.progress.read + 1 < 2 ^ 16 }
     requires live { live.old.progress.done ≡ false }
     requires sets { AreOf (spare.old.chains) sets.old }
@@ -59,7 +62,7 @@ fn go_on(
     ensures spare { spare.new.chains ≡ spare.old.chains }
     ensures done { IfOk result (λ done. done ≡ live.new.progress.done) }
 {
-    if !touches(live, &brought.step, &brought.effect.note) {
+    if !touches(live, target) {
         return Ok(false);
     }
     let next = after_step(live, brought.step, brought.effect.note);
@@ -84,12 +87,13 @@ pub(crate) fn go_on_all(
     ensures spare { spare.new.chains ≡ spare.old.chains }
     ensures done { IfOk result (λ done. done ≡ list_any (λ l. l.progress.done) lives.new) }
 {
-    if !may_touch(brought.step, brought.effect.note) {
+    let target = target_of(brought.step, brought.effect.note);
+    if !may_touch(target) {
         return Ok(false);
     }
     let mut done = false;
     for i in 0..lives.len() {
-        done |= go_on(sets, spare, &mut lives[i], brought)?;
+        done |= go_on(sets, spare, &mut lives[i], target, brought)?;
     }
     Ok(done)
 }

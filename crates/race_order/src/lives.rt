@@ -8,13 +8,12 @@ ghost use Rattle.order_sets.specs.Facts.{covers};
 ghost use Rattle.race_order.specs.Trace.{is_of};
 ghost use Rattle.race_order.specs.Status.{is_by, elements_done};
 ghost use Rattle.race_order.specs.declared.lives.Live.{Live as ALive};
-ghost use Rattle.race_order.specs.declared.progress.Progress.{Progress as AProgress};
 ghost use Rattle.race_order.specs.declared.roles.QueueRole.{QueueRole as ARole};
 ghost use Rattle.race_order.specs.declared.roles.QueueRole.TheVariants.{Waits};
 ghost use Rattle.race_order.specs.Bringing.{has_brought, IsOfChains};
 ghost use Rattle.race_order.specs.Lines.{is_queued_line};
 ghost use Rattle.race_order.specs.Ordering.{spe_in};
-ghost use Rattle.race_order.specs.Lives.{acked_by, acks, reads_of, delivers, goes_in, moves_own_line, moves_line_by, is_only_piece, is_only_step, near, is_touched, moved, own_has, HaveRoom, AreWithin, AreOutstanding, touch_brings, lives_of};
+ghost use Rattle.race_order.specs.Lives.{acked_by, acks, reads_of, delivers, goes_in, moves_own_line, moves_line_by, is_only_piece, is_only_step, near, is_target, is_touched, moved, own_has, HaveRoom, AreWithin, AreOutstanding, touch_brings, lives_of};
 ghost use Rattle.race_order.specs.Tables.{same_role, sets_have, AreOf};
 
 use crate::brought::Brought;
@@ -46,6 +45,23 @@ pub(crate) fn no_lives(alloc: Global, spes: u8) -> Result<Vec<Vec<Live>>, OrderE
         lists.push(Vec::new(alloc))?;
     }
     Ok(lists)
+}
+
+/// What a step touches.
+#[derive(Clone, Copy)]
+pub(crate) enum Target {
+    /// the command of which it is a step
+    Command { spe: u8, cmd: u32 },
+    /// the stalled lists of a tag, which it resumes
+    Lists { spe: u8, tag: u32 },
+    Nothing,
+}
+
+/// Whether it is the command of this number. These differ more often than the processors.
+fn is_command(live: &Live, spe: u8, cmd: u32) -> bool
+    ensures { result ≡ is_by live.now.spe live.now.cmd spe cmd }
+{
+    cmd == live.cmd && spe == live.spe
 }
 
 fn acked(progress: &Progress, note: &Note) -> bool
@@ -86,11 +102,46 @@ fn reads(live: &Live, step: &Step) -> bool
     }
 }
 
-/// Whether the step is one of the command, or resumes it.
-pub(crate) fn touches(live: &Live, step: &Step, note: &Note) -> bool
-    ensures { result ≡ is_touched live.now step.now note.now }
+/// What the step touches: it is a step of a command, or resumes some.
+pub(crate) fn target_of(step: Step, note: Note) -> Target
+    ensures { (l : ALive) → is_target result l ≡ is_touched l step note }
 {
-    steps(live, step) || resumes(live, step, note)
+    match step {
+        Step::Exec { spe } => match note {
+            Note::Ack { tag } => Target::Lists { spe, tag },
+            _ => Target::Nothing,
+        },
+        Step::Piece { spe, cmd, .. } => Target::Command { spe, cmd },
+        Step::Elem { spe, cmd } => Target::Command { spe, cmd },
+        Step::Retire { spe, cmd } => Target::Command { spe, cmd },
+        Step::Atomic { .. } => Target::Nothing,
+        Step::Host => Target::Nothing,
+    }
+}
+
+/// Whether the command is what is touched.
+pub(crate) fn touches(live: &Live, target: Target) -> bool
+    ensures { result ≡ is_target target live.now }
+{
+    match target {
+        Target::Command { spe, cmd } => is_command(live, spe, cmd),
+        Target::Lists { spe, tag } => {
+            spe == live.spe
+                && (live.progress.stalled && tag == u32::from(live.progress.command.tag))
+        }
+        Target::Nothing => false,
+    }
+}
+
+/// Whether some command may be what is touched.
+pub(crate) fn may_touch(target: Target) -> bool
+    ensures { result ≡ false → (l : ALive) → is_target target l ≡ false }
+{
+    match target {
+        Target::Command { .. } => true,
+        Target::Lists { .. } => true,
+        Target::Nothing => false,
+    }
 }
 
 fn is_queued_line(kind: Kind) -> bool
@@ -111,7 +162,7 @@ fn is_queued_line(kind: Kind) -> bool
 fn is_line_of(live: &Live, spe: u8, cmd: u32) -> bool
     ensures { result ≡ (is_by live.now.spe live.now.cmd spe cmd && is_queued_line live.now.progress.command.kind) }
 {
-    (spe == live.spe && cmd == live.cmd) && is_queued_line(live.progress.command.kind)
+    is_command(live, spe, cmd) && is_queued_line(live.progress.command.kind)
 }
 
 fn moves_own_line(live: &Live, step: &Step) -> bool
@@ -155,7 +206,7 @@ pub(crate) fn moves_line(lives: &Vec<Vec<Live>>, step: Step) -> bool
 fn is_only_piece(live: &Live, spe: u8, cmd: u32) -> bool
     ensures { result ≡ is_only_piece spe cmd live.now }
 {
-    (spe == live.spe && cmd == live.cmd) && has_one_piece(live.progress.command)
+    is_command(live, spe, cmd) && has_one_piece(live.progress.command)
 }
 
 /// Whether it is the only piece of one of the commands.
@@ -194,27 +245,6 @@ pub(crate) fn after_step(live: &Live, step: Step, note: Note) -> Live
         spe: live.spe,
         cmd: live.cmd,
         progress: step_on(live.spe, live.cmd, live.progress, step, note),
-    }
-}
-
-fn is_ack(note: Note) -> bool
-    ensures { result ≡ false → (s : AProgress) → acked_by s note ≡ false }
-{
-    match note {
-        Note::Ack { .. } => true,
-        _ => false,
-    }
-}
-
-/// Whether the step may be one of a command, or resume one.
-pub(crate) fn may_touch(step: Step, note: Note) -> bool
-    ensures { result ≡ false → (l : ALive) → is_touched l step note ≡ false }
-{
-    match step {
-        Step::Exec { .. } => is_ack(note),
-        Step::Atomic { .. } => false,
-        Step::Host => false,
-        _ => true,
     }
 }
 
@@ -283,7 +313,8 @@ fn enter(sets: &mut Sets, live: &Live, brought: &Brought) -> Result<(), OrderErr
 }
 
 /// The same, and what is done of the command after the step, where it touches the command.
-fn touch(sets: &mut Sets, live: &Live, brought: &Brought) -> Result<(), OrderError>
+fn touch(sets: &mut Sets, live: &Live, target: Target, brought: &Brought) -> Result<(), OrderError>
+    requires target { (l : ALive) → is_target target l ≡ is_touched l brought.now.step brought.now.effect.now.note }
     requires room { live.now.progress.read + 1 < 2 ^ 16 }
     requires live { live.now.progress.done ≡ false }
     requires spe { live.now.spe < brought.now.spes }
@@ -292,7 +323,7 @@ fn touch(sets: &mut Sets, live: &Live, brought: &Brought) -> Result<(), OrderErr
     ensures has { OnOk result ((r : ARole) (at : AnAt) → sets_have sets.new r at ≡ (sets_have sets.old r at || touch_brings brought.now.spes brought.now.step brought.now.effect.now.note (has_brought brought.now) r at live.now)) }
     ensures chains { OnOk result (AreOf (3 * brought.now.spes + 1) sets.new) }
 {
-    if !touches(live, &brought.step, &brought.effect.note) {
+    if !touches(live, target) {
         return Ok(());
     }
     enter(sets, live, brought)?;
@@ -315,11 +346,12 @@ pub(crate) fn touch_all(
     ensures has { OnOk result ((r : ARole) (at : AnAt) → sets_have sets.new r at ≡ (sets_have sets.old r at || list_any (touch_brings brought.now.spes brought.now.step brought.now.effect.now.note (has_brought brought.now) r at) lives.now)) }
     ensures chains { OnOk result (AreOf (3 * brought.now.spes + 1) sets.new) }
 {
-    if !may_touch(brought.step, brought.effect.note) {
+    let target = target_of(brought.step, brought.effect.note);
+    if !may_touch(target) {
         return Ok(());
     }
     for live in lives {
-        touch(sets, live, brought)?;
+        touch(sets, live, target, brought)?;
     }
     Ok(())
 }

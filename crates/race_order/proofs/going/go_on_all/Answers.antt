@@ -1,4 +1,4 @@
-use Rattle.std.proofs.Common.{rules, ◌<◌, length, subst, sym}
+use Rattle.std.proofs.Common.{rules, ◌<◌, length, subst, sym, ◌∙◌}
 use Rattle.race_order.specs.declared.lives.Live.{Live}
 use Rattle.race_order.specs.Lives.{moved}
 use Rattle.race_order.specs.Passes.{AreMoved, stall_any}
@@ -29,12 +29,12 @@ loop-i-preserved c =
 
 pub returns-then-not-may_touch-clause-next : goal.returns-then-not-may_touch-clause-next
 returns-then-not-may_touch-clause-next c =
-    sym (all_same (λ (l : Live). moved l c.args.brought.now.step c.args.brought.now.effect.now.note) c.args.lives.now (λ l. not_moved l c.args.brought.now.step c.args.brought.now.effect.now.note (c.may_touch.ensures c.if-not-may_touch.true l)))
+    sym (all_same (λ (l : Live). moved l c.args.brought.now.step c.args.brought.now.effect.now.note) c.args.lives.now (λ l. not_moved l c.args.brought.now.step c.args.brought.now.effect.now.note (sym (c.target_of-target.ensures l) ∙ c.may_touch.ensures c.if-not-may_touch.true l)))
 
 pub returns-then-not-may_touch-clause-has : goal.returns-then-not-may_touch-clause-has
 returns-then-not-may_touch-clause-has c =
     still (λ g. list_any (stall_any g c.args.brought.now.step c.args.brought.now.effect.now.note) c.args.lives.now) (sets_have c.args.sets.now)
-    (λ g. none_any (stall_any g c.args.brought.now.step c.args.brought.now.effect.now.note) c.args.lives.now (λ l. not_stalled g l c.args.brought.now.step c.args.brought.now.effect.now.note (c.may_touch.ensures c.if-not-may_touch.true l)))
+    (λ g. none_any (stall_any g c.args.brought.now.step c.args.brought.now.effect.now.note) c.args.lives.now (λ l. not_stalled g l c.args.brought.now.step c.args.brought.now.effect.now.note (sym (c.target_of-target.ensures l) ∙ c.may_touch.ensures c.if-not-may_touch.true l)))
 
 pub returns-then-not-may_touch-clause-done : goal.returns-then-not-may_touch-clause-done
 returns-then-not-may_touch-clause-done c = sym (list_any_none (λ (l : Live). l.progress.done) c.args.lives.now c.requires.live)

@@ -23,4 +23,4 @@ returns-then-not-may_touch-clause-has c = λ r at.
     let b = c.args.brought.now in
     or_none (sets_have c.args.sets.now r at)
     ∙ ap (λ x. sets_have c.args.sets.now r at || x)
-    (sym (none_any (touch_brings b.spes b.step b.effect.now.note (has_brought c.args.brought.now) r at) c.args.lives.now (λ l. and-off _ _ (c.may_touch.ensures c.if-not-may_touch.true l))))
+    (sym (none_any (touch_brings b.spes b.step b.effect.now.note (has_brought c.args.brought.now) r at) c.args.lives.now (λ l. and-off _ _ (sym (c.target_of-target.ensures l) ∙ c.may_touch.ensures c.if-not-may_touch.true l))))
