@@ -1,18 +1,19 @@
 -- Lists of crowds of which one changes, comes or goes.
 use Rattle.std.proofs.Common.{◌≡◌, ℕ, zero, suc, ◌+◌, ◌≤◌, ◌<◌, List, [], ◌∷◌, ◌++◌, length, get_or, set, take, drop, ◌⊎◌, inl, inr, refl, sym, ap, ◌∙◌, subst, arith, length-set, get_or-set_other}
-use Rattle.std.specs.Prelude.{◌↔◌, Contains, Option, Some, None}
-use Rattle.std.specs.List.{swap_remove}
+use Rattle.std.specs.Prelude.{◌↔◌, Contains, Option, Some, None, slice_index}
+use Rattle.std.specs.List.{remove, swap_remove}
 use Rattle.std.proofs.lemmas.Bool.{cases_eq, cases_lt}
 use Rattle.std.proofs.lemmas.Grind.{get_or-set_at}
 use Rattle.std.proofs.lemmas.List.{get_or_default, take_all, take_more}
 use Rattle.std.proofs.lemmas.List.Elements.{Contains-append_cases, Contains-append_left, Contains-append_right, Contains-get_or, Contains-push, Contains-push_cases}
-use Rattle.std.proofs.lemmas.List.Sorted.{Contains-permutation, IsPermutation-swap_remove, IsPermutation-sym}
+use Rattle.std.specs.List.Sorted.{IsPermutation}
+use Rattle.std.proofs.lemmas.List.Sorted.{Contains-permutation, IsPermutation-remove, IsPermutation-swap_remove, IsPermutation-sym}
 use Rattle.cell_machine.specs.declared.effect.Place.{Place}
 use Rattle.cell_machine.proofs.AllTwo.{whole}
 use Rattle.race_check.specs.declared.entry.Entry.{Entry}
 use Rattle.race_check.specs.declared.crowd.Crowd.{Crowd}
 use Rattle.race_check.specs.Entries.{HasSameBytes, Holds, IsCut}
-use Rattle.race_check.specs.Crowds.{Clashes, CrowdClashes, CrowdTells, Has, HasStep, IsCutPut, IsJoined, IsLater, IsPut, IsReplaced, IsSafe, IsTaken, IsTrimmed, IsUnsafeOne, StepsTell, Tells, UpTo}
+use Rattle.race_check.specs.Crowds.{Clashes, CrowdClashes, CrowdTells, Has, HasStep, IsCutPut, IsJoined, IsLater, IsPut, IsSafe, IsTaken, IsThinned, IsTrimmed, IsUnsafeOne, StepsTell, Tells, UpTo}
 use Rattle.race_check.proofs.Latest.{if_then, of_both, still}
 
 -- ---- a list with another element at i
@@ -35,17 +36,29 @@ module _ {X : Type 0} (xs : List X) (i : ℕ) (old new : X) (low : i < length xs
       by (inl e) = inl (sym has.2 ∙ get_or-set_at xs i has.0 new y e low)
       by (inr ne) = inr (has.0, omega (arith, has.1, length-set xs i new), sym (get_or-set_other xs i has.0 new y ne) ∙ has.2)
 
--- a step in the place of one that is safe
-pub replaced : (Before : ℕ → ℕ → Type 0) (last : ℕ) (steps : List ℕ) (k : ℕ) (old : ℕ) → k < length steps → get_or steps k old ≡ old → IsSafe Before old last → IsReplaced Before last steps (set steps k last)
-replaced Before last steps k old low at safe = record { left = λ s has. left s (set_kept steps k old last low at s has); own = set_same steps k old last low at; rest = λ s has. rest s (set_rest steps k old last low at s has) }
+-- without a step that is safe
+pub thinned : (Before : ℕ → ℕ → Type 0) (last : ℕ) (steps : List ℕ) (k : ℕ) → k < length steps → IsSafe Before (slice_index steps k) last → IsThinned Before last steps (remove steps k)
+thinned Before last steps k low safe = record { left = λ s has. left s (Contains-permutation steps (old ∷ remove steps k) s one has); rest = λ s has. Contains-permutation (old ∷ remove steps k) steps s (IsPermutation-sym steps (old ∷ remove steps k) one) (Contains-append_right (old ∷ []) (remove steps k) s has) }
   where
-    left : (s : ℕ) → (s ≡ old) ⊎ Contains (set steps k last) s → Contains (set steps k last) s ⊎ IsSafe Before s last
-    left s (inl e) = inr (subst (λ t. IsSafe Before t last) (sym e) safe)
-    left s (inr has) = inl has
+    old : ℕ
+    old = slice_index steps k
 
-    rest : (s : ℕ) → (s ≡ last) ⊎ Contains steps s → Contains steps s ⊎ (s ≡ last)
-    rest s (inl e) = inr e
-    rest s (inr has) = inl has
+    one : IsPermutation steps (old ∷ remove steps k)
+    one = IsPermutation-remove steps k old low (sym (get_or_default steps k old 0 low))
+
+    left : (s : ℕ) → Contains (old ∷ remove steps k) s → Contains (remove steps k) s ⊎ IsSafe Before s last
+    left s has = by (Contains-append_cases (old ∷ []) (remove steps k) s has)
+      where
+        by : Contains (old ∷ []) s ⊎ Contains (remove steps k) s → Contains (remove steps k) s ⊎ IsSafe Before s last
+        by (inl here) = inr (subst (λ t. IsSafe Before t last) (is (Contains-push_cases [] old s here)) safe)
+          where
+            is : Contains [] s ⊎ (old ≡ s) → old ≡ s
+            is (inl never) = let low = never.1 in absurd (omega arith)
+            is (inr e) = e
+        by (inr more) = inl more
+
+pub thinned_none : (Before : ℕ → ℕ → Type 0) (last : ℕ) (steps : List ℕ) → IsThinned Before last steps steps
+thinned_none Before last steps = record { left = λ s has. inl has; rest = λ s has. has }
 
 -- more steps were added to a crowd
 pub added_steps : (old new : Crowd) (step : ℕ) (others : List ℕ) → new.entry ≡ old.entry → new.others.items ≡ old.others.items ++ step ∷ [] ++ others → (s : ℕ) → HasStep new s ↔ (HasStep old s ⊎ ((s ≡ step) ⊎ Contains others s))
@@ -72,7 +85,7 @@ added_steps old new step others entry items s = (to, from)
     from (inr (inl e)) = back (Contains-append_left (old.others.items ++ step ∷ []) others s (subst (Contains (old.others.items ++ step ∷ [])) (sym e) (Contains-push old.others.items step)))
     from (inr (inr c)) = back (Contains-append_right (old.others.items ++ step ∷ []) others s c)
 
--- the last step took the place of the entry's, of another, or came behind
+-- the last step took the place of the entry's, or came behind what was left of the others
 pub taken_first : (Before : ℕ → ℕ → Type 0) (last : ℕ) (old new : Crowd) → new.entry.step ≡ last → new.others ≡ old.others → IsSafe Before old.entry.step last → IsTaken Before last old new
 taken_first Before last old new is same safe = record { left = λ s has. left s has; own = inl (sym is); rest = λ s has. rest s has }
   where
@@ -84,37 +97,24 @@ taken_first Before last old new is same safe = record { left = λ s has. left s 
     rest s (inl e) = inr (e ∙ is)
     rest s (inr c) = inl (inr (subst (λ v. Contains v.items s) same c))
 
-pub taken_other : (Before : ℕ → ℕ → Type 0) (last : ℕ) (old new : Crowd) → new.entry ≡ old.entry → IsReplaced Before last old.others.items new.others.items → IsTaken Before last old new
-taken_other Before last old new same others = record { left = λ s has. left s has; own = inr others.own; rest = λ s has. rest s has }
+pub taken_behind : (Before : ℕ → ℕ → Type 0) (last : ℕ) (old new : Crowd) (others : List ℕ) → new.entry ≡ old.entry → IsThinned Before last old.others.items others → new.others.items ≡ others ++ last ∷ [] → IsTaken Before last old new
+taken_behind Before last old new others same thin items = record { left = λ s has. left s has; own = inr (subst (λ xs. Contains xs last) (sym items) (Contains-push others last)); rest = λ s has. rest s has }
   where
     left : (s : ℕ) → HasStep old s → HasStep new s ⊎ IsSafe Before s last
     left s (inl e) = inl (inl (e ∙ ap (λ (f : Entry). f.step) (sym same)))
-    left s (inr c) = by (others.left s c)
+    left s (inr c) = by (thin.left s c)
       where
-        by : Contains new.others.items s ⊎ IsSafe Before s last → HasStep new s ⊎ IsSafe Before s last
-        by (inl more) = inl (inr more)
+        by : Contains others s ⊎ IsSafe Before s last → HasStep new s ⊎ IsSafe Before s last
+        by (inl kept) = inl (inr (subst (λ xs. Contains xs s) (sym items) (Contains-append_left others (last ∷ []) s kept)))
         by (inr safe) = inr safe
 
     rest : (s : ℕ) → HasStep new s → HasStep old s ⊎ (s ≡ last)
     rest s (inl e) = inl (inl (e ∙ ap (λ (f : Entry). f.step) same))
-    rest s (inr c) = by (others.rest s c)
+    rest s (inr c) = by (Contains-push_cases others last s (subst (λ xs. Contains xs s) items c))
       where
-        by : Contains old.others.items s ⊎ (s ≡ last) → HasStep old s ⊎ (s ≡ last)
-        by (inl was) = inl (inr was)
-        by (inr is) = inr is
-
-pub taken_behind : (Before : ℕ → ℕ → Type 0) (last : ℕ) (old new : Crowd) → new.entry ≡ old.entry → new.others.items ≡ old.others.items ++ last ∷ [] → IsTaken Before last old new
-taken_behind Before last old new same items =
-    taken_other Before last old new same
-    record {
-      left = λ s c. inl (subst (λ xs. Contains xs s) (sym items) (Contains-append_left old.others.items (last ∷ []) s c));
-      own = subst (λ xs. Contains xs last) (sym items) (Contains-push old.others.items last);
-      rest = λ s c. rest s (Contains-push_cases old.others.items last s (subst (λ xs. Contains xs s) items c));
-    }
-  where
-    rest : (s : ℕ) → Contains old.others.items s ⊎ (last ≡ s) → Contains old.others.items s ⊎ (s ≡ last)
-    rest s (inl was) = inl was
-    rest s (inr e) = inr (sym e)
+        by : Contains others s ⊎ (last ≡ s) → HasStep old s ⊎ (s ≡ last)
+        by (inl was) = inl (inr (thin.rest s was))
+        by (inr e) = inr (sym e)
 
 pub same_holds : (e f : Entry) (p : Place) (x : ℕ) → HasSameBytes e f → Holds e p x → Holds f p x
 same_holds e f p x same h =

@@ -1,7 +1,7 @@
 -- What stands in a span, line by line.
-use Rattle.std.proofs.Common.{◌≡◌, ℕ, ◌+◌, ◌/◌, ◌<◌, Bool, true, List, Option, None, ◌⊎◌, inl, inr, sym, subst, arith}
+use Rattle.std.proofs.Common.{◌≡◌, ℕ, ◌+◌, ◌/◌, ◌<◌, ◌≤◌, Bool, true, List, Option, None, ◌⊎◌, inl, inr, sym, subst, arith}
 use Rattle.std.specs.Prelude.{IfSome}
-use Rattle.std.proofs.lemmas.Bool.{and_parts, ltb-true, cases_eq}
+use Rattle.std.proofs.lemmas.Bool.{and_parts, leb-true, ltb-true, cases_eq}
 use Rattle.cell_machine.specs.declared.effect.Place.{Place}
 use Rattle.cell_machine.specs.declared.effect.Span.{Span}
 use Rattle.cell_machine.specs.Sound.{covers}
@@ -16,6 +16,15 @@ use Rattle.race_check.specs.Shows.{AreReal, IsAccess, IsReal, IsSpanOf, Kept, Ke
 
 pub below_end : (s : Span) (p : Place) (x : ℕ) → covers s p x ≡ true → x < s.at + s.len
 below_end s p x e = let parts = and_parts _ _ e in let inner = and_parts _ _ parts.1 in ltb-true _ _ inner.1
+
+-- a span of no byte
+none_covered : (s : Span) (p : Place) (x : ℕ) → s.len ≡ 0 → covers s p x ≡ true → ⊥
+none_covered s p x empty e =
+    let parts = and_parts _ _ e in
+    let inner = and_parts _ _ parts.1 in
+    let low : s.at ≤ x = leb-true _ _ inner.0 in
+    let high : x < s.at + s.len = ltb-true _ _ inner.1 in
+    omega arith
 
 -- an access of the span makes a race of step i with the step
 abbrev pub Races : (ℕ → ℕ → Type 0) → Shadow → Span → ℕ → Bool → ℕ → Type 0
@@ -46,6 +55,10 @@ all_below Before before after span step writes line latest all takes = record {
   clear = λ i p x w k c one. takes.clear i p x w k c (all p x c) one;
   race = takes.race;
 }
+
+pub takes_none : (Before : ℕ → ℕ → Type 0) (shadow : Shadow) (span : Span) (step : ℕ) (writes : Bool) → span.len ≡ 0 → TakesSpan Before shadow shadow span step writes None
+takes_none Before shadow span step writes empty =
+    all_below Before shadow shadow span step writes 0 None (λ p x c. absurd (none_covered span p x empty c)) (none_below Before shadow span step writes 0 (λ p x c low. none_covered span p x empty c))
 
 -- the entry has the bytes of the span in the line
 module _ (Before : ℕ → ℕ → Type 0) (first before after : Shadow) (span : Span) (step : ℕ) (writes : Bool) (line : ℕ) (entry : Entry) (is_step : entry.step ≡ step)

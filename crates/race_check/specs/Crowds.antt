@@ -47,17 +47,12 @@ pub record StepsTell (Before : ℕ → ℕ → Type 0) (last : ℕ) (IsOne : ℕ
   pub clash : IfSome latest (IsUnsafeOne Before last IsOne)
   pub rest : (s : ℕ) → IsOne s → IsSafe Before s last ⊎ UpTo latest s
 
--- the last step is among the second ones, of the first only those are lost that are safe, and nothing else is added
-pub record IsReplaced (Before : ℕ → ℕ → Type 0) (last : ℕ) (old new : List ℕ) : Type 0 where
+-- of the first steps only those are lost that are safe, and nothing is added
+pub record IsThinned (Before : ℕ → ℕ → Type 0) (last : ℕ) (old new : List ℕ) : Type 0 where
   pub left : (s : ℕ) → Contains old s → Contains new s ⊎ IsSafe Before s last
-  pub own : Contains new last
-  pub rest : (s : ℕ) → Contains new s → Contains old s ⊎ (s ≡ last)
+  pub rest : (s : ℕ) → Contains new s → Contains old s
 
-abbrev pub Replaces : (ℕ → ℕ → Type 0) → ℕ → List ℕ → List ℕ → Bool → Type 0
-Replaces Before last old new true = IsReplaced Before last old new
-Replaces Before last old new false = new ≡ old
-
--- the same of crowds
+-- the last step is in the second crowd, of the first one only steps are lost that are safe, and nothing else is added
 pub record IsTaken (Before : ℕ → ℕ → Type 0) (last : ℕ) (old new : Crowd) : Type 0 where
   pub left : (s : ℕ) → HasStep old s → HasStep new s ⊎ IsSafe Before s last
   pub own : HasStep new last

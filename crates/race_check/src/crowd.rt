@@ -1,10 +1,10 @@
 //! The steps that touched the same bytes.
 
-ghost use Rattle.std.specs.Prelude.{◌≡◌, ℕ, ◌≤◌, ◌↔◌, ◌⊎◌, List, [], ◌∷◌, IsTrue, OnOk, Contains};
+ghost use Rattle.std.specs.Prelude.{◌≡◌, ℕ, ◌≤◌, ◌↔◌, ◌⊎◌, List, [], ◌∷◌, ◌<◌, length, slice_index, IfSome, IsTrue, OnOk, Contains};
 ghost use Rattle.run_walk.specs.Ordered.{IsOrdered};
 ghost use Rattle.run_walk.specs.Walks.{IsLast, walked};
 ghost use Rattle.race_check.specs.Entries.{HasSameBytes};
-ghost use Rattle.race_check.specs.Crowds.{HasStep, IsSafe, IsTaken, Replaces, StepsTell, UpTo};
+ghost use Rattle.race_check.specs.Crowds.{HasStep, IsSafe, IsTaken, IsThinned, StepsTell, UpTo};
 
 use crate::entry::Entry;
 use crate::error::RaceError;
@@ -12,7 +12,7 @@ use crate::later::later;
 use run_walk::Walk;
 use std::alloc::Global;
 
-/// Of so many other steps a new one looks for one that it can stand for.
+/// Of fewer other steps than these a new one looks for one that it can stand for.
 const FEW: usize = 16;
 
 /// An entry, and the other steps that touched the same bytes.
@@ -80,18 +80,18 @@ fn latest_unsafe(steps: &[u32], last: u32, walk: &Walk) -> Option<u32>
     latest
 }
 
-/// Puts the last step that was made in the place of one that is ordered before it, and says whether there is one.
-fn replace(steps: &mut [u32], last: u32, walk: &Walk) -> bool
+/// The place of a step that is the last one that was made, or ordered before it.
+fn first_safe(steps: &[u32], last: u32, walk: &Walk) -> Option<usize>
     requires { IsLast walk.now last }
-    ensures { Replaces (IsOrdered (walked walk.now)) last steps.old steps.new result }
+    ensures inside { IfSome result (λ k. k < length steps.now) }
+    ensures safe { IfSome result (λ k. IsSafe (IsOrdered (walked walk.now)) (slice_index steps.now k) last) }
 {
     for k in 0..steps.len() {
         if is_safe(steps[k], last, walk) {
-            steps[k] = last;
-            return true;
+            return Some(k);
         }
     }
-    false
+    None
 }
 
 impl Crowd {
@@ -125,25 +125,25 @@ impl Crowd {
             self.entry.step = last;
             return Ok(());
         }
-        if self.replace_other(last, walk) {
-            return Ok(());
-        }
+        self.drop_safe(last, walk);
         self.others.push(last)?;
         Ok(())
     }
 
-    /// Puts the last step that was made in the place of another that is ordered before it, and says whether it found one among few.
-    fn replace_other(&mut self, last: u32, walk: &Walk) -> bool
+    /// Drops another step that is ordered before the last one that was made, where it finds one among few. New steps come behind the others, so
+    /// the first ones mostly are.
+    fn drop_safe(&mut self, last: u32, walk: &Walk)
         requires { IsLast walk.now last }
-        ensures others { Replaces (IsOrdered (walked walk.now)) last self.old.others.items self.new.others.items result }
+        ensures others { IsThinned (IsOrdered (walked walk.now)) last self.old.others.items self.new.others.items }
         ensures entry { self.new.entry ≡ self.old.entry }
     {
-        if self.others.len() < FEW {
-            let others = self.others.as_mut_slice();
-            replace(others, last, walk)
-        } else {
-            false
+        if FEW <= self.others.len() {
+            return;
         }
+        let Some(k) = first_safe(self.others.as_slice(), last, walk) else {
+            return;
+        };
+        self.others.remove(k);
     }
 
     /// Adds these steps to the crowd.

@@ -16,11 +16,11 @@ pub struct Entry {
     pub to: u64,
 }
 
-/// Whether the two share a byte.
+/// Whether the two share a byte. Entries of one line are mostly of one place, so the bytes are looked at first.
 pub fn meet(e: &Entry, new: &Entry) -> bool
     ensures { IsTrue result ↔ ((p : Place) × (x : ℕ) × Holds e.now p x × Holds new.now p x) }
 {
-    is_same(e.place, new.place) && e.from.max(new.from) < e.to.min(new.to)
+    e.from.max(new.from) < e.to.min(new.to) && is_same(e.place, new.place)
 }
 
 /// Whether the two have the same bytes.

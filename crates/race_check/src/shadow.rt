@@ -127,7 +127,9 @@ impl Shadow {
         requires { IsLast walk.now step }
         ensures { IfOk result (TakesSpan (IsOrdered (walked walk.now)) self.old self.new span.now step writes) }
     {
-        // a span of no byte is at 0, and so in no line
+        if span.len == 0 {
+            return Ok(None);
+        }
         let first = u64::from(span.at) / 128;
         let end = (u64::from(span.at) + u64::from(span.len) + 127) / 128;
         let mut latest = None;
