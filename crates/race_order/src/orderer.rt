@@ -65,31 +65,24 @@ impl Orderer {
     }
 
     /// Takes any next step of a trace, and answers its place.
-    fn take_any(&mut self, step: Step, effect: Effect) -> Result<u32, OrderError>
+    fn take_any(&mut self, step: Step, effect: &Effect) -> Result<u32, OrderError>
         ghost trace: { Trace }
         requires stands { StandsFor self.old trace }
-        requires may { MayCome self.old.spes trace (event_of step effect) }
-        requires queue { QueueMay trace (event_of step effect) }
+        requires may { MayCome self.old.spes trace (event_of step effect.now) }
+        requires queue { QueueMay trace (event_of step effect.now) }
         requires room { length trace + 1 < 2 ^ 32 }
-        ensures stands { IfOk result (λ place. StandsFor self.new (trace ++ (event_of step effect ∷ []))) }
+        ensures stands { IfOk result (λ place. StandsFor self.new (trace ++ (event_of step effect.now ∷ []))) }
         ensures place { IfOk result (λ place. place ≡ length trace) }
         ensures spes { self.new.spes ≡ self.old.spes }
     {
         let place = self.names.len() as u32;
-        let at = name(self.spes, place, step, &effect);
+        let at = name(self.spes, place, step, effect);
         let whole = moves_line(&self.lives, step);
-        fill(
-            &mut self.last,
-            &self.sets,
-            &self.boxes,
-            whole,
-            step,
-            &effect,
-        )?;
+        fill(&mut self.last, &self.sets, &self.boxes, whole, step, effect)?;
         let brought = Brought {
             spes: self.spes,
             step,
-            effect: &effect,
+            effect,
             whole,
             known: &self.last,
             fact: fact(self.spes, at, step, is_only_step(&self.lives, step)),
@@ -128,18 +121,18 @@ impl Orderer {
     }
 
     /// Takes the next step of a trace, and answers its place.
-    fn take(&mut self, step: Step, effect: Effect) -> Result<u32, OrderError>
+    fn take(&mut self, step: Step, effect: &Effect) -> Result<u32, OrderError>
         ghost trace: { Trace }
         requires stands { StandsFor self.old trace }
-        requires may { MayCome self.old.spes trace (event_of step effect) }
-        requires queue { QueueMay trace (event_of step effect) }
+        requires may { MayCome self.old.spes trace (event_of step effect.now) }
+        requires queue { QueueMay trace (event_of step effect.now) }
         requires room { length trace + 1 < 2 ^ 32 }
-        ensures stands { IfOk result (λ place. StandsFor self.new (trace ++ (event_of step effect ∷ []))) }
+        ensures stands { IfOk result (λ place. StandsFor self.new (trace ++ (event_of step effect.now ∷ []))) }
         ensures place { IfOk result (λ place. place ≡ length trace) }
         ensures spes { self.new.spes ≡ self.old.spes }
     {
-        match plain_of(step, &effect) {
-            Some(spe) => self.take_plain(spe, step, &effect),
+        match plain_of(step, effect) {
+            Some(spe) => self.take_plain(spe, step, effect),
             None => self.take_any(step, effect),
         }
     }
@@ -192,7 +185,7 @@ impl Orderer {
         ensures tells { TracesTell }
         ensures orderly { TracesAreOrderly }
     {
-        self.take(step, effect)
+        self.take(step, &effect)
     }
 
     /// Whether step `i`, counted from 0, is ordered before the last one.
