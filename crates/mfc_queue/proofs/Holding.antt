@@ -115,6 +115,23 @@ held-is q calls cmd None stands found none = on (is_outstanding calls cmd) refl
     on true e = sym none ∙ held-some q calls cmd stands e
     on false e = refl
 
+-- what is held at a place is outstanding
+pub held-open : (q : Queue) (calls : List Call) (i : ℕ) (h : Held) → StandsFor q calls → i < length q.held.items → h ≡ slice_index_or q.held.items i h → is_outstanding calls h.cmd ≡ true
+held-open q calls i h stands within at = on (is_outstanding calls h.cmd) refl
+  where
+    any-held : (held : List Held) (i : ℕ) (h : Held) → i < length held → h ≡ slice_index_or held i h → list_any (λ n. n == h.cmd) (map (λ x. x.cmd) held) ≡ true
+    any-held [] i h within at = absurd (omega arith)
+    any-held (g ∷ held) zero h within at = let e : g.cmd ≡ h.cmd = ap (λ (x : Held). x.cmd) (sym at) in let t : (g.cmd == h.cmd) ≡ true = grind (arith, nat_tests) in rw t refl
+    any-held (g ∷ held) (suc i) h within at = or_on (g.cmd == h.cmd) _ (any-held held i h (omega arith) at)
+      where
+        or_on : (a b : Bool) → b ≡ true → (a || b) ≡ true
+        or_on true b h = refl
+        or_on false b h = h
+
+    on : (b : Bool) → is_outstanding calls h.cmd ≡ b → is_outstanding calls h.cmd ≡ true
+    on true e = e
+    on false e = absurd (true≢false (sym (any-held q.held.items i h within at) ∙ held-not q calls h.cmd stands e))
+
 pub one_of : (q : Queue) (cmd part : ℕ) → HasPart q cmd part → IsOneOf q cmd
 one_of q cmd part has = record { calls = has.calls; stands = has.stands; outstanding = has.outstanding }
 

@@ -6,3 +6,4 @@ pub mod Holding
 mod PlaceLemmas
 mod Before
 mod Groups
+mod Counting

@@ -4,12 +4,13 @@ use Rattle.std.specs.List.{list_any}
 use Rattle.std.specs.Option.{option_map}
 use Rattle.mfc_queue.specs.declared.Queue.{Queue}
 use Rattle.mfc_queue.specs.declared.Held.{Held}
+use Rattle.mfc_queue.specs.declared.Waiting.{Waiting}
 use Rattle.mfc_queue.specs.declared.place_set.PlaceSet.{PlaceSet}
 use Rattle.mfc_command.specs.declared.command.Command.{Command}
 use Rattle.mfc_command.specs.Order.{precedes}
 use Rattle.cell_base.specs.Bits.{has_bit}
 use Rattle.mfc_queue.specs.Sets.{has_part}
-use Rattle.mfc_queue.specs.Calls.{Call, issued, is_retired, is_outstanding, outstanding, parts, is_marked}
+use Rattle.mfc_queue.specs.Calls.{Call, issued, is_retired, is_outstanding, outstanding, parts, is_marked, left, may_begin}
 
 -- the command of this number, its parts, and those done
 pub record Holds (calls : List Call) (h : Held) : Type 0 where
@@ -83,3 +84,17 @@ pub record HasNumber (q : Queue) : Type 0 where
   pub calls : List Call
   pub stands : StandsFor q calls
   pub few : length (issued calls) < 1000000
+
+-- a look at the outstanding command of this number finds this
+pub record IsWaiting (q : Queue) (calls : List Call) (cmd : ℕ) (w : Waiting) : Type 0 where
+  pub outstanding : is_outstanding calls cmd ≡ true
+  pub place : place_in q cmd ≡ Some w.place
+  pub command : slice_get (issued calls) cmd ≡ Some w.command
+  pub may_start : w.may_start ≡ may_begin calls cmd
+  pub left : w.left ≡ length (left calls cmd)
+
+-- and so it is by all calls that the queue stands for
+pub record IsSeen (q : Queue) (cmd : ℕ) (w : Waiting) : Type 0 where
+  pub waits : (calls : List Call) → StandsFor q calls → IsWaiting q calls cmd w
+  pub small : w.place < 16
+  pub tag : w.command.tag < 32

@@ -1,13 +1,14 @@
 //! The queue of one processor's commands: sixteen places, the parts done of each command, and which may start.
 #![tactic(auto)]
 
-ghost use Rattle.std.specs.Prelude.{◌≡◌, ℕ, ◌+◌, ◌-◌, ◌<◌, ◌≤◌, ◌↔◌, List, [], ◌∷◌, ◌++◌, length, IfOk, OnOk, OnErr, IsOk, IfSome, IfNone, Some, slice_get, slice_index_or, slice_set, find, nat_le, ◌==◌, ◌&&◌, not, false, map, is_some};
-ghost use Rattle.std.specs.List.{list_any};
-ghost use Rattle.std.specs.Option.{option_and_then};
+ghost use Rattle.std.specs.Prelude.{◌≡◌, ℕ, ◌+◌, ◌-◌, ◌<◌, ◌≤◌, ◌↔◌, List, [], ◌∷◌, ◌++◌, length, IfOk, OnOk, OnErr, IsOk, IfSome, IfNone, Some, slice_get, slice_index_or, slice_set, find, nat_le, ◌==◌, ◌&&◌, ◌||◌, not, false, filter, map, is_some};
+ghost use Rattle.std.specs.List.{list_any, range_with_len};
+ghost use Rattle.std.specs.Option.{option_and_then, option_map};
 ghost use Rattle.mfc_command.specs.Order.{precedes};
 ghost use Rattle.mfc_queue.specs.Places.{ArePlaces};
 ghost use Rattle.mfc_queue.specs.At.{IsAt};
 ghost use Rattle.cell_base.specs.Bits.{has_bit};
+ghost use Rattle.mfc_queue.specs.Sets.{has_part};
 ghost use Rattle.mfc_queue.specs.Calls.{Call, Issue, SetParts, Mark, Retire, issued, is_outstanding, outstanding, parts, is_marked, left, all_marked, may_begin, busy, has_outstanding};
 
 mod part_set;
@@ -33,8 +34,11 @@ struct Held {
     command: Command,
     parts: u32,
     done: PartSet,
+    /// How many parts aren't done.
+    left: u32,
     ghost tag: { command.tag < 32 },
     ghost few: { parts ≤ 129 },
+    ghost counted: { left ≡ length (filter (λ k. not (has_part done.words k)) (range_with_len 0 parts)) },
 }
 
 impl Default for Held {
@@ -52,8 +56,47 @@ impl Default for Held {
             },
             parts: 0,
             done: PartSet::new(),
+            left: 0,
         }
     }
+}
+
+impl Held {
+    /// The same with the part done.
+    fn marked(&self, part: u32) -> Held
+        requires { part < self.now.parts }
+        ensures cmd { result.cmd ≡ self.now.cmd }
+        ensures place { result.place ≡ self.now.place }
+        ensures command { result.command ≡ self.now.command }
+        ensures parts { result.parts ≡ self.now.parts }
+        ensures done { (k : ℕ) → has_part result.done.words k ≡ (has_part self.now.done.words k || part == k) }
+    {
+        if self.done.has(part) {
+            return *self;
+        }
+        let mut done = self.done;
+        done.insert(part);
+        Held {
+            cmd: self.cmd,
+            place: self.place,
+            command: self.command,
+            parts: self.parts,
+            done,
+            left: self.left - 1,
+        }
+    }
+}
+
+/// An outstanding command, as one look finds it.
+#[derive(Clone, Copy, Debug, PartialEq, Eq)]
+pub struct Waiting {
+    /// Its place, which no other has.
+    pub place: u8,
+    pub command: Command,
+    /// Whether every earlier command that goes before it is complete.
+    pub may_start: bool,
+    /// How many of its parts weren't marked since its latest `set_parts`.
+    pub left: u32,
 }
 
 /// The outstanding commands in the order of their numbers, the places that none of them has, and how many commands were issued.
@@ -70,7 +113,7 @@ pub struct Queue {
 }
 
 impl Queue {
-    ghost use Rattle.mfc_queue.specs.Stands.{StandsFor, IsOneOf, HasPart, HasNumber, place_in, KeepsPlaces, KeepsOtherPlaces};
+    ghost use Rattle.mfc_queue.specs.Stands.{StandsFor, IsOneOf, IsSeen, HasPart, HasNumber, place_in, KeepsPlaces, KeepsOtherPlaces};
 
     /// A queue on which no call was made. It takes no memory, and no call does.
     pub fn new() -> Queue
@@ -140,6 +183,7 @@ impl Queue {
             command: c,
             parts: 0,
             done: PartSet::new(),
+            left: 0,
         });
         Ok(cmd)
     }
@@ -179,6 +223,43 @@ impl Queue {
             }
         }
         None
+    }
+
+    /// What a look at the command at this index finds.
+    fn seen_at(&self, i: usize) -> Waiting
+        requires { i < length self.now.held.items }
+        ensures { (cmd : ℕ) → ((d : Held) → (slice_index_or self.now.held.items i d).cmd ≡ cmd) → IsSeen self.now cmd result }
+    {
+        let h = self.held_at(i);
+        Waiting {
+            place: h.place,
+            command: h.command,
+            may_start: self.before[usize::from(h.place)].is_empty(),
+            left: h.left,
+        }
+    }
+
+    /// The outstanding command at index `i`, by their numbers, with its number. None comes exactly behind the last one.
+    pub fn outstanding_at(&self, i: usize) -> Option<(u32, Waiting)>
+        ensures number { (calls : List Call) → StandsFor self.now calls → option_map (λ x. x.0) result ≡ slice_get (outstanding calls) i }
+        ensures seen { IfSome result (λ x. IsSeen self.now x.0 x.1) }
+    {
+        if i >= self.held.len() {
+            return None;
+        }
+        let h = self.held_at(i);
+        Some((h.cmd, self.seen_at(i)))
+    }
+
+    /// The outstanding command of this number. None comes exactly where it isn't outstanding.
+    pub fn look(&self, cmd: u32) -> Option<Waiting>
+        ensures outstanding { (calls : List Call) → StandsFor self.now calls → is_some result ≡ is_outstanding calls cmd }
+        ensures seen { IfSome result (IsSeen self.now cmd) }
+    {
+        match self.index_of(cmd) {
+            Some(i) => Some(self.seen_at(i)),
+            None => None,
+        }
     }
 
     /// The place of a command, below 16, or None exactly where the command isn't outstanding.
@@ -248,6 +329,7 @@ impl Queue {
                     command: h.command,
                     parts: n,
                     done: PartSet::new(),
+                    left: n,
                 };
                 put(&mut self.held, i, begun);
             }
@@ -274,8 +356,7 @@ impl Queue {
     {
         match self.index_of(cmd) {
             Some(i) => {
-                let mut h = *self.held_at(i);
-                h.done.insert(part);
+                let h = self.held_at(i).marked(part);
                 put(&mut self.held, i, h);
             }
             None => unreachable!(),

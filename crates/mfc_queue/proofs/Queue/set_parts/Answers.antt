@@ -1,6 +1,8 @@
 use Rattle.std.proofs.Common.{refl, sym, ◌∙◌, ap}
 use Rattle.mfc_queue.specs.declared.Held.{Held}
 use Rattle.mfc_queue.proofs.Holding.{held-none, stands-parts}
+use Rattle.mfc_queue.specs.Sets.{has_part}
+use Rattle.mfc_queue.proofs.Counting.{count-none}
 use Rattle.mfc_queue.proofs.PlaceLemmas.{places-rewritten, found-rewritten}
 use Rattle.mfc_queue.proofs.Queue.set_parts.Goals as goal
 
@@ -19,3 +21,6 @@ pub returns-clause-places : goal.returns-clause-places
 returns-clause-places c = λ other.
     found-rewritten _ _ c.in-Some.i other c.held_at-h.result.now _ c.in-Some.ensures.found.0 c.held_at-h.ensures
     (sym (ap (λ (h : Held). h.cmd) c.held_at-h.ensures ∙ c.in-Some.ensures.found.1 c.held_at-h.result.now)) refl c.put.ensures
+
+pub invariant_of-begun : goal.invariant_of-begun
+invariant_of-begun c = record { tag = c.held_at-h.result.now.tag; few = c.requires.few; counted = count-none (has_part c.new.result.words) 0 c.args.n c.new.ensures }
