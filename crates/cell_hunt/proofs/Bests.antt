@@ -1,6 +1,6 @@
 -- The best of the actors that were asked.
 use Rattle.std.proofs.Common.{◌≡◌, ℕ, ◌+◌, ◌*◌, ◌<◌, ◌≤◌, ◌∙◌, ap, refl, sym, subst, arith, true≢false}
-use Rattle.std.specs.Prelude.{Option, Some, None, IfSome, IsSome, IsSomeAnd, length, Bool, true, false, nat_lt, ◌⊎◌, if◌then◌else◌}
+use Rattle.std.specs.Prelude.{Option, Some, None, IfSome, IsSome, IsSomeAnd, List, length, slice_index_or, Bool, true, false, nat_lt, ◌⊎◌, if◌then◌else◌}
 use Rattle.std.proofs.Common.{inl, inr}
 use Rattle.std.proofs.lemmas.Bool.{cases_lt, ltb-true}
 use Rattle.std.proofs.lemmas.Bool.Decides.{nat_tests}
@@ -12,6 +12,8 @@ use Rattle.cell_hunt.proofs.Overs.{first-none}
 use Rattle.cell_hunt.specs.Choices.{Choices, key_of, offered, IsBest, IsChosen}
 use Rattle.cell_hunt.specs.declared.actors.Keyed.{Keyed}
 use Rattle.cell_hunt.specs.Better.{better}
+use Rattle.cell_hunt.specs.declared.way.Way.{Way}
+use Rattle.cell_hunt.specs.Ways.{weight_of}
 
 -- of the actors below this number that have a step this is the best, with its key; None where none has one
 abbrev pub IsBestSoFar : Ran → Choices → ℕ → ℕ → Option Keyed → Type 0
@@ -85,6 +87,12 @@ best-next m c spes n choice key actor old new same acts keyed is so_far =
     let offers : picked_of m actor choice ≡ offered m c.choice spes n = cc in
     let e : new ≡ better (offered m c.choice spes n) (key_of c spes n) old = is ∙ ap (λ o. better o key old) offers ∙ ap (λ k. better (offered m c.choice spes n) k old) keyed in
     subst (IsBestSoFar m c spes (n + 1)) (sym e) (best_more m c spes n (offered m c.choice spes n) old refl so_far)
+
+-- the key of an actor, by the words as they were drawn
+pub key_by : (c : Choices) (way : Way) (words drawn : List ℕ) (spes n key : ℕ) → c.way ≡ way → c.keys ≡ words → drawn ≡ words
+    → key ≡ slice_index_or drawn n 0 * weight_of way (actor_of spes n) → key ≡ key_of c spes n
+key_by c way words drawn spes n key ways keys same is =
+    is ∙ ap (λ ws. slice_index_or ws n 0 * weight_of way (actor_of spes n)) (same ∙ sym keys) ∙ ap (λ w. slice_index_or c.keys n 0 * weight_of w (actor_of spes n)) (sym ways)
 
 no_some : (P : Step → Type 0) (o : Option Step) → o ≡ None → IfSome o P
 no_some P o e = subst (λ x. IfSome x P) (sym e) tt

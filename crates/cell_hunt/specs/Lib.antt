@@ -1,5 +1,6 @@
 pub mod Ways
 pub mod Draws
+pub mod Keys
 pub mod Actors
 pub mod Better
 pub mod Choices

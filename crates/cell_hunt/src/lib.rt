@@ -7,8 +7,8 @@
 
 mod actors;
 mod chooser;
-mod draws;
 mod error;
+mod keys;
 mod origins;
 mod outcome;
 mod racing;

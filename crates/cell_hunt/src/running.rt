@@ -19,7 +19,6 @@ use crate::site::Sites;
 use crate::so_far::SoFar;
 use crate::way::way_of;
 use cell_machine::{Machine, Setup};
-use rand_pcg::Pcg32;
 use std::alloc::Global;
 use std::marker::Model;
 
@@ -105,8 +104,7 @@ pub fn run_of_seed(alloc: Global, setup: &Setup, seed: u64, run: u32) -> Result<
     ensures over { IfOk result IsOver }
     ensures only { IfOk result (λ m. (n : Ran) → IsRunOfSeed setup.now seed run n → n ≡ m) }
 {
-    let words = Pcg32::new(seed, u64::from(run));
-    let mut chooser = Chooser::new(way_of(run), words);
+    let mut chooser = Chooser::new(way_of(run), seed, u64::from(run));
     let mut so_far = SoFar::new(alloc, setup)?;
     make_all(&mut so_far, &mut chooser)?;
     let kind = so_far.touched.kind();

@@ -7,6 +7,6 @@ use Rattle.cell_hunt.proofs.chooser.Chooser.best.Given as goal
 abbrev pub invariant-loop-number : goal.invariant-loop-number
 invariant-loop-number l =
     record {
-      best : IsBestSoFar l.machine l.self l.spes l.number l.best;
+      best : IsBestSoFar l.machine l.fn.self l.spes l.number l.best;
       allowed : IfSome l.best (λ b. IsSome (next_of l.machine b.step));
     }
