@@ -2,8 +2,9 @@
 #![tactic(auto)]
 
 ghost use Rattle.std.specs.Prelude.{◌≡◌, ◌+◌, ◌%◌, ◌<◌, ◌≤◌, ℕ, List, length, slice_range, IfOk};
+ghost use Rattle.std.specs.Vec.{vec_capacity};
 ghost use Rattle.cell_base.specs.Bytes.{put, zeros};
-ghost use Rattle.local_store.specs.Store.{line_of, quad_at, word_at};
+ghost use Rattle.local_store.specs.Store.{line_of, quad_at, word_at, with_zeros};
 
 use cell_base::Quad;
 use std::alloc::{AllocError, Global};
@@ -11,6 +12,9 @@ use std::marker::Model;
 
 /// How many bytes a local store has.
 pub const STORE_BYTES: usize = 262_144;
+
+/// Bytes become kept in blocks of so many, so that it is done seldom.
+const BLOCK: usize = 1024;
 
 /// There was no memory for the store.
 #[derive(Clone, Copy, Debug, PartialEq, Eq)]
@@ -27,17 +31,20 @@ impl From<AllocError> for StoreError {
 /// The 262,144 bytes of a processor's local store.
 #[derive(Drop)]
 pub struct LocalStore {
+    /// The bytes up to the highest that was written, at least: those behind them are zero. There is room for all.
     bytes: Vec<u8>,
 }
 
 impl Model for LocalStore {
-    ghost use Rattle.std.specs.Prelude.{◌≡◌, List, ℕ, length};
+    ghost use Rattle.std.specs.Prelude.{◌≡◌, ◌≤◌, ◌%◌, List, ℕ, length};
+    ghost use Rattle.std.specs.Vec.{vec_capacity};
+    ghost use Rattle.local_store.specs.Store.{with_zeros};
 
     ghost Value = { List ℕ };
 
-    ghost view = { λ s. s.bytes.items };
+    ghost view = { λ s. with_zeros s.bytes.items };
 
-    ghost invariant = { λ s. length s.bytes.items ≡ 262144 };
+    ghost invariant = { λ s. (length s.bytes.items % 1024 ≡ 0) × (length s.bytes.items ≤ 262144) × (262144 ≤ vec_capacity s.bytes) };
 }
 
 impl LocalStore {
@@ -45,16 +52,8 @@ impl LocalStore {
     pub fn new(alloc: Global) -> Result<LocalStore, StoreError>
         ensures { IfOk result (λ s. s ≡ zeros 262144) }
     {
-        let bytes = vec![in alloc; 0u8; STORE_BYTES]?;
+        let bytes = Vec::with_capacity(alloc, STORE_BYTES)?;
         Ok(LocalStore { bytes })
-    }
-
-    /// All bytes, from address 0 on.
-    pub fn bytes(&self) -> &[u8]
-        ensures all { result.now ≡ self.now }
-        ensures count { length self.now ≡ STORE_BYTES }
-    {
-        self.bytes.as_slice()
     }
 
     /// The quadword that holds an address, of which the bits outside 0x3FFF0 are ignored.
@@ -63,6 +62,9 @@ impl LocalStore {
     {
         let at = line_of(at) as usize;
         let mut quad = [0; 16];
+        if at >= self.bytes.len() {
+            return Quad::of_bytes(&quad);
+        }
         quad.copy_from_slice(&self.bytes[at..at + 16]);
         Quad::of_bytes(&quad)
     }
@@ -72,6 +74,7 @@ impl LocalStore {
         ensures { self.new ≡ put self.old (line_of at) q }
     {
         let at = line_of(at) as usize;
+        reach(&mut self.bytes, at + 16);
         self.bytes[at..at + 16].copy_from_slice(&q.bytes());
     }
 
@@ -82,6 +85,9 @@ impl LocalStore {
         ensures { result ≡ word_at self.now at }
     {
         let at = at as usize;
+        if at >= self.bytes.len() {
+            return 0;
+        }
         let mut word = [0; 4];
         word.copy_from_slice(&self.bytes[at..at + 4]);
         u32::from_be_bytes(word)
@@ -93,7 +99,12 @@ impl LocalStore {
         ensures { into.new ≡ slice_range self.now at (at + length into.old) }
     {
         let at = at as usize;
-        into.copy_from_slice(&self.bytes[at..at + into.len()]);
+        let end = at + into.len();
+        if end <= self.bytes.len() {
+            into.copy_from_slice(&self.bytes[at..end]);
+            return;
+        }
+        copy_past(&self.bytes, at, into);
     }
 
     /// Copies bytes to an address on, and leaves the others. The range has to lie in the store.
@@ -102,7 +113,56 @@ impl LocalStore {
         ensures { self.new ≡ put self.old at from.now }
     {
         let at = at as usize;
-        self.bytes[at..at + from.len()].copy_from_slice(from);
+        let end = at + from.len();
+        reach(&mut self.bytes, end);
+        self.bytes[at..end].copy_from_slice(from);
+    }
+}
+
+/// Keeps the bytes up to a place, at least: those that weren't kept are zero.
+#[inline(always)]
+fn reach(bytes: &mut Vec<u8>, end: usize)
+    requires end { end ≤ 262144 }
+    requires blocks { length bytes.old.items % 1024 ≡ 0 }
+    requires within { length bytes.old.items ≤ 262144 }
+    requires room { 262144 ≤ vec_capacity bytes.old }
+    ensures same { with_zeros bytes.new.items ≡ with_zeros bytes.old.items }
+    ensures end { end ≤ length bytes.new.items }
+    ensures blocks { length bytes.new.items % 1024 ≡ 0 }
+    ensures within { length bytes.new.items ≤ 262144 }
+    ensures room { 262144 ≤ vec_capacity bytes.new }
+{
+    if bytes.len() < end {
+        add_zeros(bytes, end.div_ceil(BLOCK) * BLOCK);
+    }
+}
+
+/// Keeps so many bytes.
+#[inline(never)]
+fn add_zeros(bytes: &mut Vec<u8>, count: usize)
+    requires more { length bytes.old.items ≤ count }
+    requires within { count ≤ 262144 }
+    requires room { 262144 ≤ vec_capacity bytes.old }
+    ensures same { with_zeros bytes.new.items ≡ with_zeros bytes.old.items }
+    ensures count { length bytes.new.items ≡ count }
+    ensures room { 262144 ≤ vec_capacity bytes.new }
+{
+    // There is room for all, so it isn't refused.
+    let _ = bytes.resize(count, 0);
+}
+
+/// Copies bytes from a place on, those that aren't kept as zeros.
+#[inline(never)]
+fn copy_past(bytes: &[u8], at: usize, into: &mut [u8])
+    requires within { length bytes.now ≤ 262144 }
+    requires range { at + length into.old ≤ 262144 }
+    requires past { length bytes.now < at + length into.old }
+    ensures { into.new ≡ slice_range (with_zeros bytes.now) at (at + length into.old) }
+{
+    into.fill(0);
+    if at < bytes.len() {
+        let kept = &bytes[at..];
+        into[..kept.len()].copy_from_slice(kept);
     }
 }
 

@@ -1,6 +1,5 @@
-use Rattle.cell_base.specs.Bytes.{zeros}
+use Rattle.local_store.proofs.Kept.{none_kept}
 use Rattle.local_store.proofs.LocalStore.new.Goals as goal
 
 pub returns : goal.returns
-unfolding zeros
-returns c = c.in_ok-bytes.ensures.items_if_clones_equal (λ y same. same)
+returns c = none_kept _ c.in_ok-bytes.ensures.items
