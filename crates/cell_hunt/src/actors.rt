@@ -29,15 +29,18 @@ pub struct Keyed {
     pub step: Step,
 }
 
-/// Of the best so far and an actor's step, if it has one, that with the greater key. The actor isn't asked where its key isn't greater.
+/// Of the best so far and the step of the actor of a number, if it has one, that with the greater key. The actor isn't asked where its key
+/// isn't greater.
 pub fn better(
     machine: &Machine,
-    actor: Actor,
+    spes: u8,
+    number: u8,
     key: u64,
     choice: u32,
     best: Option<Keyed>,
 ) -> Option<Keyed>
-    ensures better { result ≡ better (picked_of machine.now actor choice) key best }
+    requires { spes ≤ 16 }
+    ensures better { result ≡ better (picked_of machine.now (actor_of spes number) choice) key best }
     ensures allowed { IfSome best (λ b. IsSome (next_of machine.now b.step)) → IfSome result (λ b. IsSome (next_of machine.now b.step)) }
 {
     if let Some(best) = best
@@ -45,7 +48,7 @@ pub fn better(
     {
         return Some(best);
     }
-    match machine.pick(actor, u64::from(choice)) {
+    match machine.pick(actor(spes, number), u64::from(choice)) {
         Some(step) => Some(Keyed { key, step }),
         None => best,
     }

@@ -94,7 +94,7 @@ impl Chooser {
         let mut best = None;
         for number in 0..2 * spes + 1 {
             let key = key(&self.keys, self.way, spes, number);
-            best = better(machine, actor(spes, number), key, self.choice, best);
+            best = better(machine, spes, number, key, self.choice, best);
         }
         let Some(best) = best else {
             return machine.any_step();

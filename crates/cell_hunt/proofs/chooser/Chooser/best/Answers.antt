@@ -1,4 +1,4 @@
-use Rattle.std.proofs.Common.{◌≡◌, length, arith, rules}
+use Rattle.std.proofs.Common.{◌≡◌, length, refl, arith, rules}
 use Rattle.cell_hunt.specs.Choices.{key_of}
 use Rattle.cell_hunt.proofs.Bests.{best-next, chosen-none, chosen-some, key_by}
 use Rattle.cell_hunt.proofs.chooser.Chooser.best.Goals as goal
@@ -8,7 +8,7 @@ loop-number-preserved c =
     let keyed : c.key-key.result ≡ key_of c.args.self.now c.spes-spes.result c.loop-number.number =
     key_by c.args.self.now c.self.inside.way _ _ _ _ _ (search rules) (search rules) c.draw.ensures.same c.key-key.ensures in
     record {
-      best = best-next c.args.machine.now c.args.self.now _ _ c.self.inside.choice _ _ _ _ (search rules) c.actor.ensures keyed c.better-best.ensures.better c.loop-number.invariant.best;
+      best = best-next c.args.machine.now c.args.self.now _ _ c.self.inside.choice _ _ _ _ (search rules) refl keyed c.better-best.ensures.better c.loop-number.invariant.best;
       allowed = c.better-best.ensures.allowed c.loop-number.invariant.allowed;
     }
 
