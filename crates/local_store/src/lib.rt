@@ -73,6 +73,18 @@ impl LocalStore {
     pub fn set_quad(&mut self, at: u32, q: Quad)
         ensures { self.new ≡ put self.old (line_of at) q }
     {
+        let line = line_of(at) as usize;
+        if line >= self.bytes.len() {
+            return self.put_past(at, q);
+        }
+        self.bytes[line..line + 16].copy_from_slice(&q.bytes());
+    }
+
+    /// The same behind the kept bytes: in a function of its own, since it is seldom so.
+    #[inline(never)]
+    fn put_past(&mut self, at: u32, q: Quad)
+        ensures { self.new ≡ put self.old (line_of at) q }
+    {
         let at = line_of(at) as usize;
         reach(&mut self.bytes, at + 16);
         self.bytes[at..at + 16].copy_from_slice(&q.bytes());

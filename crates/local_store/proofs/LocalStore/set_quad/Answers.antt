@@ -6,11 +6,12 @@ use Rattle.local_store.proofs.LocalStore.set_quad.Goals as goal
 
 pub returns : goal.returns
 returns c =
-    let l = c.line_of-at.result in
-    let b = c.reach.new.bytes in
+    let l = c.line_of-line.result in
+    let b = c.self.inside.bytes in
     let size : length c.args.q ≡ 16 = search rules in
     let count : l + 16 - l ≡ length c.args.q = omega (arith, size) in
-    let inside : l + length c.args.q ≤ length b.items = omega (arith, size, c.reach.ensures.end) in
+    let end : l + 16 ≤ length b.items = search rules in
+    let inside : l + length c.args.q ≤ length b.items = omega (arith, size, end) in
     let new : c.copy_from_slice.new.self ≡ c.args.q = search rules in
     written b.items _ c.args.q l inside (with_items_is b _ (search (rules, places)) ∙ rewritten b.items _ c.args.q _ l _ c.deref_mut.ensures.value new count)
-    ∙ ap (λ s. put s l c.args.q) (c.reach.ensures.same ∙ c.self.view_is) ∙ ap (λ at. put c.args.self.now at c.args.q) c.line_of-at.ensures.value
+    ∙ ap (λ s. put s l c.args.q) c.self.view_is ∙ ap (λ at. put c.args.self.now at c.args.q) c.line_of-line.ensures.value
