@@ -1,63 +1,105 @@
 -- Tracks with one more step.
-use Rattle.std.proofs.Common.{◌≡◌, ℕ, suc, ◌+◌, ◌<◌, ◌≤◌, List, [], ◌∷◌, ◌++◌, length, refl, sym, ◌∙◌, subst, arith, ◌⊎◌, inl, inr, None}
-use Rattle.std.specs.Prelude.{slice_index_or, slice_set}
+use Rattle.std.proofs.Common.{◌≡◌, ℕ, suc, ◌+◌, ◌<◌, ◌≤◌, List, [], ◌∷◌, ◌++◌, length, refl, sym, ◌∙◌, subst, arith, ◌⊎◌, inl, inr, None, ap, ap₂}
+use Rattle.std.specs.Prelude.{slice_index_or, slice_set, Vec}
+use Rattle.std.specs.Vec.{with_items}
+use Rattle.std.specs.declared.alloc.Global.{Global}
 use Rattle.std.proofs.lemmas.Bool.{cases_lt}
+use Rattle.cell_machine.proofs.AllTwo.{whole}
 use Rattle.cell_machine.specs.Run.{Ran}
 use Rattle.run_frames.specs.OrderedLaws.{IsOrdered}
 use Rattle.settled.specs.Lists.{IsIn, Each, AreChanged}
-use Rattle.reorder.specs.Lists.{One}
+use Rattle.reorder.specs.Lists.{One, IsOneChanged}
 use Rattle.reorder.specs.Needs.{IsCovered, AreNeedsOf}
-use Rattle.reorder.specs.Tracks.{IsChain, IsEnd, IsLoose, MayBeUntil, IsBounded, IsBelow, IsBlock, IsPast, IsTrack, IsOnBlock, IsOn, CoversTrack, IsClosed, IsBlockClosed, IsPut, AreTracks}
+use Rattle.reorder.specs.Tracks.{AreChains, IsChain, IsEnd, IsStrand, IsNotAbove, IsWithinBounds, MayBeUntil, IsBounded, IsBlock, IsPast, IsTrack, IsOnBlock, IsOn, CoversTrack, IsClosed, IsBlockClosed, IsLonger, IsBlockLonger, IsPut, AreTracks, places}
 use Rattle.reorder.specs.declared.block.Block.{Block}
-use Rattle.reorder.specs.declared.block.Loose.{Loose}
+use Rattle.reorder.specs.declared.strand.Strand.{Strand}
 use Rattle.reorder.specs.declared.track.Track.{Track}
 use Rattle.settled.proofs.Entries.{each-on, each-at, each-end}
 use Rattle.reorder.proofs.Changes.{each-set, changed-each}
 use Rattle.reorder.proofs.Entries.{in-left, in-push}
 use Rattle.reorder.proofs.Ordered.{ordered-up}
-use Rattle.reorder.proofs.Ends.{covers-more, chain-later, chain-more, loose-later, loose-closed}
-use Rattle.reorder.proofs.Passed.{past-push, past-set}
+use Rattle.reorder.proofs.Ends.{covers-more, chain-one, chain-later, chain-more, longer-places, strand-later, strand-closed, strand-longer}
+use Rattle.reorder.proofs.Passed.{past-longer, past-push, past-set}
 use Rattle.reorder.proofs.Ones.{one-changed, one-kept, one-last, one-left, one-new}
 
 -- ---- one block
 
 block-later : (m : Ran) (j : ℕ) (chain : List ℕ) (b : Block) → IsBlock m j chain b → IsBlock m (j + 1) chain b
-block-later m j chain b is = record { bounded = is.bounded; loose = each-on (IsLoose m j chain) (IsLoose m (j + 1) chain) b.steps.items (loose-later m j chain) is.loose }
+block-later m j chain b is = record { bounded = is.bounded; strands = each-on (IsStrand m j chain) (IsStrand m (j + 1) chain) b.strands.items (strand-later m j chain) is.strands }
 
 -- behind one more step of the chain
 block-closed : (m : Ran) (j : ℕ) (chain : List ℕ) (b n : Block) → IsBlockClosed m j (length chain) b n → IsBlock m j chain b → IsBlock m (j + 1) (chain ++ j ∷ []) n
 block-closed m j chain b n closed is =
     record {
       bounded = closed.bounded;
-      loose = changed-each (IsClosed m j (length chain)) (IsLoose m j chain) (IsLoose m (j + 1) (chain ++ j ∷ [])) (length b.steps.items) b.steps.items n.steps.items (omega arith) closed.steps (λ x y r p. loose-closed m j chain x y r p) is.loose;
+      strands = changed-each (IsClosed m j (length chain)) (IsStrand m j chain) (IsStrand m (j + 1) (chain ++ j ∷ [])) (length b.strands.items) b.strands.items n.strands.items (omega arith) closed.strands (λ x y r p. strand-closed m j chain x y r p) is.strands;
     }
 
 closed-on : (m : Ran) (j index i : ℕ) (b n : Block) → IsBlockClosed m j index b n → IsOnBlock i b → IsOnBlock i n
 closed-on m j index i b n closed h =
-    one-changed (IsClosed m j index) (λ (l : Loose). l.place ≡ i) (length b.steps.items) b.steps.items n.steps.items (omega arith) closed.steps (λ x y r e. r.place ∙ e) h
+    one-changed (IsClosed m j index) (λ (s : Strand). IsIn i (places s)) (length b.strands.items) b.strands.items n.strands.items (omega arith) closed.strands (λ x y r on. subst (IsIn i) (sym (ap places r.rest)) on) h
 
--- with one step more
-pushed-block : (m : Ran) (j : ℕ) (chain : List ℕ) (l : Loose) (b n : Block) → n.steps.items ≡ b.steps.items ++ l ∷ [] → (IsBounded b → IsBounded n) → IsLoose m j chain l → IsBlock m j chain b → IsBlock m j chain n
-pushed-block m j chain l b n steps bounded loose is = record { bounded = bounded is.bounded; loose = subst (Each (IsLoose m j chain)) (sym steps) (each-end (IsLoose m j chain) b.steps.items l is.loose loose) }
+-- with one strand more
+pushed-block : (m : Ran) (j : ℕ) (chain : List ℕ) (s : Strand) (b n : Block) → n.strands.items ≡ b.strands.items ++ s ∷ [] → (IsBounded b → IsBounded n) → IsStrand m j chain s → IsBlock m j chain b → IsBlock m j chain n
+pushed-block m j chain s b n strands bounded strand is = record { bounded = bounded is.bounded; strands = subst (Each (IsStrand m j chain)) (sym strands) (each-end (IsStrand m j chain) b.strands.items s is.strands strand) }
 
-pub put-at : (bs : List Block) (k : ℕ) (l : Loose) (n : Block) → k < length bs → length bs ≤ k + 1 → n.steps.items ≡ (slice_index_or bs k n).steps.items ++ l ∷ [] → (IsBounded (slice_index_or bs k n) → IsBounded n) → IsPut l bs (slice_set bs k n)
-put-at bs k l n low last steps bounded =
+pub put-at : (bs : List Block) (k : ℕ) (s : Strand) (n : Block) → k < length bs → length bs ≤ k + 1 → n.strands.items ≡ (slice_index_or bs k n).strands.items ++ s ∷ [] → (IsBounded (slice_index_or bs k n) → IsBounded n) → IsPut s bs (slice_set bs k n)
+put-at bs k s n low last strands bounded =
     record {
-      blocks = λ m j chain loose each. each-set (IsBlock m j chain) bs k n each (pushed-block m j chain l (slice_index_or bs k n) n steps bounded loose (each-at (IsBlock m j chain) bs k n each low));
-      kept = λ i h. one-kept (IsOnBlock i) bs k n low (λ on. subst (One (λ (x : Loose). x.place ≡ i)) (sym steps) (one-left (λ (x : Loose). x.place ≡ i) (slice_index_or bs k n).steps.items l on)) h;
-      added = one-new (IsOnBlock l.place) bs k n low (subst (One (λ (x : Loose). x.place ≡ l.place)) (sym steps) (one-last (λ (x : Loose). x.place ≡ l.place) (slice_index_or bs k n).steps.items l refl));
+      blocks = λ m j chain strand each. each-set (IsBlock m j chain) bs k n each (pushed-block m j chain s (slice_index_or bs k n) n strands bounded strand (each-at (IsBlock m j chain) bs k n each low));
+      kept = λ i h. one-kept (IsOnBlock i) bs k n low (λ on. subst (One (λ (x : Strand). IsIn i (places x))) (sym strands) (one-left (λ (x : Strand). IsIn i (places x)) (slice_index_or bs k n).strands.items s on)) h;
+      added = λ i h. one-new (IsOnBlock i) bs k n low (subst (One (λ (x : Strand). IsIn i (places x))) (sym strands) (one-last (λ (x : Strand). IsIn i (places x)) (slice_index_or bs k n).strands.items s h));
       past = λ p is. past-set p bs k n last is;
     }
 
 -- in a block of its own
-pub put-new : (bs : List Block) (l : Loose) (n : Block) → n.steps.items ≡ l ∷ [] → IsBounded n → IsPut l bs (bs ++ n ∷ [])
-put-new bs l n steps bounded =
+pub put-new : (bs : List Block) (s : Strand) (n : Block) → n.strands.items ≡ s ∷ [] → IsBounded n → IsPut s bs (bs ++ n ∷ [])
+put-new bs s n strands bounded =
     record {
-      blocks = λ m j chain loose each. each-end (IsBlock m j chain) bs n each (record { bounded = bounded; loose = subst (Each (IsLoose m j chain)) (sym steps) (loose, tt) });
+      blocks = λ m j chain strand each. each-end (IsBlock m j chain) bs n each (record { bounded = bounded; strands = subst (Each (IsStrand m j chain)) (sym strands) (strand, tt) });
       kept = λ i h. one-left (IsOnBlock i) bs n h;
-      added = one-last (IsOnBlock l.place) bs n (subst (One (λ (x : Loose). x.place ≡ l.place)) (sym steps) (inl refl));
+      added = λ i h. one-last (IsOnBlock i) bs n (subst (One (λ (x : Strand). IsIn i (places x))) (sym strands) (inl h));
       past = λ p is. past-push p bs n is;
     }
+
+-- with one more step of a strand
+module _ (m : Ran) (j : ℕ) (chain : List ℕ) (b n : Block) (longer : IsBlockLonger m j b n) where
+  abbrev one : IsOneChanged (IsLonger m j) b.strands.items n.strands.items
+  one = longer.strands
+
+  abbrev old : Strand
+  old = slice_index_or b.strands.items longer.strands.index longer.strands.entry
+
+  longer-bounded : IsBounded b → IsBounded n
+  longer-bounded bounded =
+      let was : IsWithinBounds b.low b.high old = each-at (IsWithinBounds b.low b.high) b.strands.items one.index one.entry bounded one.within in
+      let now : IsWithinBounds b.low b.high one.entry =
+      record {
+        low = subst (λ f. b.low ≤ f) (sym (ap (λ (x : Strand). x.from) one.changed.rest)) was.low;
+        high = subst (IsNotAbove b.high) (sym (ap (λ (x : Strand). x.until) one.changed.rest)) was.high;
+      } in
+      let all : Each (IsWithinBounds b.low b.high) n.strands.items = subst (Each (IsWithinBounds b.low b.high)) (sym one.is) (each-set (IsWithinBounds b.low b.high) b.strands.items one.index one.entry bounded now) in
+      let low : b.low ≡ n.low = sym (ap (λ (x : Block). x.low) longer.rest) in
+      let high : b.high ≡ n.high = sym (ap (λ (x : Block). x.high) longer.rest) in
+      subst (λ l. Each (IsWithinBounds l n.high) n.strands.items) low (subst (λ h. Each (IsWithinBounds b.low h) n.strands.items) high all)
+
+  pub block-longer : IsBlock m j chain b → IsBlock m (j + 1) chain n
+  block-longer is =
+      record {
+        bounded = longer-bounded is.bounded;
+        strands = subst (Each (IsStrand m (j + 1) chain)) (sym one.is) (each-set (IsStrand m (j + 1) chain) b.strands.items one.index one.entry (each-on (IsStrand m j chain) (IsStrand m (j + 1) chain) b.strands.items (strand-later m j chain) is.strands)
+            (strand-longer m j chain old one.entry one.changed (each-at (IsStrand m j chain) b.strands.items one.index one.entry is.strands one.within)));
+      }
+
+  pub longer-kept : (i : ℕ) → IsOnBlock i b → IsOnBlock i n
+  longer-kept i h =
+      subst (One (λ (x : Strand). IsIn i (places x))) (sym one.is)
+      (one-kept (λ (x : Strand). IsIn i (places x)) b.strands.items one.index one.entry one.within (λ on. subst (IsIn i) (sym (longer-places m j old one.entry one.changed)) (in-left (places old) (j ∷ []) i on)) h)
+
+  pub longer-new : IsOnBlock j n
+  longer-new =
+      subst (One (λ (x : Strand). IsIn j (places x))) (sym one.is)
+      (one-new (λ (x : Strand). IsIn j (places x)) b.strands.items one.index one.entry one.within (subst (IsIn j) (sym (longer-places m j old one.entry one.changed)) ((in-push (places old) j j).1 (inr refl))))
 
 -- ---- one track
 
@@ -83,16 +125,16 @@ linked-on m j t n closed changed chain blocks i (inr h) =
 pub linked-new : (j : ℕ) (t n : Track) → n.chain.items ≡ t.chain.items ++ j ∷ [] → IsOn n j
 linked-new j t n chain = inl (subst (IsIn j) (sym chain) ((in-push t.chain.items j j).1 (inr refl)))
 
--- it goes to the others
-pub track-loosed : (m : Ran) (j : ℕ) (t n : Track) (l : Loose) → IsTrack m j t → IsEnd m j t.chain.items l.from → l.place ≡ j → l.until ≡ None → n.chain.items ≡ t.chain.items → n.past ≡ t.past → IsPut l t.blocks.items n.blocks.items → IsTrack m (j + 1) n
-track-loosed m j t n l is end place until chain past put =
+-- it goes to a strand of its own
+pub track-loosed : (m : Ran) (j : ℕ) (t n : Track) (s : Strand) → IsTrack m j t → IsEnd m j t.chain.items s.from → places s ≡ j ∷ [] → s.first ≡ j → s.until ≡ None → n.chain.items ≡ t.chain.items → n.past ≡ t.past → IsPut s t.blocks.items n.blocks.items → IsTrack m (j + 1) n
+track-loosed m j t n s is end steps first until chain past put =
     let later = track-later m j t is in
-    let one : IsLoose m (j + 1) t.chain.items l =
+    let one : IsStrand m (j + 1) t.chain.items s =
     record {
-      below = omega arith;
+      steps = subst (IsChain m (j + 1)) (sym steps) (chain-one m j);
       high = end.within;
-      above = λ x a low at. subst (IsOrdered m a) (sym place) (end.before x a low at);
-      low = subst (MayBeUntil m t.chain.items l.place) (sym until) tt;
+      above = λ x a low at. subst (IsOrdered m a) (sym first) (end.before x a low at);
+      low = subst (MayBeUntil m t.chain.items (places s)) (sym until) tt;
     } in
     record {
       chain = subst (IsChain m (j + 1)) (sym chain) later.chain;
@@ -100,9 +142,35 @@ track-loosed m j t n l is end place until chain past put =
       past = subst (λ p. IsPast p n.blocks.items) (sym past) (put.past t.past is.past);
     }
 
-pub loosed-on : (t n : Track) (l : Loose) → n.chain.items ≡ t.chain.items → IsPut l t.blocks.items n.blocks.items → (i : ℕ) → IsOn t i → IsOn n i
-loosed-on t n l chain put i (inl h) = inl (subst (IsIn i) (sym chain) h)
-loosed-on t n l chain put i (inr h) = inr (put.kept i h)
+pub loosed-on : (t n : Track) (s : Strand) → n.chain.items ≡ t.chain.items → IsPut s t.blocks.items n.blocks.items → (i : ℕ) → IsOn t i → IsOn n i
+loosed-on t n s chain put i (inl h) = inl (subst (IsIn i) (sym chain) h)
+loosed-on t n s chain put i (inr h) = inr (put.kept i h)
+
+-- or to one that there is
+pub in-place : (m : Ran) (j : ℕ) (blocks : Vec Block Global) (ws : List Block) → length ws ≡ length blocks.items → IsOneChanged (IsBlockLonger m j) blocks.items ws → IsOneChanged (IsBlockLonger m j) blocks.items (with_items blocks ws).items
+in-place m j blocks ws long one = subst (IsOneChanged (IsBlockLonger m j) blocks.items) (sym (whole blocks.len ws blocks.items (blocks.ok.0 ∙ sym long))) one
+
+module _ (m : Ran) (j : ℕ) (t n : Track) (one : IsOneChanged (IsBlockLonger m j) t.blocks.items n.blocks.items) (chain : n.chain.items ≡ t.chain.items) where
+  abbrev was : Block
+  was = slice_index_or t.blocks.items one.index one.entry
+
+  pub track-longer : IsTrack m j t → n.past ≡ t.past → IsTrack m (j + 1) n
+  track-longer is past =
+      let later = track-later m j t is in
+      let entry = block-longer m j t.chain.items was one.entry one.changed (each-at (IsBlock m j t.chain.items) t.blocks.items one.index one.entry is.blocks one.within) in
+      let blocks : Each (IsBlock m (j + 1) t.chain.items) n.blocks.items = subst (Each (IsBlock m (j + 1) t.chain.items)) (sym one.is) (each-set (IsBlock m (j + 1) t.chain.items) t.blocks.items one.index one.entry later.blocks entry) in
+      record {
+        chain = subst (IsChain m (j + 1)) (sym chain) later.chain;
+        blocks = subst (λ c. Each (IsBlock m (j + 1) c) n.blocks.items) (sym chain) blocks;
+        past = subst (λ p. IsPast p n.blocks.items) (sym past) (past-longer m j t.past t.blocks.items n.blocks.items one is.past);
+      }
+
+  pub longer-on : (i : ℕ) → IsOn t i → IsOn n i
+  longer-on i (inl h) = inl (subst (IsIn i) (sym chain) h)
+  longer-on i (inr h) = inr (subst (One (IsOnBlock i)) (sym one.is) (one-kept (IsOnBlock i) t.blocks.items one.index one.entry one.within (longer-kept m j t.chain.items was one.entry one.changed i) h))
+
+  pub longer-has : IsOn n j
+  longer-has = inr (subst (One (IsOnBlock j)) (sym one.is) (one-new (IsOnBlock j) t.blocks.items one.index one.entry one.within (longer-new m j t.chain.items was one.entry one.changed)))
 
 -- ---- all tracks
 
@@ -161,8 +229,8 @@ covers-next m j tracks mid new index kept before one k d high = on (cases_lt k i
     on (inl l) = covers-more m j (slice_index_or tracks k d) mid new kept (before k d l)
     on (inr l) = let e : index ≡ k = omega arith in subst (λ i. CoversTrack m j (slice_index_or tracks i d) new) e (one d)
 
-pub blocks-below : (m : Ran) (j : ℕ) (t : Track) → IsTrack m j t → Each (IsBelow j) t.blocks.items
-blocks-below m j t is = each-on (IsBlock m j t.chain.items) (IsBelow j) t.blocks.items (λ b block. each-on (IsLoose m j t.chain.items) (λ (l : Loose). l.place < j) b.steps.items (λ l loose. loose.below) block.loose) is.blocks
+pub blocks-chains : (m : Ran) (j : ℕ) (t : Track) → IsTrack m j t → Each (AreChains m j) t.blocks.items
+blocks-chains m j t is = each-on (IsBlock m j t.chain.items) (AreChains m j) t.blocks.items (λ b block. each-on (IsStrand m j t.chain.items) (λ (s : Strand). IsChain m j (places s)) b.strands.items (λ s strand. strand.steps) block.strands) is.blocks
 
 pub blocks-bounded : (m : Ran) (j : ℕ) (t : Track) → IsTrack m j t → Each IsBounded t.blocks.items
 blocks-bounded m j t is = each-on (IsBlock m j t.chain.items) IsBounded t.blocks.items (λ b block. block.bounded) is.blocks

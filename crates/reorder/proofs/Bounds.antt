@@ -1,22 +1,22 @@
--- Blocks of loose steps and their bounds.
-use Rattle.std.proofs.Common.{ℕ, ◌≤◌, List, length, refl, sym, subst, arith, inl, inr, Option, Some, None}
+-- Blocks of strands and their bounds.
+use Rattle.std.proofs.Common.{ℕ, ◌≤◌, List, length, refl, sym, ap, subst, arith, inl, inr, Option, Some, None}
 use Rattle.cell_machine.specs.Run.{Ran}
 use Rattle.settled.specs.Lists.{Each, AreChanged}
 use Rattle.reorder.specs.Tracks.{IsNotAbove, IsWithinBounds, IsBounded, IsClosed, IsBlockClosed}
 use Rattle.reorder.specs.declared.block.Block.{Block}
-use Rattle.reorder.specs.declared.block.Loose.{Loose}
+use Rattle.reorder.specs.declared.strand.Strand.{Strand}
 use Rattle.reorder.proofs.Changes.{changed-each}
 use Rattle.reorder.proofs.Ones.{changed-same, each-two}
 
--- closed steps stay above the lower bound; the new upper one is theirs
-pub closed-bounded : (m : Ran) (j index low : ℕ) (high new : Option ℕ) (ls ns : List Loose) → AreChanged (IsClosed m j index) (length ls) ls ns → Each (IsWithinBounds low high) ls → Each (λ (l : Loose). IsNotAbove new l.until) ns → Each (IsWithinBounds low new) ns
+-- closed strands stay above the lower bound; the new upper one is theirs
+pub closed-bounded : (m : Ran) (j index low : ℕ) (high new : Option ℕ) (ls ns : List Strand) → AreChanged (IsClosed m j index) (length ls) ls ns → Each (IsWithinBounds low high) ls → Each (λ (l : Strand). IsNotAbove new l.until) ns → Each (IsWithinBounds low new) ns
 closed-bounded m j index low high new ls ns changed within until =
-    each-two (λ (l : Loose). low ≤ l.from) (λ (l : Loose). IsNotAbove new l.until) (IsWithinBounds low new) ns (λ l from high. record { low = from; high = high })
-    (changed-each (IsClosed m j index) (IsWithinBounds low high) (λ (l : Loose). low ≤ l.from) (length ls) ls ns (omega arith) changed (λ x y r p. subst (λ f. low ≤ f) (sym r.from) p.low) within) until
+    each-two (λ (l : Strand). low ≤ l.from) (λ (l : Strand). IsNotAbove new l.until) (IsWithinBounds low new) ns (λ l from high. record { low = from; high = high })
+    (changed-each (IsClosed m j index) (IsWithinBounds low high) (λ (l : Strand). low ≤ l.from) (length ls) ls ns (omega arith) changed (λ x y r p. subst (λ f. low ≤ f) (sym (ap (λ (s : Strand). s.from) r.rest)) p.low) within) until
 
 -- a block with an upper bound stays as it is
 pub none-closed : (m : Ran) (j index : ℕ) (b : Block) → IsBounded b → IsBlockClosed m j index b b
-none-closed m j index b bounded = record { steps = changed-same (IsClosed m j index) (length b.steps.items) b.steps.items (λ l. record { place = refl; from = refl; until = inl refl }); bounded = bounded; kept = inr refl }
+none-closed m j index b bounded = record { strands = changed-same (IsClosed m j index) (length b.strands.items) b.strands.items (λ l. record { rest = refl; until = inl refl }); bounded = bounded; kept = inr refl }
 
 -- below a bound is below a higher one
 pub above-more : (high new : ℕ) (until : Option ℕ) → high ≤ new → IsNotAbove (Some high) until → IsNotAbove (Some new) until

@@ -10,14 +10,14 @@ use Rattle.run_permute.specs.Places.{until}
 use Rattle.settled.proofs.Alike.{Alike, alike-first}
 use Rattle.settled.specs.Lists.{Each}
 use Rattle.reorder.specs.declared.block.Block.{Block}
-use Rattle.reorder.specs.declared.block.Loose.{Loose}
 use Rattle.reorder.specs.declared.needs.Needs.{Needs}
+use Rattle.reorder.specs.declared.strand.Strand.{Strand}
 use Rattle.reorder.specs.declared.track.Track.{Track}
 use Rattle.reorder.specs.Gathered.{Gathers}
 use Rattle.reorder.specs.Lists.{list_at}
 use Rattle.reorder.specs.Needs.{AreNeeds, AreNeedsOf}
 use Rattle.reorder.proofs.Needing.{needs-more, needs-none}
-use Rattle.reorder.specs.Tracks.{AreTracks, IsBlock, IsChain, IsLoose, IsTrack, MayBeUntil}
+use Rattle.reorder.specs.Tracks.{AreTracks, IsBlock, IsChain, IsStrand, IsTrack, MayBeUntil, places}
 
 -- ---- two runs with the same first j steps
 
@@ -25,25 +25,25 @@ module _ (m n : Ran) (j : ℕ) (a : Alike m n j) where
   chain-on : (chain : List ℕ) → IsChain m j chain → IsChain n j chain
   chain-on chain c = record { below = c.below; ordered = λ x y b d low at there. a.to b d (c.below y d there) (c.ordered x y b d low at there) }
 
-  until-on : (chain : List ℕ) (place : ℕ) (until : Option ℕ) → IsChain m j chain → MayBeUntil m chain place until → MayBeUntil n chain place until
-  until-on chain place None c u = tt
-  until-on chain place (Some index) c u = record { next = u.next; at = u.at; ordered = a.to place u.next (c.below index u.next u.at) u.ordered }
+  until-on : (chain steps : List ℕ) (until : Option ℕ) → IsChain m j chain → MayBeUntil m chain steps until → MayBeUntil n chain steps until
+  until-on chain steps None c u = tt
+  until-on chain steps (Some index) c u = record { next = u.next; at = u.at; ordered = λ i h. a.to i u.next (c.below index u.next u.at) (u.ordered i h) }
 
-  loose-on : (chain : List ℕ) (l : Loose) → IsChain m j chain → IsLoose m j chain l → IsLoose n j chain l
-  loose-on chain l c x = record {
-    below = x.below;
+  strand-on : (chain : List ℕ) (s : Strand) → IsChain m j chain → IsStrand m j chain s → IsStrand n j chain s
+  strand-on chain s c x = record {
+    steps = chain-on (places s) x.steps;
     high = x.high;
-    above = λ k b low at. a.to b l.place x.below (x.above k b low at);
-    low = until-on chain l.place l.until c x.low;
+    above = λ k b low at. a.to b s.first (x.steps.below 0 s.first refl) (x.above k b low at);
+    low = until-on chain (places s) s.until c x.low;
   }
 
-  each-loose : (chain : List ℕ) (ls : List Loose) → IsChain m j chain → Each (IsLoose m j chain) ls → Each (IsLoose n j chain) ls
-  each-loose chain [] c e = tt
-  each-loose chain (l ∷ ls) c e = (loose-on chain l c e.0, each-loose chain ls c e.1)
+  each-strand : (chain : List ℕ) (ss : List Strand) → IsChain m j chain → Each (IsStrand m j chain) ss → Each (IsStrand n j chain) ss
+  each-strand chain [] c e = tt
+  each-strand chain (s ∷ ss) c e = (strand-on chain s c e.0, each-strand chain ss c e.1)
 
   each-block : (chain : List ℕ) (bs : List Block) → IsChain m j chain → Each (IsBlock m j chain) bs → Each (IsBlock n j chain) bs
   each-block chain [] c e = tt
-  each-block chain (b ∷ bs) c e = (record { bounded = e.0.bounded; loose = each-loose chain b.steps.items c e.0.loose }, each-block chain bs c e.1)
+  each-block chain (b ∷ bs) c e = (record { bounded = e.0.bounded; strands = each-strand chain b.strands.items c e.0.strands }, each-block chain bs c e.1)
 
   each-track : (ts : List Track) → Each (IsTrack m j) ts → Each (IsTrack n j) ts
   each-track [] e = tt

@@ -1,5 +1,5 @@
 -- Blocks that are passed over at once.
-use Rattle.std.proofs.Common.{◌≡◌, ℕ, zero, suc, ◌+◌, ◌-◌, ◌<◌, ◌≤◌, List, [], ◌∷◌, ◌++◌, length, take, drop, refl, sym, ◌∙◌, subst, arith, ◌⊎◌, inl, inr, Some, None, Option}
+use Rattle.std.proofs.Common.{◌≡◌, ℕ, zero, suc, ◌+◌, ◌-◌, ◌<◌, ◌≤◌, List, [], ◌∷◌, ◌++◌, length, take, drop, refl, sym, ap, ◌∙◌, subst, arith, ◌⊎◌, inl, inr, Some, None, Option}
 use Rattle.std.specs.Prelude.{slice_index_or, slice_set, Vec}
 use Rattle.std.specs.Vec.{with_items}
 use Rattle.std.specs.declared.alloc.Global.{Global}
@@ -9,9 +9,10 @@ use Rattle.cell_machine.specs.Run.{Ran}
 use Rattle.settled.specs.Lists.{Each, AreChanged}
 use Rattle.settled.proofs.Changes.{changed-long}
 use Rattle.settled.proofs.Entries.{each-on}
-use Rattle.reorder.specs.Tracks.{IsBeside, IsBlockClosed, IsBlockFound, IsBounded, IsFound, IsNotAbove, IsPast, IsSpanned, IsWithinBounds}
+use Rattle.reorder.specs.Lists.{IsOneChanged}
+use Rattle.reorder.specs.Tracks.{IsBeside, IsBlockClosed, IsBlockFound, IsBlockLonger, IsBounded, IsFound, IsNotAbove, IsPast, IsSpanned, IsWithinBounds}
 use Rattle.reorder.specs.declared.block.Block.{Block}
-use Rattle.reorder.specs.declared.block.Loose.{Loose}
+use Rattle.reorder.specs.declared.strand.Strand.{Strand}
 use Rattle.reorder.specs.declared.past.Past.{Past}
 use Rattle.reorder.proofs.Bounds.{none-closed}
 use Rattle.reorder.proofs.Ones.{each-two}
@@ -69,8 +70,8 @@ span-beside low top from end (Some high) (Some until) l h u beside =
 
 none-found : (m : Ran) (j end : ℕ) (needs : List ℕ) (p : Past) (b : Block) → (IsBeside p.low (Some p.high) end → ⊥) → IsSpanned p b → IsBounded b → IsBlockFound m j end needs b
 none-found m j end needs p b apart spanned bounded =
-    each-on (IsWithinBounds b.low b.high) (IsFound m j end needs) b.steps.items
-    (λ (l : Loose) within beside o. absurd (apart (span-beside p.low p.high l.from end b.high l.until (let low : p.low ≤ b.low = spanned.low in let from : b.low ≤ l.from = within.low in omega arith) spanned.high within.high beside)))
+    each-on (IsWithinBounds b.low b.high) (IsFound m j end needs) b.strands.items
+    (λ (l : Strand) within beside i h o. absurd (apart (span-beside p.low p.high l.from end b.high l.until (let low : p.low ≤ b.low = spanned.low in let from : b.low ≤ l.from = within.low in omega arith) spanned.high within.high beside)))
     bounded
 
 each-none : (m : Ran) (j end : ℕ) (needs : List ℕ) (p : Past) (bs : List Block) → (IsBeside p.low (Some p.high) end → ⊥) → Each (IsSpanned p) bs → Each IsBounded bs → Each (IsBlockFound m j end needs) bs
@@ -120,6 +121,32 @@ past-set p bs k n last past =
       within = subst (λ n. p.blocks ≤ n - 1) (sym (length-set bs k n)) within;
       each = subst (Each (IsSpanned p)) (sym (take-set-le p.blocks bs k n (omega arith))) past.each;
     }
+
+-- ---- with another entry
+
+first-set : {X : Type 0} (P : X → Type 0) (n : ℕ) (xs : List X) (k : ℕ) (y : X) → (P (slice_index_or xs k y) → P y) → Each P (take n xs) → Each P (take n (slice_set xs k y))
+first-set P zero xs k y go h = tt
+first-set P (suc n) [] k y go h = tt
+first-set P (suc n) (x ∷ xs) zero y go h = (go h.0, h.1)
+first-set P (suc n) (x ∷ xs) (suc k) y go h = (h.0, first-set P n xs k y go h.1)
+
+pub past-longer : (m : Ran) (j : ℕ) (p : Past) (bs ns : List Block) → IsOneChanged (IsBlockLonger m j) bs ns → IsPast p bs → IsPast p ns
+past-longer m j p bs ns one past =
+    subst (IsPast p) (sym one.is)
+    (record {
+      within = subst (λ n. p.blocks ≤ n - 1) (sym (length-set bs one.index one.entry)) past.within;
+      each = first-set (IsSpanned p) p.blocks bs one.index one.entry spanned past.each;
+    })
+  where
+    b : Block
+    b = slice_index_or bs one.index one.entry
+
+    spanned : IsSpanned p b → IsSpanned p one.entry
+    spanned s =
+        record {
+          low = subst (λ l. p.low ≤ l) (sym (ap (λ (x : Block). x.low) one.changed.rest)) s.low;
+          high = subst (IsNotAbove (Some p.high)) (sym (ap (λ (x : Block). x.high) one.changed.rest)) s.high;
+        }
 
 pub past-push : (p : Past) (bs : List Block) (n : Block) → IsPast p bs → IsPast p (bs ++ n ∷ [])
 past-push p bs n past =

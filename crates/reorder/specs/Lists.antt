@@ -1,5 +1,5 @@
 -- Lists of numbers.
-use Rattle.std.specs.Prelude.{ℕ, zero, suc, ◌<◌, ◌⊎◌, List, [], ◌∷◌, Vec}
+use Rattle.std.specs.Prelude.{◌≡◌, ℕ, zero, suc, ◌<◌, ◌⊎◌, List, [], ◌∷◌, Vec, length, slice_index_or, slice_set}
 use Rattle.std.specs.declared.alloc.Global.{Global}
 use Rattle.settled.specs.Lists.{IsIn}
 
@@ -18,3 +18,16 @@ list_at (v ∷ vs) (suc i) = list_at vs i
 abbrev pub One : {X : Type 0} → (X → Type 0) → List X → Type 0
 One P [] = ⊥
 One P (x ∷ xs) = P x ⊎ One P xs
+
+-- there is an entry at the index, and P holds of it
+pub record HasAt {X : Type 0} (P : X → Type 0) (xs : List X) (index : ℕ) : Type 0 where
+  pub within : index < length xs
+  pub holds : (d : X) → P (slice_index_or xs index d)
+
+-- in place of one entry there is another, to which it became so
+pub record IsOneChanged {X : Type 0} (R : X → X → Type 0) (xs ys : List X) : Type 0 where
+  pub index : ℕ
+  pub entry : X
+  pub within : index < length xs
+  pub changed : R (slice_index_or xs index entry) entry
+  pub is : ys ≡ slice_set xs index entry

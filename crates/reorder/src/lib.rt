@@ -5,12 +5,15 @@
 #![tactic(auto)]
 
 mod block;
+mod chain;
 mod choosing;
+mod hints;
 mod laws;
 mod needs;
 mod order;
 mod past;
 mod permuting;
+mod strand;
 mod track;
 mod tracks;
 mod waiting;

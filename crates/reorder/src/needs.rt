@@ -6,8 +6,9 @@ ghost use Rattle.run_permute.specs.Places.{until};
 ghost use Rattle.run_walk.specs.Walks.{IsLast, walked};
 ghost use Rattle.reorder.specs.Gathered.{Gathers};
 
+use crate::hints::Hints;
 use crate::track::Track;
-use crate::tracks::{add, gather, no_tracks};
+use crate::tracks::{add, gather, no_tracks, track_of};
 use cell_base::Step;
 use run_walk::Walk;
 use std::alloc::{AllocError, Global};
@@ -20,6 +21,7 @@ pub struct Needs {
     spes: u8,
     // the steps so far, by which those that a step needs are found
     tracks: Vec<Track>,
+    hints: Hints,
     pub(crate) needs: Vec<Vec<u32>>,
 }
 
@@ -29,11 +31,13 @@ impl Needs {
         ensures { IfOk result (λ needs. (setup : Opening) → length setup.entries ≡ spes → Gathers (record { setup = setup; steps = [] }) needs) }
     {
         let tracks = no_tracks(alloc, spes)?;
+        let hints = Hints::new(alloc)?;
         let needs = Vec::with_capacity(alloc, room)?;
         Ok(Needs {
             alloc,
             spes,
             tracks,
+            hints,
             needs,
         })
     }
@@ -48,10 +52,11 @@ impl Needs {
         ensures failed { OnErr result (self.new.needs.items ≡ self.old.needs.items) }
     {
         let _steps = walk.machine().steps(); // which are a run, as its contract says
-        let needs = gather(self.alloc, &self.tracks, walk)?;
+        let own = track_of(step, self.spes);
+        let found = gather(self.alloc, &self.tracks, walk, step, own, &mut self.hints)?;
         let tracks = self.tracks.as_mut_slice();
-        add(self.alloc, tracks, walk, place, step, self.spes)?;
-        self.needs.push(needs)?;
+        add(self.alloc, tracks, walk, place, step, own, found.spot)?;
+        self.needs.push(found.needs)?;
         Ok(())
     }
 }

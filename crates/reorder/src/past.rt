@@ -4,7 +4,8 @@ ghost use Rattle.std.specs.Prelude.{◌≡◌, ◌+◌, ◌<◌, ◌≤◌, IfSo
 ghost use Rattle.reorder.specs.Tracks.{IsBeside, IsPast};
 ghost use Rattle.reorder.specs.declared.block.Block.{Block};
 
-use crate::block::{Block, is_beside};
+use crate::block::Block;
+use crate::strand::is_beside;
 
 /// So many blocks at the front, each of which has a `high`: none of their lows is below `low`, none of the highs above `high`. The last
 /// block isn't among them, since it takes further steps. So a step looks at few blocks, however long the run is.

@@ -1,18 +1,21 @@
 //! The steps of an actor so far, and which of them are ordered before the last step of the walk.
 
-ghost use Rattle.std.specs.Prelude.{◌≡◌, ℕ, ◌+◌, ◌-◌, ◌<◌, ◌≤◌, ◌⊎◌, ◌↔◌, IfOk, IsTrue, length, slice_index};
+ghost use Rattle.std.specs.Prelude.{◌≡◌, ℕ, ◌+◌, ◌<◌, ◌≤◌, ◌⊎◌, IfOk, IsTrue, length};
 ghost use Rattle.run_frames.specs.OrderedLaws.{IsOrdered};
 ghost use Rattle.settled.specs.Lists.{IsIn, Each, AreChanged};
 ghost use Rattle.settled.specs.Walks.{Here, IsAt};
-ghost use Rattle.reorder.specs.Tracks.{CoversTrack, IsBelow, IsBlockClosed, IsBlockFound, IsBounded, IsChain, IsEnd, IsOn, IsPut, IsTrack};
+ghost use Rattle.reorder.specs.Lists.{HasAt, IsOneChanged};
+ghost use Rattle.reorder.specs.Tracks.{AreChains, CoversTrack, IsBlockClosed, IsBlockFound, IsBlockLonger, IsBounded, IsEnd, IsOn, IsOpenAt, IsPut, IsTrack};
 
-use crate::block::{Block, Loose};
+use crate::block::Block;
+use crate::chain::{end_of, gather_chain};
 use crate::past::Past;
+use crate::strand::Strand;
 use run_walk::Walk;
-use settled::is_before;
 use std::alloc::{AllocError, Global};
 
-/// The steps of an actor so far: a chain, each ordered before the next, and the others in blocks, of which the first are past.
+/// The steps of an actor so far: a chain, each ordered before the next, and the others in strands, which stand in blocks, of which the
+/// first are past.
 #[derive(Drop)]
 pub struct Track {
     chain: Vec<u32>,
@@ -20,123 +23,60 @@ pub struct Track {
     past: Past,
 }
 
-/// Whether the step at the index, if there is one, isn't ordered before the last step.
-fn is_above(chain: &[u32], walk: &Walk, index: usize) -> bool
-    ghost here: { Here }
-    requires at { IsAt walk.now here.run (here.place + 1) }
-    requires chain { IsChain here.run here.place chain.now }
-    ensures { IsTrue result → index < length chain.now → IsOrdered here.run (slice_index chain.now index) here.place → ⊥ }
-{
-    if index >= chain.len() {
-        return true;
-    }
-    !is_before(walk, chain[index])
+/// Where a strand stands: the numbers of its block, and of the strand in that.
+#[derive(Clone, Copy)]
+pub struct At {
+    block: usize,
+    strand: usize,
 }
 
-/// Whether the step before the index, if there is one, is ordered before the last step.
-fn is_below(chain: &[u32], walk: &Walk, index: usize) -> bool
-    ghost here: { Here }
-    requires at { IsAt walk.now here.run (here.place + 1) }
-    requires chain { IsChain here.run here.place chain.now }
-    requires within { index ≤ length chain.now }
-    ensures { IsTrue result → 0 < index → IsOrdered here.run (slice_index chain.now (index - 1)) here.place }
-{
-    if index == 0 {
-        return true;
-    }
-    is_before(walk, chain[index - 1])
+/// What was found on a track: how many of its chain are ordered before a step, and a strand of which all are. Both only say where to look
+/// first.
+#[derive(Clone, Copy)]
+pub struct Spot {
+    pub end: usize,
+    at: Option<At>,
 }
 
-/// Whether the steps of a chain below this index, and no others, are ordered before the last step.
-fn is_end(chain: &[u32], walk: &Walk, index: usize) -> bool
-    ghost here: { Here }
-    requires at { IsAt walk.now here.run (here.place + 1) }
-    requires chain { IsChain here.run here.place chain.now }
-    requires within { index ≤ length chain.now }
-    ensures { IsTrue result → IsEnd here.run here.place chain.now index }
-{
-    is_above(chain, walk, index) && is_below(chain, walk, index)
+impl Spot {
+    /// Where nothing was found.
+    pub fn none() -> Spot {
+        Spot { end: 0, at: None }
+    }
 }
 
-/// How many of the steps of a chain are ordered before the last step, found by halves.
-fn search_end(chain: &[u32], walk: &Walk) -> usize
-    ghost here: { Here }
-    requires at { IsAt walk.now here.run (here.place + 1) }
-    requires chain { IsChain here.run here.place chain.now }
-    ensures { IsEnd here.run here.place chain.now result }
-{
-    let mut low = 0;
-    let mut high = chain.len();
-    while low < high {
-        let middle = low + (high - low) / 2;
-        if is_before(walk, chain[middle]) {
-            low = middle + 1;
-        } else {
-            high = middle;
-        }
-    }
-    low
-}
-
-/// How many of the steps of a chain are ordered before the last step. Mostly they are none, as those of other actors, or all.
-fn end_of(chain: &[u32], walk: &Walk) -> usize
-    ghost here: { Here }
-    requires at { IsAt walk.now here.run (here.place + 1) }
-    requires chain { IsChain here.run here.place chain.now }
-    ensures { IsEnd here.run here.place chain.now result }
-{
-    if is_end(chain, walk, 0) {
-        return 0;
-    }
-    if is_end(chain, walk, chain.len()) {
-        return chain.len();
-    }
-    search_end(chain, walk)
-}
-
-/// Adds the last step of a chain that is ordered before the last step of the walk, and answers how many are.
-fn gather_chain(chain: &[u32], walk: &Walk, needs: &mut Vec<u32>) -> Result<usize, AllocError>
-    ghost here: { Here }
-    requires at { IsAt walk.now here.run (here.place + 1) }
-    requires chain { IsChain here.run here.place chain.now }
-    ensures kept { IfOk result (λ _. (k : ℕ) → IsIn k needs.old.items → IsIn k needs.new.items) }
-    ensures sound { IfOk result (λ _. (k : ℕ) → IsIn k needs.new.items → IsIn k needs.old.items ⊎ IsOrdered here.run k here.place) }
-    ensures end { IfOk result (IsEnd here.run here.place chain.now) }
-    ensures last { IfOk result (λ end. 0 < end → IsIn (slice_index chain.now (end - 1)) needs.new.items) }
-{
-    let end = end_of(chain, walk);
-    if end > 0 {
-        needs.push(chain[end - 1])?;
-    }
-    Ok(end)
-}
-
-/// Adds the loose steps of the blocks that are ordered before the last step, and not before one of the chain's steps below the end.
+/// Adds of each strand of the blocks the last step that is ordered before the last one, but for those before one of the chain's steps below
+/// the end. Answers the last strand of which all steps are found to be so; the first block has this number.
 fn gather_blocks(
     blocks: &[Block],
     walk: &Walk,
     end: usize,
+    first: usize,
     needs: &mut Vec<u32>,
-) -> Result<(), AllocError>
+) -> Result<Option<At>, AllocError>
     ghost here: { Here }
     requires at { IsAt walk.now here.run (here.place + 1) }
-    requires below { Each (IsBelow here.place) blocks.now }
+    requires chains { Each (AreChains here.run here.place) blocks.now }
     requires bounded { Each IsBounded blocks.now }
     ensures kept { IfOk result (λ _. (k : ℕ) → IsIn k needs.old.items → IsIn k needs.new.items) }
     ensures sound { IfOk result (λ _. (k : ℕ) → IsIn k needs.new.items → IsIn k needs.old.items ⊎ IsOrdered here.run k here.place) }
     ensures found { IfOk result (λ _. Each (IsBlockFound here.run here.place end needs.new.items) blocks.now) }
 {
-    for block in blocks {
-        block.gather(walk, end, needs)?;
+    let mut at = None;
+    for k in 0..blocks.len() {
+        if let Some(strand) = blocks[k].gather(walk, end, needs)? {
+            let block = first.saturating_add(k);
+            at = Some(At { block, strand });
+        }
     }
-    Ok(())
+    Ok(at)
 }
 
-/// Closes all of the loose steps that can be, of which there are none in the first blocks that are past.
+/// Closes all of the strands that can be, of which there are none in the first blocks that are past.
 fn close_blocks(blocks: &mut [Block], walk: &Walk, index: u32, past: usize)
     ghost here: { Here }
     requires at { IsAt walk.now here.run (here.place + 1) }
-    requires below { Each (IsBelow here.place) blocks.old }
+    requires chains { Each (AreChains here.run here.place) blocks.old }
     requires bounded { Each IsBounded blocks.old }
     requires past { past ≤ length blocks.old }
     ensures { AreChanged (IsBlockClosed here.run here.place index) (length blocks.old) blocks.old blocks.new }
@@ -156,27 +96,49 @@ fn has_room(blocks: &[Block]) -> bool
     }
 }
 
-/// Adds a loose step to the last block.
-fn put_last(blocks: &mut [Block], loose: Loose) -> Result<(), AllocError>
+/// Adds a strand to the last block.
+fn put_last(blocks: &mut [Block], strand: Strand) -> Result<(), AllocError>
     requires { 0 < length blocks.old }
     ensures long { length blocks.new ≡ length blocks.old }
-    ensures put { IfOk result (λ _. IsPut loose blocks.old blocks.new) }
+    ensures put { IfOk result (λ _. IsPut strand blocks.old blocks.new) }
 {
     let last = blocks.len() - 1;
-    blocks[last].push(loose)?;
+    blocks[last].push(strand)?;
     Ok(())
 }
 
-/// Adds a loose step to the last block, or to a new one where that has no room.
-fn put_loose(alloc: Global, blocks: &mut Vec<Block>, loose: Loose) -> Result<(), AllocError>
-    ensures { IfOk result (λ _. IsPut loose blocks.old.items blocks.new.items) }
+/// Adds a strand to the last block, or to a new one where that has no room.
+fn put_strand(alloc: Global, blocks: &mut Vec<Block>, strand: Strand) -> Result<(), AllocError>
+    ensures { IfOk result (λ _. IsPut strand blocks.old.items blocks.new.items) }
 {
     if has_room(blocks) {
-        put_last(blocks.as_mut_slice(), loose)?;
+        put_last(blocks.as_mut_slice(), strand)?;
         return Ok(());
     }
-    let block = Block::of(alloc, loose)?;
+    let block = Block::of(alloc, strand)?;
     blocks.push(block)?;
+    Ok(())
+}
+
+/// Whether a strand stands there to which the last step of the walk may be added.
+fn may_extend(blocks: &[Block], at: At, walk: &Walk) -> bool
+    ghost here: { Here }
+    requires at { IsAt walk.now here.run (here.place + 1) }
+    requires chains { Each (AreChains here.run here.place) blocks.now }
+    ensures { IsTrue result → HasAt (IsOpenAt here.run here.place at.strand) blocks.now at.block }
+{
+    at.block < blocks.len() && blocks[at.block].may_extend(at.strand, walk)
+}
+
+/// Adds the last step of the walk to the strand that stands there.
+fn extend_at(blocks: &mut [Block], at: At, place: u32) -> Result<(), AllocError>
+    ghost here: { Here }
+    requires place { place ≡ here.place }
+    requires may { HasAt (IsOpenAt here.run here.place at.strand) blocks.old at.block }
+    ensures long { length blocks.new ≡ length blocks.old }
+    ensures longer { IfOk result (λ _. IsOneChanged (IsBlockLonger here.run here.place) blocks.old blocks.new) }
+{
+    blocks[at.block].extend(at.strand, place)?;
     Ok(())
 }
 
@@ -192,8 +154,9 @@ impl Track {
         }
     }
 
-    /// Adds steps that are ordered before the last step and cover each of the track that is.
-    pub fn gather(&self, walk: &Walk, needs: &mut Vec<u32>) -> Result<(), AllocError>
+    /// Adds steps that are ordered before the last step and cover each of the track that is. How many of the chain are so is looked for at the
+    /// hint first.
+    pub fn gather(&self, walk: &Walk, hint: usize, needs: &mut Vec<u32>) -> Result<Spot, AllocError>
         ghost here: { Here }
         requires at { IsAt walk.now here.run (here.place + 1) }
         requires track { IsTrack here.run here.place self.now }
@@ -201,10 +164,10 @@ impl Track {
         ensures sound { IfOk result (λ _. (k : ℕ) → IsIn k needs.new.items → IsIn k needs.old.items ⊎ IsOrdered here.run k here.place) }
         ensures covers { IfOk result (λ _. CoversTrack here.run here.place self.now needs.new.items) }
     {
-        let end = gather_chain(&self.chain, walk, needs)?;
+        let end = gather_chain(&self.chain, walk, hint, needs)?;
         let passed = self.past.passed(end);
-        gather_blocks(&self.blocks[passed..], walk, end, needs)?;
-        Ok(())
+        let at = gather_blocks(&self.blocks[passed..], walk, end, passed, needs)?;
+        Ok(Spot { end, at })
     }
 
     /// Adds the last step to the chain, all of which is ordered before it.
@@ -225,9 +188,17 @@ impl Track {
         Ok(())
     }
 
-    /// Adds the last step to the loose ones, where so many of the chain are ordered before it.
-    fn loosen(&mut self, alloc: Global, place: u32, end: usize) -> Result<(), AllocError>
+    /// Adds the last step to a strand, that which stands there or a new one, where so many of the chain are ordered before it.
+    fn loosen(
+        &mut self,
+        alloc: Global,
+        walk: &Walk,
+        place: u32,
+        end: usize,
+        at: Option<At>,
+    ) -> Result<(), AllocError>
         ghost here: { Here }
+        requires at { IsAt walk.now here.run (here.place + 1) }
         requires place { place ≡ here.place }
         requires track { IsTrack here.run here.place self.old }
         requires end { IsEnd here.run here.place self.old.chain.items end }
@@ -235,18 +206,26 @@ impl Track {
         ensures kept { IfOk result (λ _. (i : ℕ) → IsOn self.old i → IsOn self.new i) }
         ensures added { IfOk result (λ _. IsOn self.new place) }
     {
-        let loose = Loose::new(place, end as u32);
-        put_loose(alloc, &mut self.blocks, loose)?;
+        if let Some(at) = at {
+            if may_extend(&self.blocks, at, walk) {
+                extend_at(self.blocks.as_mut_slice(), at, place)?;
+                return Ok(());
+            }
+        }
+        let strand = Strand::new(alloc, place, end as u32);
+        put_strand(alloc, &mut self.blocks, strand)?;
         Ok(())
     }
 
-    /// Adds the last step: to the chain, where it `links` and all of the chain is ordered before it, else to the loose ones.
+    /// Adds the last step, for which this was found on the track: to the chain, where it `links` and all of the chain is ordered before it, else
+    /// to a strand.
     pub fn add(
         &mut self,
         alloc: Global,
         walk: &Walk,
         place: u32,
         links: bool,
+        spot: Spot,
     ) -> Result<(), AllocError>
         ghost here: { Here }
         requires at { IsAt walk.now here.run (here.place + 1) }
@@ -256,10 +235,10 @@ impl Track {
         ensures kept { IfOk result (λ _. (i : ℕ) → IsOn self.old i → IsOn self.new i) }
         ensures added { IfOk result (λ _. IsOn self.new place) }
     {
-        let end = end_of(&self.chain, walk);
+        let end = end_of(&self.chain, walk, spot.end);
         if links && end == self.chain.len() {
             return self.link(walk, place);
         }
-        self.loosen(alloc, place, end)
+        self.loosen(alloc, walk, place, end, spot.at)
     }
 }

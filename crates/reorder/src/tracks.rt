@@ -7,13 +7,14 @@ ghost use Rattle.reorder.specs.Needs.{AreNeedsOf};
 ghost use Rattle.settled.specs.Walks.{Here, IsAt};
 ghost use Rattle.reorder.specs.Tracks.{AreTracks};
 
-use crate::track::Track;
+use crate::hints::Hints;
+use crate::track::{Spot, Track};
 use cell_base::Step;
 use run_walk::Walk;
 use std::alloc::{AllocError, Global};
 
 /// The number of the track to which a step goes.
-fn track_of(step: Step, spes: u8) -> usize
+pub fn track_of(step: Step, spes: u8) -> usize
     requires { IsWithin spes step }
     ensures { result ≤ spes }
 {
@@ -52,39 +53,58 @@ pub fn no_tracks(alloc: Global, spes: u8) -> Result<Vec<Track>, AllocError>
     Ok(tracks)
 }
 
-/// What the last step of the walk needs.
-pub fn gather(alloc: Global, tracks: &[Track], walk: &Walk) -> Result<Vec<u32>, AllocError>
+/// What a step needs, and what was found for it on its own track.
+#[derive(Drop)]
+pub struct Found {
+    pub needs: Vec<u32>,
+    pub spot: Spot,
+}
+
+/// What the last step of the walk needs, which goes to the track of this number.
+pub fn gather(
+    alloc: Global,
+    tracks: &[Track],
+    walk: &Walk,
+    step: Step,
+    own: usize,
+    hints: &mut Hints,
+) -> Result<Found, AllocError>
     ghost here: { Here }
     requires at { IsAt walk.now here.run (here.place + 1) }
     requires tracks { AreTracks here.run here.place tracks.now }
-    ensures { IfOk result (λ needs. AreNeedsOf (IsOrdered here.run) here.place needs.items) }
+    ensures { IfOk result (λ found. AreNeedsOf (IsOrdered here.run) here.place found.needs.items) }
 {
     let mut needs = Vec::new(alloc);
-    for track in tracks {
-        track.gather(walk, &mut needs)?;
+    let mut spot = Spot::none();
+    for k in 0..tracks.len() {
+        let hint = hints.of(step, own, k);
+        let found = tracks[k].gather(walk, hint, &mut needs)?;
+        hints.keep(step, own, k, found.end);
+        if k == own {
+            spot = found;
+        }
     }
-    Ok(needs)
+    Ok(Found { needs, spot })
 }
 
-/// Adds the last step of the walk to its track.
+/// Adds the last step of the walk to its track, which has this number, and on which this was found for it.
 pub fn add(
     alloc: Global,
     tracks: &mut [Track],
     walk: &Walk,
     place: u32,
     step: Step,
-    spes: u8,
+    own: usize,
+    spot: Spot,
 ) -> Result<(), AllocError>
     ghost here: { Here }
     requires at { IsAt walk.now here.run (here.place + 1) }
     requires place { place ≡ here.place }
-    requires within { IsWithin spes step }
-    requires long { length tracks.old ≡ spes + 1 }
+    requires own { own < length tracks.old }
     requires tracks { AreTracks here.run here.place tracks.old }
     ensures long { length tracks.new ≡ length tracks.old }
     ensures tracks { IfOk result (λ _. AreTracks here.run (here.place + 1) tracks.new) }
 {
-    let own = track_of(step, spes);
-    tracks[own].add(alloc, walk, place, links(step))?;
+    tracks[own].add(alloc, walk, place, links(step), spot)?;
     Ok(())
 }

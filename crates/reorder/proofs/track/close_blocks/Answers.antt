@@ -1,7 +1,7 @@
 use Rattle.std.proofs.Common.{◌≡◌, suc, ◌+◌, sym, subst, arith}
 use Rattle.std.specs.Prelude.{slice_set}
 use Rattle.settled.specs.Lists.{AreChanged}
-use Rattle.reorder.specs.Tracks.{IsBelow, IsBlockClosed, IsBounded}
+use Rattle.reorder.specs.Tracks.{AreChains, IsBlockClosed, IsBounded}
 use Rattle.reorder.specs.declared.block.Block.{Block}
 use Rattle.settled.proofs.Entries.{each-at}
 use Rattle.settled.proofs.Changes.{changed-at, changed-more}
@@ -13,7 +13,7 @@ close-requires g c =
     let d = c.index-blocks-k.result in
     let blocks = c.args.blocks.now in
     let same = changed-at (IsBlockClosed g.here.run g.here.place c.args.index) c.loop-k.k blocks c.loop-k.blocks d c.loop-k.invariant in
-    (c.requires.0, (subst (IsBelow g.here.place) (sym same) (each-at (IsBelow g.here.place) blocks c.loop-k.k d c.requires.1.0 c.loop-k-test.true), subst IsBounded (sym same) (each-at IsBounded blocks c.loop-k.k d c.requires.1.1.0 c.loop-k-test.true)))
+    (c.requires.0, (subst (AreChains g.here.run g.here.place) (sym same) (each-at (AreChains g.here.run g.here.place) blocks c.loop-k.k d c.requires.1.0 c.loop-k-test.true), subst IsBounded (sym same) (each-at IsBounded blocks c.loop-k.k d c.requires.1.1.0 c.loop-k-test.true)))
 
 pub loop-k-init : goal.loop-k-init
 loop-k-init g c = front-closed g.here.run g.here.place c.args.index c.args.past c.args.blocks.now c.requires.1.1.0

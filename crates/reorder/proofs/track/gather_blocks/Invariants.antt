@@ -9,10 +9,10 @@ use Rattle.reorder.proofs.track.gather_blocks.Given as goal
 abbrev pub ghost-gather : goal.ghost-gather
 ghost-gather g a = g.here
 
-abbrev pub invariant-loop-block : goal.invariant-loop-block
-invariant-loop-block g l =
+abbrev pub invariant-loop-k : goal.invariant-loop-k
+invariant-loop-k g l =
     record {
       kept : (k : ℕ) → IsIn k l.initial.needs.items → IsIn k l.needs.items;
       sound : (k : ℕ) → IsIn k l.needs.items → IsIn k l.initial.needs.items ⊎ IsOrdered g.here.run k g.here.place;
-      found : (k : ℕ) (d : Block) → k < l.block-index → IsBlockFound g.here.run g.here.place l.end l.needs.items (slice_index_or l.blocks k d);
+      found : (k : ℕ) (d : Block) → k < l.k → IsBlockFound g.here.run g.here.place l.end l.needs.items (slice_index_or l.blocks k d);
     }

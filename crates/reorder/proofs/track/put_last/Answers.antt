@@ -13,4 +13,4 @@ returns-clause-put c =
     let some : 0 < length blocks = c.requires in
     let low : last < length blocks = omega (arith, some) in
     let was = get_or_default blocks last c.index-blocks-last.result new low in
-    put-at blocks last c.args.loose new low (omega arith) (subst (λ (b : Block). new.steps.items ≡ b.steps.items ++ c.args.loose ∷ []) was c.in_ok-push.ensures.steps) (subst (λ (b : Block). IsBounded b → IsBounded new) was c.in_ok-push.ensures.bounded)
+    put-at blocks last c.args.strand new low (omega arith) (subst (λ (b : Block). new.strands.items ≡ b.strands.items ++ c.args.strand ∷ []) was c.in_ok-push.ensures.strands) (subst (λ (b : Block). IsBounded b → IsBounded new) was c.in_ok-push.ensures.bounded)

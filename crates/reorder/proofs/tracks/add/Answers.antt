@@ -1,4 +1,4 @@
-use Rattle.std.proofs.Common.{◌≡◌, ◌+◌, ◌<◌, ◌≤◌, length, sym, subst, arith}
+use Rattle.std.proofs.Common.{length, sym, subst}
 use Rattle.std.proofs.lemmas.List.{get_or_default}
 use Rattle.reorder.specs.Tracks.{IsOn}
 use Rattle.reorder.specs.declared.track.Track.{Track}
@@ -8,10 +8,8 @@ use Rattle.reorder.proofs.tracks.add.Goals as goal
 pub returns-clause-tracks : goal.returns-clause-tracks
 returns-clause-tracks g c =
     let tracks = c.args.tracks.now in
-    let own = c.track_of-own.result in
+    let own = c.args.own in
     let new = c.add.new.self in
-    let high : own ≤ c.args.spes = c.track_of-own.ensures in
-    let long : length tracks ≡ c.args.spes + 1 = c.requires.1.1.1.0 in
-    let low : own < length tracks = omega arith in
+    let low = c.requires.1.1.0 in
     let was = get_or_default tracks own c.index-tracks-own.result new low in
-    tracks-more g.here.run g.here.place tracks own new low c.requires.1.1.1.1 c.in_ok-add.ensures.track (λ i h. c.in_ok-add.ensures.kept i (subst (λ (t : Track). IsOn t i) (sym was) h)) (subst (IsOn new) c.requires.1.0 c.in_ok-add.ensures.added)
+    tracks-more g.here.run g.here.place tracks own new low c.requires.1.1.1 c.in_ok-add.ensures.track (λ i h. c.in_ok-add.ensures.kept i (subst (λ (t : Track). IsOn t i) (sym was) h)) (subst (IsOn new) c.requires.1.0 c.in_ok-add.ensures.added)

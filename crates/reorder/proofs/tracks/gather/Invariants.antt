@@ -9,9 +9,9 @@ use Rattle.reorder.proofs.tracks.gather.Given as goal
 abbrev pub ghost-gather : goal.ghost-gather
 ghost-gather g a = g.here
 
-abbrev pub invariant-loop-track : goal.invariant-loop-track
-invariant-loop-track g l =
+abbrev pub invariant-loop-k : goal.invariant-loop-k
+invariant-loop-k g l =
     record {
       sound : (k : ℕ) → IsIn k l.needs.items → IsOrdered g.here.run k g.here.place;
-      covers : (k : ℕ) (d : Track) → k < l.track-index → CoversTrack g.here.run g.here.place (slice_index_or l.tracks k d) l.needs.items;
+      covers : (k : ℕ) (d : Track) → k < l.k → CoversTrack g.here.run g.here.place (slice_index_or l.tracks k d) l.needs.items;
     }

@@ -3,7 +3,7 @@ use Rattle.std.specs.Vec.{with_items}
 use Rattle.cell_machine.proofs.AllTwo.{whole}
 use Rattle.settled.specs.Lists.{Each, AreChanged}
 use Rattle.reorder.specs.Tracks.{IsClosed, IsNotAbove, IsWithinBounds}
-use Rattle.reorder.specs.declared.block.Loose.{Loose}
+use Rattle.reorder.specs.declared.strand.Strand.{Strand}
 use Rattle.reorder.proofs.Bounds.{closed-bounded, none-closed}
 use Rattle.settled.proofs.Changes.{changed-long}
 use Rattle.reorder.proofs.block.Block.close.Goals as goal
@@ -13,15 +13,15 @@ returns-then-is_none g c =
     let m = g.here.run in
     let j = g.here.place in
     let old = c.args.self.now in
-    let ws = c.close_all.new.loose in
+    let ws = c.close_all.new.strands in
     let high = c.high_of-self.result in
     let R = IsClosed m j c.args.index in
-    let changed = subst (λ (ls : List Loose). AreChanged R (length ls) ls ws) c.as_mut_slice.ensures.value c.close_all.ensures in
-    let same : (with_items old.steps ws).items ≡ ws = whole old.steps.len ws old.steps.items (old.steps.ok.0 ∙ sym (changed-long R (length old.steps.items) old.steps.items ws changed)) in
-    let until = subst (Each (λ (l : Loose). IsNotAbove high l.until)) (c.deref.ensures.value ∙ same) c.high_of-self.ensures in
+    let changed = subst (λ (ls : List Strand). AreChanged R (length ls) ls ws) c.as_mut_slice.ensures.value c.close_all.ensures in
+    let same : (with_items old.strands ws).items ≡ ws = whole old.strands.len ws old.strands.items (old.strands.ok.0 ∙ sym (changed-long R (length old.strands.items) old.strands.items ws changed)) in
+    let until = subst (Each (λ (s : Strand). IsNotAbove high s.until)) (c.deref.ensures.value ∙ same) c.high_of-self.ensures in
     record {
-      steps = subst (AreChanged R (length old.steps.items) old.steps.items) (sym same) changed;
-      bounded = subst (Each (IsWithinBounds old.low high)) (sym same) (closed-bounded m j c.args.index old.low old.high high old.steps.items ws changed c.requires.1.1 until);
+      strands = subst (AreChanged R (length old.strands.items) old.strands.items) (sym same) changed;
+      bounded = subst (Each (IsWithinBounds old.low high)) (sym same) (closed-bounded m j c.args.index old.low old.high high old.strands.items ws changed c.requires.1.1 until);
       kept = inl (search rules);
     }
 

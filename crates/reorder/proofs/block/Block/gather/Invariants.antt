@@ -1,4 +1,4 @@
 use Rattle.reorder.proofs.block.Block.gather.Given as goal
 
-abbrev pub ghost-gather_loose : goal.ghost-gather_loose
-ghost-gather_loose g a = g.here
+abbrev pub ghost-gather_strands : goal.ghost-gather_strands
+ghost-gather_strands g a = g.here

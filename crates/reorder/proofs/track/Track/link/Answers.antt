@@ -1,10 +1,10 @@
 use Rattle.std.proofs.Common.{rules, ◌≡◌, ◌<◌, ◌≤◌, ◌^◌, ◌++◌, ◌∷◌, [], List, length, sym, ap, ◌∙◌, subst, arith}
 use Rattle.std.specs.Vec.{with_items}
 use Rattle.settled.specs.Lists.{Each, AreChanged}
-use Rattle.reorder.specs.Tracks.{IsBelow, IsBlockClosed, IsBounded, IsPast}
+use Rattle.reorder.specs.Tracks.{AreChains, IsBlockClosed, IsBounded, IsPast}
 use Rattle.reorder.specs.declared.block.Block.{Block}
 use Rattle.reorder.specs.declared.track.Track.{Track}
-use Rattle.reorder.proofs.Added.{blocks-below, blocks-bounded, track-linked, linked-on, linked-new}
+use Rattle.reorder.proofs.Added.{blocks-chains, blocks-bounded, track-linked, linked-on, linked-new}
 use Rattle.reorder.proofs.Passed.{closed-items, past-closed, past-few}
 use Rattle.reorder.proofs.Ends.{chain-long}
 use Rattle.reorder.proofs.track.Track.link.Goals as goal
@@ -24,7 +24,7 @@ close_blocks-requires g c =
     let j = g.here.place in
     let old = c.args.self.now in
     let bs = c.as_mut_slice.ensures.value in
-    (c.requires.0, (subst (Each (IsBelow j)) (sym bs) (blocks-below m j old c.requires.1.1.0), (subst (Each IsBounded) (sym bs) (blocks-bounded m j old c.requires.1.1.0), subst (λ (xs : List Block). old.past.blocks ≤ length xs) (sym bs) (past-few old.past old.blocks.items c.requires.1.1.0.past))))
+    (c.requires.0, (subst (Each (AreChains m j)) (sym bs) (blocks-chains m j old c.requires.1.1.0), (subst (Each IsBounded) (sym bs) (blocks-bounded m j old c.requires.1.1.0), subst (λ (xs : List Block). old.past.blocks ≤ length xs) (sym bs) (past-few old.past old.blocks.items c.requires.1.1.0.past))))
 
 pub advanced-self-requires : goal.advanced-self-requires
 advanced-self-requires g c =

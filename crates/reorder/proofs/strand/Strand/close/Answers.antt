@@ -1,0 +1,13 @@
+use Rattle.std.proofs.Common.{ℕ, ◌∷◌, [], get_or, length, refl, sym, subst, inr}
+use Rattle.run_frames.specs.OrderedLaws.{IsOrdered}
+use Rattle.reorder.specs.Tracks.{places}
+use Rattle.reorder.proofs.Entries.{at-in}
+use Rattle.reorder.proofs.strand.Strand.close.Goals as goal
+
+pub returns-then-is_behind : goal.returns-then-is_behind
+returns-then-is_behind g c =
+    let end = c.is_behind.ensures c.if-is_behind.true in
+    record {
+      rest = refl;
+      until = inr (refl, λ i h. (let r = at-in (places c.args.self.now) i h in end.before r.0 i r.1 r.2));
+    }

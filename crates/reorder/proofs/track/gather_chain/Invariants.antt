@@ -1,4 +1,0 @@
-use Rattle.reorder.proofs.track.gather_chain.Given as goal
-
-abbrev pub ghost-end_of : goal.ghost-end_of
-ghost-end_of g a = g.here
