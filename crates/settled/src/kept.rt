@@ -1,11 +1,12 @@
 //! A queued command, with those of its steps that aren't known to be ordered before an instruction of its processor.
 
-ghost use Rattle.std.specs.Prelude.{◌≡◌, ℕ, ◌+◌, ◌-◌, ◌<◌, ◌≤◌, ◌^◌, ◌==◌, [], OnOk, length, slice_index};
+ghost use Rattle.std.specs.Prelude.{◌≡◌, ℕ, ◌+◌, ◌-◌, ◌<◌, ◌≤◌, ◌^◌, ◌==◌, [], OnOk, false, length, slice_index};
 ghost use Rattle.cell_machine.specs.Transfers.{is_signal};
 ghost use Rattle.mfc_command.specs.Order.{is_list};
 ghost use Rattle.run_frames.specs.OrderedLaws.{IsOrdered};
-ghost use Rattle.race_order.specs.Status.{begun};
+ghost use Rattle.race_order.specs.Status.{after_ack, begun, stepped};
 ghost use Rattle.race_order.specs.Trace.{is_of};
+ghost use Rattle.race_order.specs.declared.progress.Progress.{Progress as Come};
 ghost use Rattle.settled.specs.Lists.{IsIn};
 ghost use Rattle.settled.specs.Walks.{Here, IsAt};
 ghost use Rattle.settled.specs.Watches.{IsSwept, IsTaken, is_closed, is_listed};
@@ -58,6 +59,31 @@ fn is_of(spe: u8, cmd: u32, step: Step) -> bool
     }
 }
 
+/// Whether an instruction that tells this may let a list go on.
+fn acknowledges(note: Note) -> bool
+    ensures { result ≡ false → (s : Come) → after_ack s note ≡ s }
+{
+    match note {
+        Note::Ack { .. } => true,
+        _ => false,
+    }
+}
+
+/// Whether a step that tells this may bear on the command `cmd` of `spe`: most bear on no other than their own.
+fn bears_on(spe: u8, cmd: u32, step: Step, note: Note) -> bool
+    ensures own { result ≡ false → is_of spe cmd step ≡ false }
+    ensures still { result ≡ false → (s : Come) → stepped spe cmd s step note ≡ s }
+{
+    match step {
+        Step::Exec { .. } => acknowledges(note),
+        Step::Piece { spe: q, cmd: d, .. } => q == spe && d == cmd,
+        Step::Elem { spe: q, cmd: d } => q == spe && d == cmd,
+        Step::Retire { spe: q, cmd: d } => q == spe && d == cmd,
+        Step::Atomic { .. } => false,
+        Step::Host => false,
+    }
+}
+
 pub fn is_list(kind: Kind) -> bool
     ensures { result ≡ is_list kind }
 {
@@ -105,6 +131,9 @@ impl Kept {
         requires { self.old.progress.read + 1 < 2 ^ 32 }
         ensures { OnOk result (IsTaken spe place step note self.old self.new) }
     {
+        if !bears_on(spe, self.cmd, step, note) {
+            return Ok(());
+        }
         if !self.progress.done {
             self.progress = step_on(spe, self.cmd, self.progress, step, note);
         }
