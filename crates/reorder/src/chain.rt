@@ -1,6 +1,6 @@
 //! Steps of which each is ordered before the next, and how many of them are ordered before the last step of the walk.
 
-ghost use Rattle.std.specs.Prelude.{◌≡◌, ℕ, ◌+◌, ◌-◌, ◌<◌, ◌≤◌, ◌⊎◌, ◌↔◌, IfOk, IsTrue, length, slice_index};
+ghost use Rattle.std.specs.Prelude.{ℕ, ◌+◌, ◌-◌, ◌<◌, ◌≤◌, ◌⊎◌, ◌↔◌, IfOk, IsTrue, length, slice_index};
 ghost use Rattle.run_frames.specs.OrderedLaws.{IsOrdered};
 ghost use Rattle.settled.specs.Lists.{IsIn};
 ghost use Rattle.settled.specs.Walks.{Here, IsAt};

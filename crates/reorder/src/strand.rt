@@ -1,10 +1,9 @@
 //! The steps of an actor that aren't on its chain, in strands.
 
-ghost use Rattle.std.specs.Prelude.{◌≡◌, ℕ, ◌+◌, ◌≤◌, ◌⊎◌, ◌↔◌, [], IfOk, IsTrue, None, length, slice_index};
+ghost use Rattle.std.specs.Prelude.{◌≡◌, ℕ, ◌+◌, ◌⊎◌, ◌↔◌, [], IfOk, IsTrue, None, length, slice_index};
 ghost use Rattle.run_frames.specs.OrderedLaws.{IsOrdered};
 ghost use Rattle.settled.specs.Lists.{IsIn};
 ghost use Rattle.settled.specs.Walks.{Here, IsAt};
-ghost use Rattle.reorder.specs.Needs.{IsCovered};
 ghost use Rattle.reorder.specs.Tracks.{AreCovered, IsBeside, IsChain, IsClosed, IsEnd, IsFound, IsLonger, IsOpen, places};
 
 use crate::chain::gather_chain;

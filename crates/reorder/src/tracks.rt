@@ -1,6 +1,6 @@
 //! The steps of all actors so far: a track for each processor, and one for the host.
 
-ghost use Rattle.std.specs.Prelude.{◌≡◌, ℕ, ◌+◌, ◌<◌, ◌≤◌, IfOk, length};
+ghost use Rattle.std.specs.Prelude.{◌≡◌, ◌+◌, ◌<◌, ◌≤◌, IfOk, length};
 ghost use Rattle.run_frames.specs.OrderedLaws.{IsOrdered};
 ghost use Rattle.race_order.specs.Orderly.{IsWithin};
 ghost use Rattle.reorder.specs.Needs.{AreNeedsOf};

@@ -1,7 +1,6 @@
 use Rattle.std.proofs.Common.{◌≤◌, length, sym, ◌∙◌, subst, arith}
 use Rattle.std.proofs.lemmas.List.{get_or_default}
 use Rattle.reorder.specs.Tracks.{AreChains, IsBlockFound, IsBounded, IsFound}
-use Rattle.reorder.specs.declared.block.Block.{Block}
 use Rattle.reorder.proofs.Added.{sound-more}
 use Rattle.settled.proofs.Entries.{each-at, each-on}
 use Rattle.reorder.proofs.Changes.{each-from}

@@ -1,4 +1,4 @@
-use Rattle.std.proofs.Common.{length, sym, subst}
+use Rattle.std.proofs.Common.{sym, subst}
 use Rattle.std.proofs.lemmas.List.{get_or_default}
 use Rattle.reorder.specs.Tracks.{IsOn}
 use Rattle.reorder.specs.declared.track.Track.{Track}

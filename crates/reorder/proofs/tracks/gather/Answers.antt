@@ -1,7 +1,6 @@
 use Rattle.std.proofs.Common.{◌≤◌, length, ◌∙◌, subst, arith}
 use Rattle.std.proofs.lemmas.List.{get_or_default}
-use Rattle.settled.proofs.Entries.{each-at}
-use Rattle.reorder.specs.Tracks.{CoversTrack, IsTrack}
+use Rattle.reorder.specs.Tracks.{CoversTrack}
 use Rattle.reorder.specs.declared.track.Track.{Track}
 use Rattle.reorder.proofs.Added.{sound-all, covers-next, needs-from}
 use Rattle.reorder.proofs.tracks.gather.Goals as goal

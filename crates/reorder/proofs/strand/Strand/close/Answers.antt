@@ -1,5 +1,4 @@
-use Rattle.std.proofs.Common.{ℕ, ◌∷◌, [], get_or, length, refl, sym, subst, inr}
-use Rattle.run_frames.specs.OrderedLaws.{IsOrdered}
+use Rattle.std.proofs.Common.{refl, inr}
 use Rattle.reorder.specs.Tracks.{places}
 use Rattle.reorder.proofs.Entries.{at-in}
 use Rattle.reorder.proofs.strand.Strand.close.Goals as goal

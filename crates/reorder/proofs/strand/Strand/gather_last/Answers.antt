@@ -1,9 +1,9 @@
-use Rattle.std.proofs.Common.{rules, ℕ, ◌≡◌, ◌-◌, ◌<◌, ◌⊎◌, ◌∷◌, ◌++◌, [], List, get_or, length, refl, sym, ap, ◌∙◌, subst, inl, inr}
+use Rattle.std.proofs.Common.{rules, ℕ, ◌-◌, ◌<◌, ◌∷◌, ◌++◌, [], List, get_or, refl, sym, ap, ◌∙◌, subst, inr}
 use Rattle.run_frames.specs.OrderedLaws.{IsOrdered}
 use Rattle.settled.specs.Lists.{IsIn}
-use Rattle.reorder.specs.Tracks.{AreCovered, IsChain, IsEnd, places}
+use Rattle.reorder.specs.Tracks.{AreCovered, IsChain, IsEnd}
 use Rattle.reorder.proofs.Added.{sound-more, sound-push}
-use Rattle.reorder.proofs.Ends.{chain-rest, none-covered, strand-covered, covered-more}
+use Rattle.reorder.proofs.Ends.{chain-rest, none-covered, strand-covered}
 use Rattle.reorder.proofs.Entries.{in-left, in-push}
 use Rattle.reorder.proofs.strand.Strand.gather_last.Goals.{then-end-eq0+in_ok-push, else-end-eq0}
 use Rattle.reorder.proofs.strand.Strand.gather_last.Goals as goal

@@ -1,4 +1,4 @@
-use Rattle.std.proofs.Common.{◌≡◌, ◌<◌, ◌∷◌, get_or, length, sym, subst, arith}
+use Rattle.std.proofs.Common.{◌<◌, ◌∷◌, get_or, length, sym, subst, arith}
 use Rattle.std.proofs.lemmas.Option.{slice_get-get_or}
 use Rattle.run_frames.specs.OrderedLaws.{IsOrdered}
 use Rattle.reorder.specs.Tracks.{places}
