@@ -1,0 +1,121 @@
+"""Keeps that nothing was wrong, as long as nothing has changed on which that hangs.
+
+What was asked has a name, the checksum of all that its answer hangs on: the test with the modules of tests/lib, the files that it reads, the Python that runs it
+and the other programs of the machine that it asks. Where nothing was wrong, an empty file of that name is left in ~/.cache/cell, for all clones of this machine;
+a fault is never kept. What hangs on chance or on time, as threads, interrupts and limits do, is asked each time. With CELL_ANEW=1 all is asked again.
+"""
+import contextlib
+import functools
+import hashlib
+import os
+import pathlib
+import shutil
+import subprocess
+import sys
+import time
+from typing import Callable, Iterable, Iterator, List
+
+from celltools.common.repository import PROGRAMS, ROOT, built
+
+CACHE = pathlib.Path(os.environ.get("XDG_CACHE_HOME") or pathlib.Path.home() / ".cache") / "cell" / "passed"
+LEFT = {"__pycache__", "out"}  # folders in which nothing is read
+PACKAGES = "/var/lib/dpkg/status"  # what is installed, with its versions, where that is told
+FONTS = ("/etc/fonts", "/usr/share/fonts", "/usr/local/share/fonts", "~/.fonts", "~/.local/share/fonts", "~/.config/fontconfig")
+DAYS = 30  # in which what nobody asks for is forgotten
+SECONDS_A_DAY = 86400
+SETTINGS = ("LANG", "LANGUAGE", "LC_ALL", "TZ")  # how a browser writes numbers
+
+
+def unless_kept(mark: pathlib.Path, ask: Callable[[], Iterable[str]]) -> List[str]:
+    """What is wrong, which isn't asked where nothing was."""
+    if is_kept(mark):
+        return []
+    said = list(ask())
+    if not said:
+        keep(mark)
+    return said
+
+
+def mark_of(name: str, *hangs_on: bytes) -> pathlib.Path:
+    """The file that says that nothing was wrong: of what, and with what."""
+    sums = (hashlib.sha256(part).digest() for part in (sys.version.encode(), *hangs_on))
+    return CACHE / f"{name}-{hashlib.sha256(b''.join(sums)).hexdigest()}"
+
+
+def is_kept(mark: pathlib.Path) -> bool:
+    """Whether nothing was wrong before; it is kept from then on as if it were new."""
+    if os.environ.get("CELL_ANEW"):
+        return False
+    try:
+        os.utime(mark)
+    except OSError:
+        return False
+    return True
+
+
+def keep(mark: pathlib.Path) -> None:
+    """Keeps that nothing was wrong, where that can be written."""
+    with contextlib.suppress(OSError):
+        CACHE.mkdir(parents=True, exist_ok=True)
+        mark.touch()
+        forget()
+
+
+@functools.cache
+def forget() -> None:
+    """Takes away what nobody has asked for in a long time."""
+    for entry in os.scandir(CACHE):
+        if entry.stat().st_mtime < time.time() - DAYS * SECONDS_A_DAY:
+            os.unlink(entry)
+
+
+# ---- on what answers hang
+
+def of_files(*paths: pathlib.Path) -> bytes:
+    """The checksums of files, and of all that folders have, by their names in this repository."""
+    found = sorted({file for path in paths for file in files_in(path)})
+    return "".join(f"{hashlib.sha256(file.read_bytes()).hexdigest()} {os.path.relpath(file, ROOT)}\n" for file in found).encode()
+
+
+def files_in(path: pathlib.Path) -> Iterator[pathlib.Path]:
+    """A file, or those of a folder and of the folders in it."""
+    if path.is_file():
+        yield path
+    for folder, folders, names in os.walk(path):
+        folders[:] = [name for name in folders if name not in LEFT]
+        yield from (file for file in (pathlib.Path(folder, name) for name in names) if file.is_file())
+
+
+def of_test(name: str) -> bytes:
+    """A program of tests/ with its modules."""
+    return of_files(ROOT / "tests" / name, ROOT / "tests" / "lib")
+
+
+def of_tools() -> bytes:
+    """The tools, and the proved programs that they ask."""
+    return of_files(ROOT / "tools", ROOT / "cell", ROOT / "hunt", *map(built, PROGRAMS))
+
+
+def of_program(name: str) -> bytes:
+    """A program of this machine: where it is, which version it says that it is, and what the system says of its packages."""
+    path = os.path.realpath(shutil.which(name) or name)
+    found = os.stat(path)
+    version = subprocess.run([name, "--version"], stdin=subprocess.DEVNULL, capture_output=True)
+    return b"\n".join([f"{path} {found.st_size} {found.st_mtime_ns}".encode(), version.stdout, packages()])
+
+
+def of_browser(name: str) -> bytes:
+    """A browser, with the fonts that it writes with."""
+    files = sorted(file for folder in FONTS for file in files_in(pathlib.Path(folder).expanduser()))
+    fonts = (f"{file} {file.stat().st_size} {file.stat().st_mtime_ns}\n" for file in files)
+    settings = (f"{setting}={os.environ.get(setting)}\n" for setting in SETTINGS)
+    return of_program(name) + "".join([*fonts, *settings]).encode()
+
+
+@functools.cache
+def packages() -> bytes:
+    """The checksum of what is installed; nothing where that isn't told."""
+    try:
+        return hashlib.sha256(pathlib.Path(PACKAGES).read_bytes()).digest()
+    except OSError:
+        return b""
