@@ -1,8 +1,9 @@
 """Keeps that nothing was wrong, as long as nothing has changed on which that hangs.
 
 What was asked has a name, the checksum of all that its answer hangs on: the test with the modules of tests/lib, the files that it reads, the Python that runs it
-and the other programs of the machine that it asks. Where nothing was wrong, an empty file of that name is left in ~/.cache/cell, for all clones of this machine;
-a fault is never kept. What hangs on chance or on time, as threads, interrupts and limits do, is asked each time. With CELL_ANEW=1 all is asked again.
+and the other programs of the machine that it asks. Where nothing was wrong, a file of that name is left in ~/.cache/cell, for all clones of this machine, with
+what there is to tell of it; a fault is never kept. What hangs on chance or on time, as threads, interrupts and limits do, is asked each time. With CELL_ANEW=1
+all is asked again.
 """
 import contextlib
 import functools
@@ -13,9 +14,10 @@ import shutil
 import subprocess
 import sys
 import time
-from typing import Callable, Iterable, Iterator, List
+from typing import Callable, Iterable, Iterator, List, Optional
 
 from celltools.common.repository import PROGRAMS, ROOT, built
+from celltools.common.writing import write_whole
 
 CACHE = pathlib.Path(os.environ.get("XDG_CACHE_HOME") or pathlib.Path.home() / ".cache") / "cell" / "passed"
 LEFT = {"__pycache__", "out"}  # folders in which nothing is read
@@ -23,7 +25,7 @@ PACKAGES = "/var/lib/dpkg/status"  # what is installed, with its versions, where
 FONTS = ("/etc/fonts", "/usr/share/fonts", "/usr/local/share/fonts", "~/.fonts", "~/.local/share/fonts", "~/.config/fontconfig")
 DAYS = 30  # in which what nobody asks for is forgotten
 SECONDS_A_DAY = 86400
-SETTINGS = ("LANG", "LANGUAGE", "LC_ALL", "TZ")  # how a browser writes numbers
+SETTINGS = ("LANG", "LANGUAGE", "LC_ALL", "LC_CTYPE", "TZ")  # by which texts are read, and by which a browser writes numbers
 
 
 def unless_kept(mark: pathlib.Path, ask: Callable[[], Iterable[str]]) -> List[str]:
@@ -38,26 +40,32 @@ def unless_kept(mark: pathlib.Path, ask: Callable[[], Iterable[str]]) -> List[st
 
 def mark_of(name: str, *hangs_on: bytes) -> pathlib.Path:
     """The file that says that nothing was wrong: of what, and with what."""
-    sums = (hashlib.sha256(part).digest() for part in (sys.version.encode(), *hangs_on))
+    settings = ",".join(f"{setting}={os.environ.get(setting)}" for setting in SETTINGS)
+    sums = (hashlib.sha256(part).digest() for part in (sys.version.encode(), settings.encode(), *hangs_on))
     return CACHE / f"{name}-{hashlib.sha256(b''.join(sums)).hexdigest()}"
 
 
 def is_kept(mark: pathlib.Path) -> bool:
-    """Whether nothing was wrong before; it is kept from then on as if it were new."""
+    """Whether nothing was wrong before."""
+    return kept_text(mark) is not None
+
+
+def kept_text(mark: pathlib.Path) -> Optional[str]:
+    """What was told where nothing was wrong before, None where that isn't known; it is kept from then on as if it were new."""
     if os.environ.get("CELL_ANEW"):
-        return False
+        return None
     try:
         os.utime(mark)
+        return mark.read_text(encoding="utf-8")
     except OSError:
-        return False
-    return True
+        return None
 
 
-def keep(mark: pathlib.Path) -> None:
-    """Keeps that nothing was wrong, where that can be written."""
+def keep(mark: pathlib.Path, text: str = "") -> None:
+    """Keeps that nothing was wrong, and what was told, where that can be written."""
     with contextlib.suppress(OSError):
         CACHE.mkdir(parents=True, exist_ok=True)
-        mark.touch()
+        write_whole(str(mark), text.encode())
         forget()
 
 
@@ -65,8 +73,9 @@ def keep(mark: pathlib.Path) -> None:
 def forget() -> None:
     """Takes away what nobody has asked for in a long time."""
     for entry in os.scandir(CACHE):
-        if entry.stat().st_mtime < time.time() - DAYS * SECONDS_A_DAY:
-            os.unlink(entry)
+        with contextlib.suppress(FileNotFoundError):  # which another test has taken away
+            if entry.stat().st_mtime < time.time() - DAYS * SECONDS_A_DAY:
+                os.unlink(entry)
 
 
 # ---- on what answers hang
@@ -108,8 +117,7 @@ def of_browser(name: str) -> bytes:
     """A browser, with the fonts that it writes with."""
     files = sorted(file for folder in FONTS for file in files_in(pathlib.Path(folder).expanduser()))
     fonts = (f"{file} {file.stat().st_size} {file.stat().st_mtime_ns}\n" for file in files)
-    settings = (f"{setting}={os.environ.get(setting)}\n" for setting in SETTINGS)
-    return of_program(name) + "".join([*fonts, *settings]).encode()
+    return of_program(name) + "".join(fonts).encode()
 
 
 @functools.cache

@@ -1,4 +1,5 @@
 """How programs start: each tool under each Python that is there, without the settings on which it might hang, and with locales that have no letters but ASCII."""
+import concurrent.futures
 import functools
 import glob
 import os
@@ -7,6 +8,7 @@ import subprocess
 from typing import Dict, Iterator, List, Optional, Set, Tuple
 
 from celltools.common.repository import ROOT
+from lib import keeping
 from lib.hostility.rows import TRACEBACK, Row, ended, shown
 
 TOOLS = ("debug", "explain", "from_gas", "hunts", "listing", "picture", "race", "site_lines", "states", "witness")
@@ -63,13 +65,23 @@ def usage_faults(python: str, number: int) -> Iterator[str]:
 
 
 def each_tool_starts() -> Iterator[str]:
-    """Each tool tells its usage under each Python."""
-    for number, python in enumerate(pythons()):
-        yield from usage_faults(python, number)
+    """Each tool tells its usage under each Python; where all did, it is asked again when it or a tool has changed."""
+    tools, test = keeping.of_tools(), keeping.of_test("hostile")
+    with concurrent.futures.ThreadPoolExecutor(os.cpu_count()) as pool:
+        marks = [keeping.mark_of("starts", str(number).encode(), keeping.of_program(python), tools, test) for number, python in enumerate(pythons())]
+        asked = [functools.partial(usage_faults, python, number) for number, python in enumerate(pythons())]
+        for said in pool.map(keeping.unless_kept, marks, asked):
+            yield from said
 
 
 def each_test_loads() -> Iterator[str]:
-    """The programs of tests/ and their modules load under the oldest and the newest Python."""
+    """The programs of tests/ and their modules load under the oldest and the newest Python; where all did, they are loaded again when one has changed."""
+    files = keeping.of_files(*(ROOT / name for name in ("tests", "tools")))
+    yield from keeping.unless_kept(keeping.mark_of("loads", files, *map(keeping.of_program, pythons())), loading_faults)
+
+
+def loading_faults() -> Iterator[str]:
+    """What is wrong with their loading."""
     programs = [str(path) for path in sorted((ROOT / "tests").iterdir()) if path.is_file() and os.access(path, os.X_OK)]
     for python in {pythons()[0], pythons()[-1]}:
         found = ended([python, "-S", "-c", LOAD, *programs], ROOT, SECONDS, MEGABYTES)
