@@ -1,9 +1,9 @@
 """Keeps that nothing was wrong, as long as nothing has changed on which that hangs.
 
-What was asked has a name, the checksum of all that its answer hangs on: the test with the modules of tests/lib, the files that it reads, the Python that runs it
-and the other programs of the machine that it asks. Where nothing was wrong, a file of that name is left in ~/.cache/cell, for all clones of this machine, with
-what there is to tell of it; a fault is never kept. What hangs on chance or on time, as threads, interrupts and limits do, is asked each time. With CELL_ANEW=1
-all is asked again.
+What was asked has a name, the checksum of all that its answer hangs on: the test with the modules of tests/lib, the files that it reads, the Python that runs it,
+the other programs of the machine that it asks, and what packages are installed. Where nothing was wrong, a file of that name is left in ~/.cache/cell, for all
+clones of this machine, with what there is to tell of it; a fault is never kept. What hangs on chance or on time, as threads and interrupts do, is asked each
+time. With CELL_ANEW=1 all is asked again.
 """
 import contextlib
 import functools
@@ -41,7 +41,7 @@ def unless_kept(mark: pathlib.Path, ask: Callable[[], Iterable[str]]) -> List[st
 def mark_of(name: str, *hangs_on: bytes) -> pathlib.Path:
     """The file that says that nothing was wrong: of what, and with what."""
     settings = ",".join(f"{setting}={os.environ.get(setting)}" for setting in SETTINGS)
-    sums = (hashlib.sha256(part).digest() for part in (sys.version.encode(), settings.encode(), *hangs_on))
+    sums = (hashlib.sha256(part).digest() for part in (sys.version.encode(), settings.encode(), packages(), *hangs_on))
     return CACHE / f"{name}-{hashlib.sha256(b''.join(sums)).hexdigest()}"
 
 
@@ -106,11 +106,11 @@ def of_tools() -> bytes:
 
 
 def of_program(name: str) -> bytes:
-    """A program of this machine: where it is, which version it says that it is, and what the system says of its packages."""
+    """A program of this machine: where it is, and which version it says that it is."""
     path = os.path.realpath(shutil.which(name) or name)
     found = os.stat(path)
     version = subprocess.run([name, "--version"], stdin=subprocess.DEVNULL, capture_output=True)
-    return b"\n".join([f"{path} {found.st_size} {found.st_mtime_ns}".encode(), version.stdout, packages()])
+    return f"{path} {found.st_size} {found.st_mtime_ns}\n".encode() + version.stdout
 
 
 def of_browser(name: str) -> bytes:
