@@ -18,6 +18,7 @@ from typing import Callable, Iterable, Iterator, List, Optional
 
 from celltools.common.repository import PROGRAMS, ROOT, built
 from celltools.common.writing import write_whole
+from celltools.source.language import TABLE
 
 CACHE = pathlib.Path(os.environ.get("XDG_CACHE_HOME") or pathlib.Path.home() / ".cache") / "cell" / "passed"
 LEFT = {"__pycache__", "out"}  # folders in which nothing is read
@@ -101,8 +102,8 @@ def of_test(name: str) -> bytes:
 
 
 def of_tools() -> bytes:
-    """The tools, and the proved programs that they ask."""
-    return of_files(ROOT / "tools", ROOT / "cell", ROOT / "hunt", *map(built, PROGRAMS))
+    """The tools, with the table that they read, and the proved programs that they ask."""
+    return of_files(ROOT / "tools", TABLE, ROOT / "cell", ROOT / "hunt", *map(built, PROGRAMS))
 
 
 def of_program(name: str) -> bytes:

@@ -76,8 +76,8 @@ def each_tool_starts() -> Iterator[str]:
 
 def each_test_loads() -> Iterator[str]:
     """The programs of tests/ and their modules load under the oldest and the newest Python; where all did, they are loaded again when one has changed."""
-    files = keeping.of_files(*(ROOT / name for name in ("tests", "tools")))
-    yield from keeping.unless_kept(keeping.mark_of("loads", files, *map(keeping.of_program, pythons())), loading_faults)
+    files = keeping.of_files(ROOT / "tests", ROOT / "examples")
+    yield from keeping.unless_kept(keeping.mark_of("loads", files, keeping.of_tools(), *map(keeping.of_program, pythons())), loading_faults)
 
 
 def loading_faults() -> Iterator[str]:
