@@ -1,7 +1,7 @@
 -- How many parts of a command are left.
-use Rattle.std.proofs.Common.{◌≡◌, ◌≢◌, ℕ, zero, suc, ◌+◌, ◌-◌, ◌<◌, ◌≤◌, ◌==◌, ◌||◌, not, Bool, true, false, List, [], ◌∷◌, length, map, slice_index_or, arith, refl, sym, ◌∙◌, ap, subst, true≢false}
+use Rattle.std.proofs.Common.{◌≡◌, ◌≢◌, ℕ, zero, suc, ◌+◌, ◌-◌, ◌<◌, ◌≤◌, ◌==◌, ◌||◌, ◌&&◌, not, Bool, true, false, List, [], ◌∷◌, length, map, slice_index_or, arith, refl, sym, ◌∙◌, ap, subst, true≢false}
 use Rattle.std.specs.Prelude.{filter, cond, find, Some, None, slice_get}
-use Rattle.std.specs.List.{range_with_len}
+use Rattle.std.specs.List.{list_all, range_with_len}
 use Rattle.std.proofs.lemmas.Bool.Decides.{nat_tests}
 use Rattle.mfc_queue.specs.declared.Held.{Held}
 
@@ -9,6 +9,22 @@ use Rattle.mfc_queue.specs.declared.Held.{Held}
 pub count-none : (t : ℕ → Bool) (a n : ℕ) → ((k : ℕ) → t k ≡ false) → n ≡ length (filter (λ k. not (t k)) (range_with_len a n))
 count-none t a zero h = refl
 count-none t a (suc n) h = rw (h a) (ap suc (count-none t (a + 1) n h))
+
+some_left : (n : ℕ) → (suc n == 0) ≡ false
+some_left n = grind (arith, nat_tests)
+
+none-from : (t : ℕ → Bool) (a n : ℕ) → (length (filter (λ k. not (t k)) (range_with_len a n)) == 0) ≡ list_all t (range_with_len a n)
+none-from t a zero = refl
+none-from t a (suc n) = on (t a) (none-from t (a + 1) n)
+  where
+    on : (b : Bool) → (length (filter (λ k. not (t k)) (range_with_len (a + 1) n)) == 0) ≡ list_all t (range_with_len (a + 1) n)
+        → (length (cond (not b) (a ∷ filter (λ k. not (t k)) (range_with_len (a + 1) n)) (filter (λ k. not (t k)) (range_with_len (a + 1) n))) == 0) ≡ (b && list_all t (range_with_len (a + 1) n))
+    on true h = h
+    on false h = some_left (length (filter (λ k. not (t k)) (range_with_len (a + 1) n)))
+
+-- none is left where all are done
+pub none-missing : (t : ℕ → Bool) (n left : ℕ) → left ≡ length (filter (λ k. not (t k)) (range_with_len 0 n)) → (left == 0) ≡ list_all t (range_with_len 0 n)
+none-missing t n left is = ap (λ k. k == 0) is ∙ none-from t 0 n
 
 or_false : (b : Bool) → (b || false) ≡ b
 or_false true = refl

@@ -332,6 +332,19 @@ all-marked q calls cmd i h stands within at same few =
     all-agree (λ k. has_part h.done.words k) (is_marked calls cmd) 0 h.parts (λ k l. subst (λ j. has_part h.done.words k ≡ is_marked calls j k) e (sym (holds.done k (omega arith))))
     ∙ ap (λ n. list_all (is_marked calls cmd) (range_with_len 0 n)) (sym holds.parts ∙ ap (parts calls) e)
 
+-- whether they would be with one more
+pub marked-all : (q : Queue) (calls : List Call) (cmd part i : ℕ) (old h : Held) → StandsFor q calls → i < length q.held.items → old ≡ slice_index_or q.held.items i old → ((d : Held) → (slice_index_or q.held.items i d).cmd ≡ cmd)
+    → h.parts ≡ old.parts → ((k : ℕ) → has_part h.done.words k ≡ (has_part old.done.words k || part == k)) → h.parts ≤ 129
+    → list_all (λ k. has_part h.done.words k) (range_with_len 0 h.parts) ≡ all_marked (calls ++ Mark cmd part ∷ []) cmd
+marked-all q calls cmd part i old h stands within at same as_parts marks few =
+    let e : old.cmd ≡ cmd = ap (λ (x : Held). x.cmd) at ∙ same old in
+    let holds : Holds calls old = held-at q calls i old stands within at in
+    all-agree (λ k. has_part h.done.words k) (is_marked (calls ++ Mark cmd part ∷ []) cmd) 0 h.parts (λ k l.
+    marks k
+    ∙ ap (λ b. b || part == k) (subst (λ j. has_part old.done.words k ≡ is_marked calls j k) e (sym (holds.done k (omega arith))))
+    ∙ sym (marked-more calls (Mark cmd part) cmd k ∙ rw (same_same cmd) refl))
+    ∙ ap (λ n. list_all (is_marked (calls ++ Mark cmd part ∷ []) cmd) (range_with_len 0 n)) (as_parts ∙ sym holds.parts ∙ ap (parts calls) e ∙ sym (parts-more calls (Mark cmd part) cmd))
+
 pub left-is : (q : Queue) (calls : List Call) (cmd i : ℕ) (h : Held) → StandsFor q calls → i < length q.held.items → h ≡ slice_index_or q.held.items i h → ((d : Held) → (slice_index_or q.held.items i d).cmd ≡ cmd)
     → h.parts ≤ 129 → filter (λ k. not (has_part h.done.words k)) (range_with_len 0 h.parts) ≡ left calls cmd
 unfolding left
@@ -497,6 +510,14 @@ group-held calls h bits holds = rw holds.command refl
 pub busy-is : (q : Queue) (calls : List Call) → StandsFor q calls → busy_groups (is_retired calls) (issued calls) ≡ fold (with_group (issued calls)) 0 (map (λ h. h.cmd) q.held.items)
 unfolding busy_groups
 busy-is q calls stands = ap (fold (with_group (issued calls)) 0) stands.numbers
+
+-- the groups that are busy without one of them
+pub busy-retired : (q : Queue) (calls : List Call) (cmd : ℕ) → StandsFor q calls
+    → busy_groups (is_retired (calls ++ Retire cmd ∷ [])) (issued (calls ++ Retire cmd ∷ [])) ≡ fold (with_group (issued calls)) 0 (filter (λ k. not (cmd == k)) (map (λ h. h.cmd) q.held.items))
+unfolding busy_groups
+busy-retired q calls cmd stands =
+    ap (λ cs. fold (with_group cs) 0 (outstanding (calls ++ Retire cmd ∷ []))) (issued-retired calls cmd)
+    ∙ ap (fold (with_group (issued calls)) 0) (outstanding-retired calls cmd ∙ ap (filter (λ k. not (cmd == k))) stands.numbers)
 
 pub outstanding-marked : (calls : List Call) (cmd part k : ℕ) → is_outstanding (calls ++ Mark cmd part ∷ []) k ≡ is_outstanding calls k
 outstanding-marked calls cmd part k = ap (λ f. nat_lt k (length (issued (calls ++ Mark cmd part ∷ []))) && not (f k)) (retired-marked calls cmd part) ∙ ap (λ cs. nat_lt k (length cs) && not (is_retired calls k)) (issued-marked calls cmd part)

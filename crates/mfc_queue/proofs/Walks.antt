@@ -1,6 +1,6 @@
 -- Walks over the commands that a queue holds.
-use Rattle.std.proofs.Common.{◌≡◌, ℕ, zero, suc, ◌+◌, ◌<◌, ◌≤◌, Bool, true, false, List, [], ◌∷◌, length, map, drop, slice_index_or, arith, refl, sym, ◌∙◌, ap}
-use Rattle.std.specs.Prelude.{find, Some, slice_get}
+use Rattle.std.proofs.Common.{◌≡◌, ℕ, zero, suc, ◌+◌, ◌<◌, ◌≤◌, ◌==◌, not, Bool, true, false, List, [], ◌∷◌, length, map, drop, slice_index_or, arith, refl, sym, ◌∙◌, ap}
+use Rattle.std.specs.Prelude.{find, filter, Some, slice_get}
 use Rattle.std.proofs.lemmas.Option.{slice_get_read}
 use Rattle.std.specs.List.{list_any}
 use Rattle.mfc_queue.specs.declared.Held.{Held}
@@ -41,3 +41,10 @@ held-on (g ∷ held) (suc i) h within at = let e : suc i + 1 ≡ suc (i + 1) = o
 
 pub get-at : (held : List Held) (i : ℕ) (h : Held) → i < length held → h ≡ slice_index_or held i h → slice_get held i ≡ Some h
 get-at held i h within at = slice_get_read held (length held) i h refl within at
+
+-- all but one number of the rest, where its first one is that, or another
+pub filter-skip : (cmd x : ℕ) (rest rest2 : List ℕ) → rest ≡ x ∷ rest2 → (cmd == x) ≡ true → filter (λ k. not (cmd == k)) rest ≡ filter (λ k. not (cmd == k)) rest2
+filter-skip cmd x rest rest2 e is = ap (filter (λ k. not (cmd == k))) e ∙ rw is refl
+
+pub filter-keep : (cmd x : ℕ) (rest rest2 : List ℕ) → rest ≡ x ∷ rest2 → (cmd == x) ≡ false → filter (λ k. not (cmd == k)) rest ≡ x ∷ filter (λ k. not (cmd == k)) rest2
+filter-keep cmd x rest rest2 e other = ap (filter (λ k. not (cmd == k))) e ∙ rw other refl

@@ -415,6 +415,20 @@ impl Queue {
         self.all_done(cmd)
     }
 
+    /// Whether all parts of a command would be done with this one, which is below the command's number of parts.
+    pub fn completes(&self, cmd: u32, part: u32) -> bool
+        requires { HasPart self.now cmd part }
+        ensures { (calls : List Call) → StandsFor self.now calls → result ≡ all_marked (calls ++ Mark cmd part ∷ []) cmd }
+    {
+        match self.index_of(cmd) {
+            Some(i) => {
+                let h = self.held_at(i).marked(part);
+                h.left == 0
+            }
+            None => unreachable!(),
+        }
+    }
+
     /// Ends the command, which is complete from now on. Its place becomes free.
     pub fn retire(&mut self, cmd: u32)
         requires { IsOneOf self.old cmd }
@@ -454,6 +468,21 @@ impl Queue {
         for i in 0..self.held.len() {
             let tag = self.held_at(i).command.tag;
             bits |= 1 << tag;
+        }
+        bits
+    }
+
+    /// The tag groups that are busy once an outstanding command is retired.
+    pub fn busy_without(&self, cmd: u32) -> u32
+        ensures { (calls : List Call) → StandsFor self.now calls → result ≡ busy (calls ++ Retire cmd ∷ []) }
+    {
+        let mut bits = 0;
+        for i in 0..self.held.len() {
+            let h = self.held_at(i);
+            if h.cmd == cmd {
+                continue;
+            }
+            bits |= 1 << h.command.tag;
         }
         bits
     }

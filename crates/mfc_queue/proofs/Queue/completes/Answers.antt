@@ -1,0 +1,14 @@
+use Rattle.std.proofs.Common.{◌∙◌, sym}
+use Rattle.mfc_queue.specs.Sets.{has_part}
+use Rattle.mfc_queue.proofs.Holding.{held-none, one_of, marked-all}
+use Rattle.mfc_queue.proofs.Counting.{none-missing}
+use Rattle.mfc_queue.proofs.Queue.completes.Goals as goal
+
+pub unreachable-requires : goal.unreachable-requires
+unreachable-requires c = held-none _ c.args.cmd (one_of _ _ _ c.requires) c.in-None.ensures.none
+
+pub returns : goal.returns
+returns c = λ calls stands.
+    let h = c.marked-h.result in
+    none-missing (has_part h.done.words) h.parts h.left h.counted
+    ∙ marked-all _ calls c.args.cmd c.args.part c.in-Some.i c.held_at.result.now h stands c.in-Some.ensures.found.0 c.held_at.ensures c.in-Some.ensures.found.1 c.marked-h.ensures.parts c.marked-h.ensures.done h.few
