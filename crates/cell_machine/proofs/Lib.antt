@@ -24,6 +24,7 @@ pub mod HostGives
 pub mod HostSteps
 pub mod Places
 pub mod Completion
+mod Busy
 pub mod BusyGroups
 pub mod CommandsShown
 pub mod Elements

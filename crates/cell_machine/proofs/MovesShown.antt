@@ -149,7 +149,7 @@ others-open calls m c shows open_still = record {
   complete = agree (is_retired calls) (is_complete m) c (shows.waits ∙ sym open_still) (λ k differs. shows.complete k (λ e. differs (sym e)));
 }
 
-others-marked : (calls : List Call) (m : Moves) (c e k : ℕ) (d : Command) → ShowsMoves calls m → slice_get m.issued c ≡ Some d → has_part m c e k d ≡ true
+pub others-marked : (calls : List Call) (m : Moves) (c e k : ℕ) (d : Command) → ShowsMoves calls m → slice_get m.issued c ≡ Some d → has_part m c e k d ≡ true
     → ShowsOthers (calls ++ Mark c k ∷ []) (with_done m c e k) c
 others-marked calls m c e k d shows at has = record {
   done = done-mark calls m c e k d shows.done at has;
@@ -159,12 +159,16 @@ others-marked calls m c e k d shows at has = record {
 }
 
 -- the part isn't the last of its element
+pub mark-waits : (calls : List Call) (m : Moves) (c e k : ℕ) (d : Command) → ShowsMoves calls m → slice_get m.issued c ≡ Some d → has_part m c e k d ≡ true → all_marked (calls ++ Mark c k ∷ []) c ≡ false
+    → is_complete (with_done m c e k) c ≡ false
+mark-waits calls m c e k d shows at has all =
+    let part = part-is m c e k d has in
+    complete-unfinished (with_done m c e k) c d part.element at part.moved part.there (finished-now calls m c e k d part.element shows at part.there has ∙ all)
+
 pub moves-mark : (calls : List Call) (m : Moves) (c e k : ℕ) (d : Command) → ShowsMoves calls m → slice_get m.issued c ≡ Some d → has_part m c e k d ≡ true
     → all_marked (calls ++ Mark c k ∷ []) c ≡ false → ShowsMoves (calls ++ Mark c k ∷ []) (with_done m c e k)
 moves-mark calls m c e k d shows at has all =
-    let part = part-is m c e k d has in
-    others-open (calls ++ Mark c k ∷ []) (with_done m c e k) c (others-marked calls m c e k d shows at has)
-    (complete-unfinished (with_done m c e k) c d part.element at part.moved part.there (finished-now calls m c e k d part.element shows at part.there has ∙ all))
+    others-open (calls ++ Mark c k ∷ []) (with_done m c e k) c (others-marked calls m c e k d shows at has) (mark-waits calls m c e k d shows at has all)
 
 and_true : (b : Bool) → (b && true) ≡ b
 and_true true = refl
@@ -180,11 +184,15 @@ unfolding stall_of present
 plain-complete m c d at h moved = complete-moved m c d at moved ∙ rw h (and_true (is_finished m.done c (whole d) && true) ∙ and_true (is_finished m.done c (whole d)))
 
 -- the part is the last of the command
+pub mark-ends : (calls : List Call) (m : Moves) (c e k : ℕ) (d : Command) → ShowsMoves calls m → slice_get m.issued c ≡ Some d → is_list d.kind ≡ false → has_part m c e k d ≡ true → all_marked (calls ++ Mark c k ∷ []) c ≡ true
+    → is_complete (with_done m c e k) c ≡ true
+mark-ends calls m c e k d shows at plain has all =
+    plain-complete (with_done m c e k) c d at plain ((both (is_moved d) _ has).0) ∙ finished-now calls m c e k d (whole d) shows at (plain-present m.read c d plain) has ∙ all
+
 pub moves-mark_last : (calls : List Call) (m : Moves) (c e k : ℕ) (d : Command) → ShowsMoves calls m → slice_get m.issued c ≡ Some d → is_list d.kind ≡ false → has_part m c e k d ≡ true
     → all_marked (calls ++ Mark c k ∷ []) c ≡ true → ShowsMoves ((calls ++ Mark c k ∷ []) ++ Retire c ∷ []) (with_done m c e k)
 moves-mark_last calls m c e k d shows at plain has all =
-    others-closed (calls ++ Mark c k ∷ []) (with_done m c e k) c (others-marked calls m c e k d shows at has)
-    (plain-complete (with_done m c e k) c d at plain ((both (is_moved d) _ has).0) ∙ finished-now calls m c e k d (whole d) shows at (plain-present m.read c d plain) has ∙ all)
+    others-closed (calls ++ Mark c k ∷ []) (with_done m c e k) c (others-marked calls m c e k d shows at has) (mark-ends calls m c e k d shows at plain has all)
 
 -- whether a list is complete then, is told by what is kept of it
 pub others-mark : (calls : List Call) (m : Moves) (c e k : ℕ) (d : Command) → ShowsMoves calls m → slice_get m.issued c ≡ Some d → is_list d.kind ≡ true → has_part m c e k d ≡ true

@@ -1,5 +1,5 @@
 -- The places of a flow controller's allowed steps.
-use Rattle.std.proofs.Common.{◌≡◌, ℕ, zero, suc, ◌+◌, ◌-◌, ◌%◌, ◌<◌, ◌≤◌, ◌==◌, ◌&&◌, not, Bool, true, false, List, [], ◌∷◌, ◌++◌, length, map, arith, refl, sym, ◌∙◌, ap, subst, true≢false, ◌⊎◌, inl, inr}
+use Rattle.std.proofs.Common.{◌≡◌, ℕ, zero, suc, ◌+◌, ◌-◌, ◌%◌, ◌<◌, ◌≤◌, ◌==◌, ◌&&◌, not, Bool, true, false, List, [], ◌∷◌, ◌++◌, length, map, drop, arith, refl, sym, ◌∙◌, ap, subst, true≢false, ◌⊎◌, inl, inr}
 use Rattle.std.specs.Prelude.{Option, Some, None, slice_get, nat_lt, nat_le, filter, cond, if◌then◌else◌, find, flat_map, Result, Ok, Err}
 use Rattle.std.specs.Result.{result_ok}
 use Rattle.std.proofs.Math.Nat.{mod-eq_of_lt}
@@ -7,22 +7,25 @@ use Rattle.std.specs.List.{range_with_len}
 use Rattle.std.specs.Option.{option_map_or}
 use Rattle.std.proofs.lemmas.Bool.Decides.{nat_tests}
 use Rattle.cell_base.specs.declared.steps.Step.{Step}
-use Rattle.cell_base.specs.declared.steps.Step.TheVariants.{Piece, Elem, Retire, Atomic}
+use Rattle.cell_base.specs.declared.steps.Step.TheVariants.{Exec, Piece, Elem, Retire, Atomic, Host}
 use Rattle.mfc_command.specs.declared.command.Command.{Command}
 use Rattle.mfc_command.specs.Order.{outstanding as outstanding_of}
 use Rattle.mfc_lists.specs.declared.Element.{Element}
 use Rattle.mfc_queue.specs.At.{IsAt}
 use Rattle.mfc_queue.specs.Calls.{Call, outstanding as outstanding_calls, is_outstanding, is_retired, is_marked, issued, parts, left}
-use Rattle.mfc_queue.proofs.AtLemmas.{ok-of}
+use Rattle.mfc_queue.proofs.AtLemmas.{ok-of, at-here}
+use Rattle.std.proofs.Math.ListN.{length-map}
+use Rattle.cell_machine.specs.Shown.{parts_missing, parts_left}
+use Rattle.cell_machine.proofs.Showing.{left-is}
 use Rattle.cell_machine.specs.Spe.{Spe, Moves, is_faulted}
 use Rattle.cell_machine.specs.Moves.{outstanding, is_complete, is_moved, is_done, parts_in, present, may_begin}
-use Rattle.cell_machine.specs.Transfers.{begins, is_part_left, has_part, may_piece, may_elem, may_retire}
+use Rattle.cell_machine.specs.Transfers.{begins, is_part_left, has_part, has_element, is_left, may_piece, may_elem, may_retire}
 use Rattle.cell_machine.specs.Atomic.{may_atomic}
 use Rattle.cell_machine.specs.Run.{pieces_of, steps_of_command, steps_of_number}
 use Rattle.cell_machine.specs.Choices.{may, allowed_of_number, allowed_of_mfc}
 use Rattle.cell_machine.specs.MovesShown.{ShowsMoves}
 use Rattle.cell_machine.proofs.Same.{eq_same, some_same}
-use Rattle.cell_machine.proofs.SpeShown.{and_off, begins-at, begins-not, outstanding-same}
+use Rattle.cell_machine.proofs.SpeShown.{and_off, begins-at, begins-not, outstanding-same, left-moved, left-open}
 
 pub filter-both : {X : Type 0} (t : X → Bool) (xs ys : List X) → filter t (xs ++ ys) ≡ filter t xs ++ filter t ys
 filter-both t [] ys = refl
@@ -138,6 +141,74 @@ number-cut p P c d at = ap (λ o. filter (may P) (option_map_or (steps_of_comman
     on false true xs = refl
     on false false xs = refl
 
+-- ---- how many they are
+
+and_on : (b : Bool) → (b && true) ≡ b
+and_on true = refl
+and_on false = refl
+
+-- whether a command that may begin has an element to read, or is to be retired
+pub elem-begun : (P : Spe) (c : ℕ) (d : Command) → slice_get P.moves.issued c ≡ Some d → is_faulted P.status ≡ false → may_begin P.moves c ≡ true → may_elem P c ≡ has_element P.moves c d
+unfolding may_elem
+elem-begun P c d at sound begun = rw sound (begins-at P.moves c d (has_element P.moves c) at ∙ rw begun (and_on (has_element P.moves c d)))
+
+left-unmoved : (m : Moves) (c : ℕ) (d : Command) → slice_get m.issued c ≡ Some d → is_complete m c ≡ false → is_left m c d ≡ not (is_moved d)
+left-unmoved m c d at open_yet = on (is_moved d) refl
+  where
+    on : (b : Bool) → is_moved d ≡ b → is_left m c d ≡ not b
+    on true e = left-moved m c d e
+    on false e = left-open m c d at e open_yet
+
+pub retire-begun : (P : Spe) (c : ℕ) (d : Command) → slice_get P.moves.issued c ≡ Some d → is_faulted P.status ≡ false → may_begin P.moves c ≡ true → is_complete P.moves c ≡ false → may_retire P c ≡ not (is_moved d)
+unfolding may_retire
+retire-begun P c d at sound begun open_yet = rw sound (begins-at P.moves c d (is_left P.moves c) at ∙ rw begun (and_on (is_left P.moves c d) ∙ left-unmoved P.moves c d at open_yet))
+
+-- a command that waits has none
+elem-waits : (P : Spe) (c : ℕ) → may_begin P.moves c ≡ false → may_elem P c ≡ false
+unfolding may_elem
+elem-waits P c h = and_off (not (is_faulted P.status)) _ (begins-waits P.moves c (has_element P.moves c) h)
+
+retire-waits : (P : Spe) (c : ℕ) → may_begin P.moves c ≡ false → may_retire P c ≡ false
+unfolding may_retire
+retire-waits P c h = and_off (not (is_faulted P.status)) _ (begins-waits P.moves c (is_left P.moves c) h)
+
+pub waits-none : (p : ℕ) (P : Spe) (c : ℕ) (d : Command) → slice_get P.moves.issued c ≡ Some d → may_begin P.moves c ≡ false → allowed_of_number p P c ≡ []
+waits-none p P c d at h =
+    let pieces = no-pieces p P c (present P.moves.read c d) (λ e k. piece-none P c e k (inr (begins-waits P.moves c (has_part P.moves c e k) h))) in
+    number-cut p P c d at ∙ rw (elem-waits P c h, retire-waits P c h, pieces) refl
+
+-- the allowed pieces of one that may begin are as many as the parts that it has left
+none-left : (m : Moves) (c : ℕ) (d : Command) → present m.read c d ≡ None → parts_left m c d ≡ []
+unfolding parts_left
+none-left m c d e = ap (λ o. cond (is_moved d) (option_map_or (parts_missing m.done c) o []) []) e ∙ both (is_moved d)
+  where
+    both : (b : Bool) → ◌≡◌ {A = List ℕ} (cond b [] []) []
+    both true = refl
+    both false = refl
+
+pieces-count : (calls : List Call) (p : ℕ) (P : Spe) (c : ℕ) (d : Command) → ShowsMoves calls P.moves → slice_get P.moves.issued c ≡ Some d → is_faulted P.status ≡ false → may_begin P.moves c ≡ true
+    → length (filter (may P) (option_map_or (pieces_of p c) (present P.moves.read c d) [])) ≡ length (left calls c)
+pieces-count calls p P c d shows at sound begun = on (present P.moves.read c d) refl
+  where
+    on : (o : Option Element) → present P.moves.read c d ≡ o → length (filter (may P) (option_map_or (pieces_of p c) (present P.moves.read c d) [])) ≡ length (left calls c)
+    on None e = ap (λ o. length (filter (may P) (option_map_or (pieces_of p c) o []))) e ∙ sym (ap length (left-is calls P.moves c d shows at ∙ none-left P.moves c d e))
+    on (Some x) e = ap length (pieces-left calls p P c d x shows at e sound begun) ∙ length-map (left calls c) (Piece p c x.number)
+
+pub count-begun : (calls : List Call) (p : ℕ) (P : Spe) (c : ℕ) (d : Command) (a b : Bool) (n : ℕ) → ShowsMoves calls P.moves → slice_get P.moves.issued c ≡ Some d → is_faulted P.status ≡ false → may_begin P.moves c ≡ true
+    → may_elem P c ≡ a → may_retire P c ≡ b → n ≡ length (left calls c) → (if a then 1 else 0) + (if b then 1 else 0) + n ≡ length (allowed_of_number p P c)
+count-begun calls p P c d a b n shows at sound begun is_a is_b is_n =
+    ap (λ x. (if x then 1 else 0) + (if b then 1 else 0) + n) (sym is_a)
+    ∙ ap (λ y. (if may_elem P c then 1 else 0) + (if y then 1 else 0) + n) (sym is_b)
+    ∙ ap (λ k. (if may_elem P c then 1 else 0) + (if may_retire P c then 1 else 0) + k) (is_n ∙ sym (pieces-count calls p P c d shows at sound begun))
+    ∙ three (may_elem P c) (may_retire P c) (filter (may P) (option_map_or (pieces_of p c) (present P.moves.read c d) []))
+    ∙ sym (ap length (number-cut p P c d at))
+  where
+    three : (a b : Bool) (xs : List Step) → (if a then 1 else 0) + (if b then 1 else 0) + length xs ≡ length ((if a then Elem p c ∷ [] else []) ++ ((if b then Retire p c ∷ [] else []) ++ xs))
+    three true true xs = omega arith
+    three true false xs = omega arith
+    three false true xs = omega arith
+    three false false xs = omega arith
+
 found-passes : {X : Type 0} (t : X → Bool) (xs : List X) (x : X) → find t xs ≡ Some x → t x ≡ true
 found-passes t [] x h = absurd (cc)
 found-passes t (y ∷ xs) x h = on (t y) refl h (λ g. found-passes t xs x g)
@@ -145,47 +216,6 @@ found-passes t (y ∷ xs) x h = on (t y) refl h (λ g. found-passes t xs x g)
     on : (b : Bool) → t y ≡ b → cond b (Some y) (find t xs) ≡ Some x → (find t xs ≡ Some x → t x ≡ true) → t x ≡ true
     on true e g k = let same : y ≡ x = cc in subst (λ z. t z ≡ true) same e
     on false e g k = k g
-
-none-found : {X : Type 0} (t : X → Bool) (xs : List X) → find t xs ≡ None → filter t xs ≡ []
-none-found t [] h = refl
-none-found t (y ∷ xs) h = on (t y) refl h (λ g. none-found t xs g)
-  where
-    on : (b : Bool) → t y ≡ b → cond b (Some y) (find t xs) ≡ None → (find t xs ≡ None → filter t xs ≡ []) → cond b (y ∷ filter t xs) (filter t xs) ≡ []
-    on true e g k = absurd (cc)
-    on false e g k = k g
-
--- all of a range from a on are at or above k, where k is at most a
-keep_on : (a k : ℕ) (rest : List ℕ) (b : Bool) → k ≤ a → filter (nat_le k) rest ≡ rest → filter (nat_le k) (cond b (a ∷ rest) rest) ≡ cond b (a ∷ rest) rest
-keep_on a k rest true low r = let l : nat_le k a ≡ true = grind (arith, nat_tests) in rw l (ap (λ xs. a ∷ xs) r)
-keep_on a k rest false low r = r
-
-keep : (t : ℕ → Bool) (a n k : ℕ) → k ≤ a → filter (nat_le k) (filter t (range_with_len a n)) ≡ filter t (range_with_len a n)
-keep t a zero k low = refl
-keep t a (suc n) k low = keep_on a k (filter t (range_with_len (a + 1) n)) (t a) low (keep t (a + 1) n k (omega arith))
-
-next_at : (a k c : ℕ) (rest : List ℕ) (b : Bool) → nat_le k a ≡ b → cond b (Some a) (find (nat_le k) rest) ≡ Some c → ((j : ℕ) → j ≤ a + 1 → filter (nat_le j) rest ≡ rest) → (find (nat_le k) rest ≡ Some c → filter (nat_le k) rest ≡ c ∷ filter (nat_le (c + 1)) rest)
-    → cond b (a ∷ filter (nat_le k) rest) (filter (nat_le k) rest) ≡ c ∷ filter (nat_le (c + 1)) (a ∷ rest)
-next_at a k c rest true e h all later =
-    let same : a ≡ c = cc in
-    let low : k ≤ a = grind (arith, nat_tests) in
-    let off : nat_le (c + 1) a ≡ false = grind (arith, nat_tests) in
-    let left : filter (nat_le k) rest ≡ rest = all k (omega arith) in
-    let right : filter (nat_le (c + 1)) rest ≡ rest = all (c + 1) (omega arith) in
-    rw (off, left, right) (ap (λ x. x ∷ rest) same)
-next_at a k c rest false e h all later =
-    let above : nat_le k c ≡ true = found-passes (nat_le k) rest c h in
-    let off : nat_le (c + 1) a ≡ false = grind (arith, nat_tests) in
-    rw off (later h)
-
-next_on : (a k c : ℕ) (rest : List ℕ) (b : Bool) → find (nat_le k) (cond b (a ∷ rest) rest) ≡ Some c → ((j : ℕ) → j ≤ a + 1 → filter (nat_le j) rest ≡ rest) → (find (nat_le k) rest ≡ Some c → filter (nat_le k) rest ≡ c ∷ filter (nat_le (c + 1)) rest)
-    → filter (nat_le k) (cond b (a ∷ rest) rest) ≡ c ∷ filter (nat_le (c + 1)) (cond b (a ∷ rest) rest)
-next_on a k c rest true h all later = next_at a k c rest (nat_le k a) refl h all later
-next_on a k c rest false h all later = later h
-
--- the numbers from the found one on
-next-of : (t : ℕ → Bool) (a n k c : ℕ) → find (nat_le k) (filter t (range_with_len a n)) ≡ Some c → filter (nat_le k) (filter t (range_with_len a n)) ≡ c ∷ filter (nat_le (c + 1)) (filter t (range_with_len a n))
-next-of t a zero k c h = absurd (cc)
-next-of t a (suc n) k c h = next_on a k c (filter t (range_with_len (a + 1) n)) (t a) h (λ j low. keep t (a + 1) n j low) (λ g. next-of t (a + 1) n k c g)
 
 -- the allowed steps of the outstanding commands
 abbrev pub queued_steps : ℕ → Spe → List Step
@@ -199,22 +229,50 @@ mfc-cut p P = on (may_atomic P)
     on true = refl
     on false = refl
 
--- and those from number k on
-abbrev pub steps_from : ℕ → Spe → ℕ → List Step
-steps_from p P k = filter (may P) (flat_map (steps_of_number p P) (filter (nat_le k) (outstanding P)))
+-- and those of the commands from index i on
+abbrev pub steps_at : ℕ → Spe → ℕ → List Step
+steps_at p P i = filter (may P) (flat_map (steps_of_number p P) (drop i (outstanding P)))
 
-pub from-start : (p : ℕ) (P : Spe) → steps_from p P 0 ≡ queued_steps p P
-unfolding outstanding_of
-from-start p P = ap (λ xs. filter (may P) (flat_map (steps_of_number p P) xs)) (keep (λ c. not (is_complete P.moves c)) 0 (length P.moves.issued) 0 (omega arith))
+drop-next : (xs : List ℕ) (i c : ℕ) → slice_get xs i ≡ Some c → drop i xs ≡ c ∷ drop (i + 1) xs
+drop-next [] i c h = absurd (cc)
+drop-next (x ∷ xs) zero c h = let same : x ≡ c = cc in ap (λ y. y ∷ xs) same
+drop-next (x ∷ xs) (suc i) c h = let e : suc i + 1 ≡ suc (i + 1) = omega arith in drop-next xs i c h ∙ ap (λ k. c ∷ drop k (x ∷ xs)) (sym e)
 
-pub from-none : (p : ℕ) (P : Spe) (k : ℕ) → find (nat_le k) (outstanding P) ≡ None → steps_from p P k ≡ []
-from-none p P k h = ap (λ xs. filter (may P) (flat_map (steps_of_number p P) xs)) (none-found (nat_le k) (outstanding P) h)
+drop-end : (xs : List ℕ) (i : ℕ) → slice_get xs i ≡ None → drop i xs ≡ []
+drop-end [] zero h = refl
+drop-end [] (suc i) h = refl
+drop-end (x ∷ xs) zero h = absurd (cc)
+drop-end (x ∷ xs) (suc i) h = drop-end xs i h
 
-pub from-next : (p : ℕ) (P : Spe) (k c : ℕ) → find (nat_le k) (outstanding P) ≡ Some c → steps_from p P k ≡ allowed_of_number p P c ++ steps_from p P (c + 1)
-unfolding outstanding_of
-from-next p P k c h =
-    ap (λ xs. filter (may P) (flat_map (steps_of_number p P) xs)) (next-of (λ j. not (is_complete P.moves j)) 0 (length P.moves.issued) k c h)
-    ∙ filter-both (may P) (steps_of_number p P c) (flat_map (steps_of_number p P) (filter (nat_le (c + 1)) (filter (λ j. not (is_complete P.moves j)) (range_with_len 0 (length P.moves.issued)))))
+pub steps-end : (p : ℕ) (P : Spe) (i : ℕ) → slice_get (outstanding P) i ≡ None → steps_at p P i ≡ []
+steps-end p P i h = ap (λ xs. filter (may P) (flat_map (steps_of_number p P) xs)) (drop-end (outstanding P) i h)
+
+pub steps-next : (p : ℕ) (P : Spe) (i c : ℕ) → slice_get (outstanding P) i ≡ Some c → steps_at p P i ≡ allowed_of_number p P c ++ steps_at p P (i + 1)
+steps-next p P i c h =
+    ap (λ xs. filter (may P) (flat_map (steps_of_number p P) xs)) (drop-next (outstanding P) i c h)
+    ∙ filter-both (may P) (steps_of_number p P c) (flat_map (steps_of_number p P) (drop (i + 1) (outstanding P)))
+
+-- none is allowed where the controller is at fault
+faulted-may : (P : Spe) (s : Step) → is_faulted P.status ≡ true → may P s ≡ false
+unfolding may_piece may_elem may_retire may_atomic
+faulted-may P (Piece p c e k) h = rw h refl
+faulted-may P (Retire p c) h = rw h refl
+faulted-may P (Exec p) h = refl
+faulted-may P (Elem p c) h = rw h refl
+faulted-may P (Atomic p) h = rw h refl
+faulted-may P Host h = refl
+
+faulted-none : (P : Spe) (xs : List Step) → is_faulted P.status ≡ true → filter (may P) xs ≡ []
+faulted-none P [] h = refl
+faulted-none P (s ∷ xs) h = rw (faulted-may P s h) (faulted-none P xs h)
+
+pub steps-faulted : (p : ℕ) (P : Spe) → is_faulted P.status ≡ true → queued_steps p P ≡ []
+steps-faulted p P h = faulted-none P (flat_map (steps_of_number p P) (outstanding P)) h
+
+-- a place within the first of two lists
+pub at-within : (r : Result Step ℕ) (n : ℕ) (xs ys : List Step) → n < length xs → IsAt r n xs → IsAt r n (xs ++ ys)
+at-within (Ok s) n xs ys low h = at-here (Ok s) n xs ys s refl h
+at-within (Err k) n xs ys low h = absurd (omega arith)
 
 pub found-is : (calls : List Call) (P : Spe) (k : ℕ) (o : Option ℕ) → ShowsMoves calls P.moves → o ≡ find (nat_le k) (outstanding_calls calls) → find (nat_le k) (outstanding P) ≡ o
 found-is calls P k o shows h = ap (find (nat_le k)) (sym (outstanding-same calls P shows)) ∙ sym h

@@ -37,6 +37,10 @@ pub not_of : (b : Bool) → not b ≡ true → b ≡ false
 not_of true h = absurd (true≢false (sym h))
 not_of false h = refl
 
+pub on_of : (b : Bool) → not b ≡ false → b ≡ true
+on_of true h = refl
+on_of false h = absurd (true≢false h)
+
 pub and_off : (a b : Bool) → b ≡ false → (a && b) ≡ false
 and_off true b h = h
 and_off false b h = refl

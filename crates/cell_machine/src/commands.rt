@@ -1,18 +1,18 @@
 //! The queued commands of a processor, and how far its lists have come.
 
-ghost use Rattle.std.specs.Prelude.{◌≡◌, ◌≢◌, ℕ, ◌+◌, ◌<◌, ◌≤◌, [], ◌∷◌, length, is_some, true, false, None, Some, List, IfSome, IfNone, IsSome, slice_get, filter_map};
+ghost use Rattle.std.specs.Prelude.{◌≡◌, ◌≢◌, ℕ, ◌+◌, ◌++◌, ◌<◌, ◌≤◌, [], ◌∷◌, length, is_some, true, false, None, Some, List, IfSome, IfNone, IsSome, slice_get, filter_map, if◌then◌else◌};
 ghost use Rattle.std.specs.Bool.{OnTrue};
 ghost use Rattle.mfc_command.specs.declared.command.Command.{Command};
 ghost use Rattle.mfc_command.specs.declared.command.Order.TheVariants.{Queued};
 ghost use Rattle.mfc_command.specs.Check.{OrderFits};
 ghost use Rattle.mfc_command.specs.Order.{is_list};
 ghost use Rattle.mfc_lists.specs.declared.Element.{Element};
-ghost use Rattle.mfc_lists.specs.Readings.{Reading, StandsFor as StandsForReading, current, finished, with_element, current_of, has_next};
-ghost use Rattle.mfc_queue.specs.Calls.{Call, outstanding};
-ghost use Rattle.mfc_queue.specs.Stands.{StandsFor, IsOneOf};
+ghost use Rattle.mfc_lists.specs.Readings.{Reading, StandsFor as StandsForReading, current, finished, with_element, current_of, has_next, is_complete as is_complete_reading};
+ghost use Rattle.mfc_queue.specs.Calls.{Call, Retire, outstanding, busy};
+ghost use Rattle.mfc_queue.specs.Stands.{StandsFor, IsOneOf, IsSeen};
 ghost use Rattle.cell_machine.specs.Spe.{Moves};
 ghost use Rattle.mfc_lists.specs.Elements.{ElementFits};
-ghost use Rattle.cell_machine.specs.Moves.{is_moved, read_of, whole, present, is_stalled, stall_of_tag, stalls_of_tag};
+ghost use Rattle.cell_machine.specs.Moves.{is_moved, is_complete, read_of, whole, present, is_stalled, stall_of_tag, stalls_of_tag};
 ghost use Rattle.cell_machine.specs.Channels.{with_issued, with_resumed};
 ghost use Rattle.cell_machine.specs.Transfers.{begins, has_part, has_element, is_left, with_done, with_read, with_retired};
 ghost use Rattle.cell_machine.specs.MovesShown.{parts_now, reading};
@@ -22,7 +22,7 @@ ghost use Rattle.cell_machine.specs.Shown.{parts_left, shown};
 use crate::outstanding::Outstanding;
 use mfc_command::{Command, Kind, parts};
 use mfc_lists::{Element, ListState};
-use mfc_queue::Queue;
+use mfc_queue::{Queue, Waiting};
 
 /// The queue, and how far each list in it has come.
 #[derive(Drop)]
@@ -49,7 +49,7 @@ fn is_list(kind: Kind) -> bool
 }
 
 /// Whether a command is moved, element by element, and not retired.
-fn is_moved(command: &Command) -> bool
+pub(crate) fn is_moved(command: &Command) -> bool
     ensures { result ≡ is_moved command.now }
 {
     match command.kind {
@@ -92,6 +92,16 @@ fn parts_begun(command: &Command) -> u32
     } else {
         0
     }
+}
+
+/// Whether a list is complete once its element in progress has ended.
+fn ends(list: ListState) -> bool
+    requires { IsSome (current_of list) }
+    ensures { (r : Reading) (x : Element) → StandsForReading list r → current r ≡ Some x → result ≡ is_complete_reading (finished r x) }
+{
+    let mut ended = list;
+    ended.finish();
+    ended.complete()
 }
 
 impl Commands {
@@ -142,28 +152,48 @@ impl Commands {
     // ---- what may be done
 
     /// How far an outstanding command has come, if it is a list.
-    fn list(&self, cmd: u32) -> Option<ListState>
+    fn list(&self, cmd: u32, w: Waiting) -> Option<ListState>
+        requires { IsSeen self.now.queue cmd w }
+        ensures { (m : Moves) (d : Command) → ShowsCommands self.now m → slice_get m.issued cmd ≡ Some d → IsListOf result m cmd d }
+    {
+        if is_list(w.command.kind) {
+            self.lists[w.place as usize]
+        } else {
+            None
+        }
+    }
+
+    /// The same by its number.
+    fn list_of(&self, cmd: u32) -> Option<ListState>
         requires { IsOneOf self.now.queue cmd }
         ensures { (m : Moves) (d : Command) → ShowsCommands self.now m → slice_get m.issued cmd ≡ Some d → IsListOf result m cmd d }
     {
-        if !is_list(self.queue.command(cmd).kind) {
-            return None;
-        }
-        match self.queue.place(cmd) {
-            Some(place) => self.lists[place as usize],
-            None => None,
+        match self.queue.look(cmd) {
+            Some(w) => self.list(cmd, w),
+            None => unreachable!(),
         }
     }
 
     /// The element of an outstanding command that has parts left, if there is one.
-    pub(crate) fn element(&self, cmd: u32) -> Option<Element>
-        requires { IsOneOf self.now.queue cmd }
+    pub(crate) fn element(&self, cmd: u32, w: Waiting) -> Option<Element>
+        requires { IsSeen self.now.queue cmd w }
         ensures some { IfSome result (λ x. (m : Moves) (d : Command) → ShowsCommands self.now m → slice_get m.issued cmd ≡ Some d → present m.read cmd d ≡ Some x) }
         ensures none { IfNone result ((m : Moves) (d : Command) (e k : ℕ) → ShowsCommands self.now m → slice_get m.issued cmd ≡ Some d → has_part m cmd e k d ≡ false) }
     {
-        match self.list(cmd) {
+        match self.list(cmd, w) {
             Some(list) => list.current(),
-            None => Some(whole(&self.queue.command(cmd))),
+            None => Some(whole(&w.command)),
+        }
+    }
+
+    /// Whether an outstanding command is a list whose next element may be read once the command may start.
+    pub(crate) fn has_element(&self, cmd: u32, w: Waiting) -> bool
+        requires { IsSeen self.now.queue cmd w }
+        ensures { (m : Moves) (d : Command) → ShowsCommands self.now m → slice_get m.issued cmd ≡ Some d → result ≡ has_element m cmd d }
+    {
+        match self.list(cmd, w) {
+            Some(list) => list.next_at().is_some(),
+            None => false,
         }
     }
 
@@ -174,10 +204,10 @@ impl Commands {
         ensures some { IfSome result (λ x. (m : Moves) (d : Command) → ShowsCommands self.now m → slice_get m.issued cmd ≡ Some d → present m.read cmd d ≡ Some x) }
         ensures there { IfSome result (λ x. IsOneOf self.now.queue cmd) }
     {
-        if self.queue.place(cmd).is_none() {
+        let Some(w) = self.queue.look(cmd) else {
             return None;
-        }
-        let x = self.element(cmd)?;
+        };
+        let x = self.element(cmd, w)?;
         if x.number != elem {
             return None;
         }
@@ -187,7 +217,7 @@ impl Commands {
         if self.queue.done(cmd, k) {
             return None;
         }
-        if !self.queue.may_start(cmd) {
+        if !w.may_start {
             return None;
         }
         Some(x)
@@ -201,16 +231,16 @@ impl Commands {
         ensures next { IfSome result (λ s. has_next s ≡ true) }
         ensures there { IfSome result (λ s. IsOneOf self.now.queue cmd) }
     {
-        if self.queue.place(cmd).is_none() {
+        let Some(w) = self.queue.look(cmd) else {
             return None;
-        }
-        let Some(list) = self.list(cmd) else {
+        };
+        let Some(list) = self.list(cmd, w) else {
             return None;
         };
         if list.next_at().is_none() {
             return None;
         }
-        if !self.queue.may_start(cmd) {
+        if !w.may_start {
             return None;
         }
         Some(list)
@@ -222,13 +252,13 @@ impl Commands {
         ensures may { (m : Moves) → ShowsCommands self.now m → result ≡ begins m cmd (is_left m cmd) }
         ensures there { OnTrue result (IsOneOf self.now.queue cmd) }
     {
-        if self.queue.place(cmd).is_none() {
+        let Some(w) = self.queue.look(cmd) else {
+            return false;
+        };
+        if is_moved(&w.command) {
             return false;
         }
-        if is_moved(&self.queue.command(cmd)) {
-            return false;
-        }
-        self.queue.may_start(cmd)
+        w.may_start
     }
 
     // ---- what is shown
@@ -255,7 +285,7 @@ impl Commands {
         let command = self.queue.command(cmd);
         let parts = self.queue.parts(cmd);
         let left = self.parts_left(cmd);
-        match self.list(cmd) {
+        match self.list_of(cmd) {
             Some(list) => Outstanding {
                 number,
                 command,
@@ -274,6 +304,46 @@ impl Commands {
                 left,
                 stalled: false,
             },
+        }
+    }
+
+    // ---- what would be done
+
+    /// Whether a command is complete once part `k` of it is done.
+    pub(crate) fn ends_by_part(&self, cmd: u32, k: u32) -> bool
+        requires { CanMark self.now cmd k }
+        ensures { (m : Moves) (d : Command) (e : ℕ) → ShowsCommands self.now m → slice_get m.issued cmd ≡ Some d → has_part m cmd e k d ≡ true → result ≡ is_complete (with_done m cmd e k) cmd }
+    {
+        if !self.queue.completes(cmd, k) {
+            return false;
+        }
+        match self.list_of(cmd) {
+            Some(list) => ends(list),
+            None => true,
+        }
+    }
+
+    /// Whether a command is complete once an element was read into this state of its list.
+    pub(crate) fn ends_by_element(&self, lines: u32, cmd: u32, list: ListState, x: Element) -> bool
+        requires read { HasRead self.now cmd list x }
+        requires fits { ElementFits lines x }
+        requires lines { lines ≤ 524288 }
+        ensures { (m : Moves) (d : Command) → ShowsCommands self.now m → slice_get m.issued cmd ≡ Some d → has_element m cmd d ≡ true → x.number ≡ length (read_of m.read cmd) → StandsForReading list (with_element (reading m cmd d) x) → result ≡ is_complete (with_read m cmd x) cmd }
+    {
+        if parts(x.ea, x.size) != 0 {
+            return false;
+        }
+        ends(list)
+    }
+
+    /// The tag groups that are busy once an outstanding command ends, or goes on.
+    pub(crate) fn busy_if(&self, cmd: u32, ends: bool) -> u32
+        ensures { (calls : List Call) → StandsFor self.now.queue calls → result ≡ (if ends then busy (calls ++ Retire cmd ∷ []) else busy calls) }
+    {
+        if ends {
+            self.queue.busy_without(cmd)
+        } else {
+            self.queue.busy()
         }
     }
 
@@ -320,7 +390,7 @@ impl Commands {
         requires { CanMark self.old cmd k }
         ensures { (m : Moves) (d : Command) (e : ℕ) → ShowsCommands self.old m → slice_get m.issued cmd ≡ Some d → has_part m cmd e k d ≡ true → ShowsCommands self.new (with_done m cmd e k) × (result ≡ is_stalled (with_done m cmd e k) cmd d) }
     {
-        let list = self.list(cmd);
+        let list = self.list_of(cmd);
         if !self.queue.mark(cmd, k) {
             return false;
         }
@@ -366,7 +436,7 @@ impl Commands {
         if u32::from(self.queue.command(cmd).tag) != tag {
             return;
         }
-        let Some(list) = self.list(cmd) else {
+        let Some(list) = self.list_of(cmd) else {
             return;
         };
         if !list.stalled() {

@@ -1,6 +1,7 @@
 //! Whether a tag status is fixed at the end of a step, asked before the step is made.
 //!
-//! What a step makes of the queue is made of a copy, and only where a request is pending.
+//! Only where a request is pending is it asked what the step leaves outstanding. A step of a queued command ends that one or none; what is
+//! issued or acknowledged is so of a copy.
 
 ghost use Rattle.std.specs.Prelude.{◌≡◌, ℕ, ◌≤◌, ◌<◌, List, Some, true, false, length, slice_get};
 ghost use Rattle.cell_base.specs.declared.steps.ChannelOp.{ChannelOp};
@@ -56,9 +57,8 @@ impl Processor {
         if !self.tags.pending() {
             return false;
         }
-        let mut after = self.commands.copy();
-        after.mark(cmd, k);
-        self.fixes_with(&after)
+        let ends = self.commands.ends_by_part(cmd, k);
+        self.tags.would_settle(self.commands.busy_if(cmd, ends))
     }
 
     /// Whether it is by the reading of an element, into this state of its list.
@@ -71,9 +71,8 @@ impl Processor {
         if !self.tags.pending() {
             return false;
         }
-        let mut after = self.commands.copy();
-        after.begin(lines, cmd, list, x);
-        self.fixes_with(&after)
+        let ends = self.commands.ends_by_element(lines, cmd, list, x);
+        self.tags.would_settle(self.commands.busy_if(cmd, ends))
     }
 
     /// Whether it is by the retirement of a command.
@@ -84,9 +83,8 @@ impl Processor {
         if !self.tags.pending() {
             return false;
         }
-        let mut after = self.commands.copy();
-        after.retire(cmd);
-        self.fixes_with(&after)
+        self.tags
+            .would_settle(self.commands.queue.busy_without(cmd))
     }
 
     /// Whether it is by the issue of a command, for which there is room.

@@ -1,7 +1,9 @@
 //! One processor.
 
-ghost use Rattle.std.specs.Prelude.{◌≡◌, ℕ, ◌+◌, ◌<◌, ◌≤◌, List, length, is_some, None, Some, false, IfOk, IsSome, IsSomeAnd, MatchBool, All};
+ghost use Rattle.std.specs.Prelude.{◌≡◌, ℕ, ◌+◌, ◌<◌, ◌≤◌, List, length, is_some, None, Some, true, false, IfOk, IsSome, IsSomeAnd, MatchBool, All};
 ghost use Rattle.spu_decode.specs.declared.Instr.{Instr};
+ghost use Rattle.spu_decode.specs.Spelling.{FieldsFit, instr_of};
+ghost use Rattle.local_store.specs.Store.{word_at};
 ghost use Rattle.spu_exec.specs.Meaning.{meaning};
 ghost use Rattle.std.specs.Bool.{OnFalse};
 ghost use Rattle.spu_exec.specs.Places.{IsPlace, LeadsToPlace, RegisterFits};
@@ -28,7 +30,7 @@ use cell_channels::Channels;
 use cell_signals::{Events, Signals};
 use local_store::LocalStore;
 use mailboxes::Mailbox;
-use spu_decode::{Row, decode, row_spelled};
+use spu_decode::{Instr, Row, decode, row_spelled};
 use spu_exec::{Flow, exec};
 use spu_regs::Regs;
 use std::alloc::Global;
@@ -158,6 +160,18 @@ impl Processor {
         }
     }
 
+    /// Whether the instruction at the PC is allowed, where it runs: a channel that it asks for is ready.
+    #[inline(always)]
+    fn may_make(&self, instruction: Instr) -> bool
+        requires { FieldsFit instruction }
+        ensures { (lines : ℕ) (P : Spe) → ShowsSpe self.now P → is_running self.now.status ≡ true → instr_of (word_at self.now.store self.now.pc) ≡ Some instruction → result ≡ is_some (exec lines P) }
+    {
+        match operation(instruction, &self.registers) {
+            Some(op) => self.is_ready(op),
+            None => true,
+        }
+    }
+
     /// Makes the next instruction, and says whether it was allowed. Where it wasn't, nothing changes.
     fn exec(&mut self, lines: u32) -> bool
         requires number { CanIssue self.old.commands }
@@ -172,6 +186,9 @@ impl Processor {
             self.status = Status::BadWord;
             return true;
         };
+        if !self.may_make(instruction) {
+            return false;
+        }
         let flow = exec(instruction, self.pc, &mut self.registers, &mut self.store);
         self.follow(lines, flow)
     }
@@ -205,10 +222,7 @@ impl Processor {
         let Some(instruction) = decode(word) else {
             return true;
         };
-        match operation(instruction, &self.registers) {
-            Some(op) => self.is_ready(op),
-            None => true,
-        }
+        self.may_make(instruction)
     }
 
     /// Whether it doesn't run, its atomic slot is free and it has nothing outstanding.

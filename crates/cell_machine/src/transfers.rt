@@ -10,7 +10,7 @@ ghost use Rattle.cell_machine.specs.Spe.{Spe, is_faulted};
 ghost use Rattle.cell_machine.specs.Memory.{MainMemory, stored};
 ghost use Rattle.cell_machine.specs.Moves.{parts_in};
 ghost use Rattle.cell_machine.specs.Kept.{IsKept};
-ghost use Rattle.cell_machine.specs.Transfers.{may_elem, may_retire, piece, elem, retire, copied, delivery, moved, is_put, is_signal, part_in, told};
+ghost use Rattle.cell_machine.specs.Transfers.{may_retire, piece, elem, retire, copied, delivery, moved, is_put, is_signal, part_in, told};
 ghost use Rattle.cell_machine.specs.Limits.{IsRegister};
 ghost use Rattle.cell_machine.specs.Shows.{ShowsMemory, Loses, Reaches, IsDelivery, IsSignal, Makes};
 ghost use Rattle.cell_machine.specs.OwnEvents.{with_flow, with_fixed};
@@ -192,14 +192,6 @@ impl Processor {
         let stalls = self.commands.mark(cmd, k as u32);
         self.tell(stalls, command.tag);
         Some(reach)
-    }
-
-    /// Whether the next element of a command may be read.
-    pub(crate) fn may_elem(&self, cmd: u32) -> bool
-        requires { IsKept self.now.commands.queue }
-        ensures { (P : Spe) → ShowsSpe self.now P → result ≡ may_elem P cmd }
-    {
-        !self.is_faulted() && self.commands.next_list(cmd).is_some()
     }
 
     /// Reads the next element of a list, if that is allowed. A faulty one takes the place of any status.

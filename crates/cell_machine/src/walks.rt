@@ -1,18 +1,20 @@
 //! The allowed steps of a flow controller: that of its atomic command, then those of its queued ones in the order of their numbers and parts.
 
-ghost use Rattle.std.specs.Prelude.{◌≡◌, ◌%◌, ◌<◌, [], ◌∷◌, Some, length, filter, flat_map, slice_get, if◌then◌else◌};
+ghost use Rattle.std.specs.Prelude.{◌≡◌, ℕ, true, false, ◌%◌, ◌<◌, [], ◌∷◌, Some, length, filter, flat_map, slice_get, if◌then◌else◌};
 ghost use Rattle.std.specs.Option.{option_map_or};
 ghost use Rattle.mfc_queue.specs.At.{IsAt};
-ghost use Rattle.mfc_queue.specs.Stands.{IsOneOf};
+ghost use Rattle.mfc_queue.specs.Stands.{IsSeen};
 ghost use Rattle.mfc_command.specs.declared.command.Command.{Command};
-ghost use Rattle.cell_machine.specs.Spe.{Spe};
-ghost use Rattle.cell_machine.specs.Moves.{present, outstanding};
+ghost use Rattle.cell_machine.specs.Spe.{Spe, is_faulted};
+ghost use Rattle.cell_machine.specs.Moves.{present, outstanding, may_begin};
 ghost use Rattle.cell_machine.specs.Run.{pieces_of, steps_of_number};
 ghost use Rattle.cell_machine.specs.Kept.{IsKept};
 ghost use Rattle.cell_machine.specs.Choices.{may, allowed_of_number, allowed_of_mfc};
 
+use crate::commands::is_moved;
 use crate::processor::Processor;
 use cell_base::Step;
+use mfc_queue::Waiting;
 
 /// A step that is allowed or not at place `n`, or how far `n` is behind it.
 fn alone(step: Step, allowed: bool, n: u64) -> Result<Step, u64>
@@ -27,21 +29,36 @@ fn alone(step: Step, allowed: bool, n: u64) -> Result<Step, u64>
     Ok(step)
 }
 
+/// How many steps a step is that is allowed or not.
+fn one_if(allowed: bool) -> u64
+    ensures { result ≡ (if allowed then 1 else 0) }
+{
+    if allowed { 1 } else { 0 }
+}
+
 impl Processor {
     ghost use Rattle.cell_machine.specs.Shows.{ShowsSpe};
 
-    /// The allowed piece of a command at place `n`, or how far `n` is behind the last one.
-    fn piece_at(&self, spe: u8, cmd: u32, n: u64) -> Result<Step, u64>
-        requires { IsOneOf self.now.commands.queue cmd }
-        ensures { (P : Spe) (d : Command) → ShowsSpe self.now P → slice_get P.moves.issued cmd ≡ Some d → IsAt result n (filter (may P) (option_map_or (pieces_of spe cmd) (present P.moves.read cmd d) [])) }
+    /// How many allowed steps an outstanding command has, where the controller isn't at fault.
+    fn count_of_command(&self, cmd: u32, w: Waiting) -> u64
+        requires { IsSeen self.now.commands.queue cmd w }
+        ensures { (spe : ℕ) (P : Spe) → ShowsSpe self.now P → is_faulted P.status ≡ false → result ≡ length (allowed_of_number spe P cmd) }
     {
-        if self.is_faulted() {
-            return Err(n);
+        if !w.may_start {
+            return 0;
         }
-        if !self.commands.queue.may_start(cmd) {
-            return Err(n);
-        }
-        let Some(x) = self.commands.element(cmd) else {
+        let element = one_if(self.commands.has_element(cmd, w));
+        let retirement = one_if(!is_moved(&w.command));
+        element + retirement + u64::from(w.left)
+    }
+
+    /// The allowed piece of a command that may start, at place `n`, or how far `n` is behind the last one.
+    fn piece_at(&self, spe: u8, cmd: u32, w: Waiting, n: u64) -> Result<Step, u64>
+        requires kept { IsKept self.now.commands.queue }
+        requires seen { IsSeen self.now.commands.queue cmd w }
+        ensures { (P : Spe) (d : Command) → ShowsSpe self.now P → is_faulted P.status ≡ false → may_begin P.moves cmd ≡ true → slice_get P.moves.issued cmd ≡ Some d → IsAt result n (filter (may P) (option_map_or (pieces_of spe cmd) (present P.moves.read cmd d) [])) }
+    {
+        let Some(x) = self.commands.element(cmd, w) else {
             return Err(n);
         };
         let part = self.commands.queue.left_at(cmd, n)?;
@@ -53,35 +70,48 @@ impl Processor {
         })
     }
 
-    /// The allowed step of a command at place `n`, or how far `n` is behind the last one.
-    fn step_of_command(&self, spe: u8, cmd: u32, n: u64) -> Result<Step, u64>
+    /// The allowed step of a command at place `n`, or how far `n` is behind the last one, where the controller isn't at fault.
+    fn step_of_command(&self, spe: u8, cmd: u32, w: Waiting, n: u64) -> Result<Step, u64>
         requires kept { IsKept self.now.commands.queue }
-        requires one { IsOneOf self.now.commands.queue cmd }
-        ensures { (P : Spe) (d : Command) → ShowsSpe self.now P → slice_get P.moves.issued cmd ≡ Some d → IsAt result n (allowed_of_number spe P cmd) }
+        requires seen { IsSeen self.now.commands.queue cmd w }
+        ensures { (P : Spe) → ShowsSpe self.now P → is_faulted P.status ≡ false → IsAt result n (allowed_of_number spe P cmd) }
     {
-        let behind = match alone(Step::Elem { spe, cmd }, self.may_elem(cmd), n) {
+        if !w.may_start {
+            return Err(n);
+        }
+        let behind = match alone(
+            Step::Elem { spe, cmd },
+            self.commands.has_element(cmd, w),
+            n,
+        ) {
             Ok(step) => return Ok(step),
             Err(behind) => behind,
         };
-        match alone(Step::Retire { spe, cmd }, self.may_retire(cmd), behind) {
+        match alone(Step::Retire { spe, cmd }, !is_moved(&w.command), behind) {
             Ok(step) => Ok(step),
-            Err(behind) => self.piece_at(spe, cmd, behind),
+            Err(behind) => self.piece_at(spe, cmd, w, behind),
         }
     }
 
     /// The allowed step of a queued command at place `n`, or how far `n` is behind the last one.
+    ///
+    /// The commands before that one are only counted.
     fn step_of_queue(&self, spe: u8, n: u64) -> Result<Step, u64>
         requires { IsKept self.now.commands.queue }
         ensures { (P : Spe) → ShowsSpe self.now P → IsAt result n (filter (may P) (flat_map (steps_of_number spe P) (outstanding P))) }
     {
-        let mut next = 0;
+        if self.is_faulted() {
+            return Err(n);
+        }
+        let mut i = 0;
         let mut rest = n;
-        while let Some(cmd) = self.commands.queue.outstanding_from(next) {
-            match self.step_of_command(spe, cmd, rest) {
-                Ok(step) => return Ok(step),
-                Err(behind) => rest = behind,
+        while let Some((cmd, w)) = self.commands.queue.outstanding_at(i) {
+            let count = self.count_of_command(cmd, w);
+            if rest < count {
+                return self.step_of_command(spe, cmd, w, rest);
             }
-            next = cmd + 1;
+            rest -= count;
+            i += 1;
         }
         Err(rest)
     }

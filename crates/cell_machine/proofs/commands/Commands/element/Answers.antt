@@ -17,5 +17,5 @@ returns-in-Some-clause-none c = on_none c.current.result _ (λ is m d e k shows 
 
 pub returns-in-None-clause-some : goal.returns-in-None-clause-some
 returns-in-None-clause-some c = λ m d shows at.
-    let same = command-is shows.calls m c.args.cmd c.command.result d shows.moves (c.command.ensures.command shows.calls shows.stands) at in
+    let same = command-is shows.calls m c.args.cmd c.args.w.command d shows.moves (c.requires.waits shows.calls shows.stands).command at in
     present-plain m c.args.cmd d (plain-kind m c.args.cmd d c.list.result (c.list.ensures m d shows at) c.in-None.is) ∙ ap (λ y. Some (whole y)) (sym same) ∙ ap (λ x. Some x) (sym c.whole.ensures)

@@ -18,20 +18,20 @@ returns-then-from-tag c = λ m shows.
 pub returns-then-not-stalled : goal.returns-then-not-stalled
 returns-then-not-stalled c = λ m shows.
     let at = issued-at shows.calls m c.args.cmd c.command.result shows.moves (c.command.ensures.command shows.calls shows.stands) in
-    let l = list-kind m c.args.cmd c.command.result c.list.result c.in-Some.list (c.list.ensures m c.command.result shows at) c.in-Some.is in
+    let l = list-kind m c.args.cmd c.command.result c.list_of.result c.in-Some.list (c.list_of.ensures m c.command.result shows at) c.in-Some.is in
     resume-none c.args.self.now.queue c.args.self.now.lists m c.args.tag c.args.cmd shows (stall-none m c.args.tag c.args.cmd c.command.result at (inr (sym (c.stalled.ensures.stalled _ l.1) ∙ c.if-not-stalled.true)))
 
 pub returns-in_default : goal.returns-in_default
 returns-in_default c = λ m shows.
     let at = issued-at shows.calls m c.args.cmd c.command.result shows.moves (c.command.ensures.command shows.calls shows.stands) in
     resume-none c.args.self.now.queue c.args.self.now.lists m c.args.tag c.args.cmd shows
-    (stall-none m c.args.tag c.args.cmd c.command.result at (inr (plain-unstalled m c.args.cmd c.command.result (plain-kind m c.args.cmd c.command.result c.list.result (c.list.ensures m c.command.result shows at) c.in_default.is))))
+    (stall-none m c.args.tag c.args.cmd c.command.result at (inr (plain-unstalled m c.args.cmd c.command.result (plain-kind m c.args.cmd c.command.result c.list_of.result (c.list_of.ensures m c.command.result shows at) c.in_default.is))))
 
 pub returns : goal.returns
 returns c = λ m shows.
     let d = c.command.result in
     let at = issued-at shows.calls m c.args.cmd d shows.moves (c.command.ensures.command shows.calls shows.stands) in
-    let l = list-kind m c.args.cmd d c.list.result c.in-Some.list (c.list.ensures m d shows at) c.in-Some.is in
+    let l = list-kind m c.args.cmd d c.list_of.result c.in-Some.list (c.list_of.ensures m d shows at) c.in-Some.is in
     let same : (d.tag == c.args.tag) ≡ true = (let e = c.from.ensures in let n = c.if-from-tag.false in grind (arith, nat_tests)) in
     let stalled = sym (c.stalled.ensures.stalled _ l.1) ∙ c.if-not-stalled.false in
     let s = stall-some m c.args.tag c.args.cmd d at same stalled in

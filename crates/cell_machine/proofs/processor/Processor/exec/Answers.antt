@@ -5,6 +5,7 @@ use Rattle.local_store.specs.Store.{word_at}
 use Rattle.cell_machine.specs.declared.status.Status.TheVariants.{BadWord}
 use Rattle.cell_machine.specs.Spe.{is_running}
 use Rattle.cell_machine.specs.Shows.{ShowsSpe}
+use Rattle.cell_machine.proofs.AllTwo.{none_of}
 use Rattle.cell_machine.proofs.Freed.{kept-same}
 use Rattle.cell_machine.proofs.Execs.{exec-stopped, exec-bad_word, exec-follows, exec-refused, place-prop, none_there}
 use Rattle.cell_machine.proofs.processor.Processor.exec.Goals as goal
@@ -18,6 +19,10 @@ returns-in_default-clause-made c = λ P shows.
     ap instr_of (sym c.word.ensures) ∙ sym c.decode.ensures.means ∙ none_there c.decode.result c.in_default.not-Some in
     let bad = exec-bad_word c.args.lines c.args.self.now P shows (sym c.is_running.ensures ∙ c.if-not-is_running.false) none in
     rw bad (subst (ShowsSpe _) (sym (kept-same P (record P { status = BadWord }) refl).is) (record { status = refl; pc = shows.pc; registers = shows.registers; store = shows.store; inbound = shows.inbound; outbound = shows.outbound; interrupt = shows.interrupt; channels = shows.channels; tags = shows.tags; signals = shows.signals; events = shows.events; queue = shows.queue }))
+
+pub returns-then-not-may_make-clause-made : goal.returns-then-not-may_make-clause-made
+returns-then-not-may_make-clause-made c = λ P shows.
+    none_of _ (sym (c.may_make.ensures c.args.lines P (record { status = shows.status; pc = shows.pc; registers = shows.registers; store = shows.store; inbound = shows.inbound; outbound = shows.outbound; interrupt = shows.interrupt; channels = shows.channels; tags = shows.tags; signals = shows.signals; events = shows.events; queue = shows.queue }) (sym c.is_running.ensures ∙ c.if-not-is_running.false) (ap instr_of (sym c.word.ensures) ∙ sym c.decode.ensures.means ∙ c.in-Some.is)) ∙ c.if-not-may_make.true)
 
 pub returns-clause-made : goal.returns-clause-made
 returns-clause-made c = λ P shows.

@@ -4,7 +4,7 @@ use Rattle.spu_decode.specs.declared.Instr.{Instr}
 use Rattle.std.specs.Prelude.{is_some}
 use Rattle.spu_decode.specs.Spelling.{instr_of}
 use Rattle.cell_machine.specs.Spe.{is_running}
-use Rattle.cell_machine.proofs.Execs.{exec-stopped, may-bad_word, may-operate, may-go_on, may-quiet, none_there}
+use Rattle.cell_machine.proofs.Execs.{exec-stopped, may-bad_word, may-quiet, none_there}
 use Rattle.cell_machine.proofs.processor.Processor.may_exec.Goals as goal
 
 pub returns-then-not-is_running : goal.returns-then-not-is_running
@@ -15,17 +15,9 @@ returns-in_default c = λ lines P shows.
     may-bad_word lines c.args.self.now P shows (sym c.is_running.ensures ∙ c.if-not-is_running.false)
     (ap instr_of (sym c.word-word.ensures) ∙ sym c.decode.ensures.means ∙ none_there c.decode.result c.in_default.not-Some)
 
-pub returns-in-Some-operation : goal.returns-in-Some-operation
-returns-in-Some-operation c = λ lines P shows.
-    may-operate lines c.args.self.now P c.in-Some.instruction c.in-Some-operation.op _ shows (sym c.is_running.ensures ∙ c.if-not-is_running.false)
-    (ap instr_of (sym c.word-word.ensures) ∙ sym c.decode.ensures.means ∙ c.in-Some.is)
-    (sym c.in-Some-operation.is ∙ c.operation.ensures c.args.self.now.pc c.args.self.now.store) c.is_ready.ensures
-
-pub returns-in-None : goal.returns-in-None
-returns-in-None c = λ lines P shows.
-    may-go_on lines c.args.self.now P c.in-Some.instruction shows (sym c.is_running.ensures ∙ c.if-not-is_running.false)
-    (ap instr_of (sym c.word-word.ensures) ∙ sym c.decode.ensures.means ∙ c.in-Some.is)
-    (sym c.in-None.is ∙ c.operation.ensures c.args.self.now.pc c.args.self.now.store)
+pub returns : goal.returns
+returns c = λ lines P shows.
+    c.may_make.ensures lines P shows (sym c.is_running.ensures ∙ c.if-not-is_running.false) (ap instr_of (sym c.word-word.ensures) ∙ sym c.decode.ensures.means ∙ c.in-Some.is)
 
 pub returns-then-not-may_operate : goal.returns-then-not-may_operate
 returns-then-not-may_operate c = λ lines P shows.
