@@ -59,13 +59,6 @@ pub complete_or : (b : Bool) (Q : Type 0) → (b ≡ true → Q) → (b ≡ fals
 complete_or true Q yes_it no_it = yes_it refl
 complete_or false Q yes_it no_it = no_it refl
 
--- a command has a place where it is outstanding
-pub placed : (o : Option ℕ) (b : Bool) → is_some o ≡ b → (none : Bool) → is_some o ≡ not none → none ≡ false → b ≡ true
-placed o b h none is off = sym h ∙ is ∙ ap not off
-
-pub not_placed : (o : Option ℕ) (b : Bool) → is_some o ≡ b → (none : Bool) → is_some o ≡ not none → none ≡ true → b ≡ false
-not_placed o b h none is on = sym h ∙ is ∙ ap not on
-
 pub on_true : {Q : Type 0} (b : Bool) → Q → OnTrue b Q
 on_true true q = q
 on_true false q = tt

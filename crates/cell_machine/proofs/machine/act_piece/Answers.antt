@@ -1,7 +1,7 @@
 use Rattle.std.proofs.Common.{arith, sym}
 use Rattle.std.proofs.lemmas.List.{length-set}
 use Rattle.lock_lines.specs.Stands.{line_count}
-use Rattle.cell_machine.specs.Transfers.{elem, piece}
+use Rattle.cell_machine.specs.Transfers.{piece}
 use Rattle.cell_machine.specs.Shows.{reservations}
 use Rattle.cell_machine.proofs.AllTwo.{none-made}
 use Rattle.cell_machine.proofs.Steps.{act-absent}

@@ -1,7 +1,7 @@
-use Rattle.std.proofs.Common.{◌≡◌, sym, ◌∙◌, ap, not}
+use Rattle.std.proofs.Common.{sym, ◌∙◌, ap, not}
 use Rattle.std.specs.Prelude.{length}
 use Rattle.cell_machine.proofs.Places.{waits-none, count-begun, elem-begun, retire-begun}
-use Rattle.cell_machine.proofs.SpeShown.{begin-is, issued-at, open-of, command-is}
+use Rattle.cell_machine.proofs.SpeShown.{begin-is, issued-at, open-of}
 use Rattle.cell_machine.proofs.processor.Processor.count_of_command.Goals as goal
 
 pub returns-then-not-w : goal.returns-then-not-w

@@ -1,4 +1,4 @@
-use Rattle.std.proofs.Common.{◌∷◌, [], ◌++◌, false, sym, ◌∙◌, ap}
+use Rattle.std.proofs.Common.{◌∷◌, [], ◌++◌, false, ◌∙◌, ap}
 use Rattle.std.specs.Option.{option_map_or}
 use Rattle.tag_groups.specs.Settle.{is_met}
 use Rattle.mfc_queue.specs.Calls.{Mark}

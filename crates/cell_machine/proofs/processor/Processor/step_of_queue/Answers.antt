@@ -1,5 +1,5 @@
-use Rattle.std.proofs.Common.{◌≡◌, ◌+◌, ◌-◌, ◌<◌, length, arith, sym, ◌∙◌, ap, subst, refl}
-use Rattle.std.specs.Prelude.{Ok, Err, Some, option_map, slice_get}
+use Rattle.std.proofs.Common.{◌≡◌, ◌+◌, arith, sym, ◌∙◌, ap, subst}
+use Rattle.std.specs.Prelude.{Err, option_map, slice_get}
 use Rattle.mfc_queue.specs.At.{IsAt}
 use Rattle.mfc_queue.proofs.AtLemmas.{at-behind}
 use Rattle.cell_machine.specs.Spe.{is_faulted}
