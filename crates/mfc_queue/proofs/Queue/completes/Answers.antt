@@ -1,4 +1,4 @@
-use Rattle.std.proofs.Common.{◌∙◌, sym}
+use Rattle.std.proofs.Common.{◌∙◌}
 use Rattle.mfc_queue.specs.Sets.{has_part}
 use Rattle.mfc_queue.proofs.Holding.{held-none, one_of, marked-all}
 use Rattle.mfc_queue.proofs.Counting.{none-missing}
