@@ -68,12 +68,12 @@ pub fn end_of(chain: &[u32], walk: &Walk, hint: usize) -> usize
     let near = hint.min(chain.len());
     if is_known(chain, walk, near) {
         if is_below(chain, walk, chain.len()) {
-            return chain.len();
+            return search_end(chain, walk, chain.len(), chain.len());
         }
         return search_end(chain, walk, near + 1, chain.len());
     }
     if is_below(chain, walk, near) {
-        return near;
+        return search_end(chain, walk, near, near);
     }
     search_end(chain, walk, 0, near)
 }
