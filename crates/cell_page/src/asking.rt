@@ -24,7 +24,7 @@ use trace_forms::{
     trace_form,
 };
 
-/// How many runs of a hunt are made before their reports are taken in.
+/// How many runs of a hunt are made in a round.
 const SHARE: u32 = 16;
 
 /// Nobody looks on.

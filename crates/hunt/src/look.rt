@@ -16,7 +16,7 @@ const STANDS: u128 = 100;
 const FIRST_SHARE: u32 = 4;
 
 /// How many runs a thread makes at most before the next look, and how many times as many as before the last one.
-const MOST_SHARE: u32 = 4096;
+const MOST_SHARE: u32 = 65_536;
 
 const MOST_TIMES: u128 = 32;
 

@@ -1,5 +1,5 @@
 -- What runs tell, while they are made.
-use Rattle.std.proofs.Common.{◌≡◌, ℕ, ◌+◌, ◌<◌, ◌^◌, Bool, true, false, List, [], ◌∷◌, ◌++◌, length, refl, sym, ap, subst, ◌∙◌, arith, length-append}
+use Rattle.std.proofs.Common.{◌≡◌, ℕ, zero, suc, ◌+◌, ◌*◌, ◌<◌, ◌≤◌, ◌^◌, Bool, true, false, List, [], ◌∷◌, ◌++◌, length, refl, sym, ap, subst, ◌∙◌, arith, length-append}
 use Rattle.std.specs.Prelude.{◌||◌, slice_index_or, Result, Ok, Err, IfOk, OnOk}
 use Rattle.std.specs.List.{flat_map, list_any}
 use Rattle.std.proofs.lemmas.List.{append-nil, length_push}
@@ -10,7 +10,7 @@ use Rattle.hunt_tally.specs.Reports.{Reported, Sums, hunted, is_flawed}
 use Rattle.hunt_forms.specs.declared.each.Told.{Told}
 use Rattle.hunt_forms.specs.declared.input.Quarry.{Quarry}
 use Rattle.hunt_forms.specs.Words.{Asked}
-use Rattle.hunt_forms.specs.Hunts.{status_of, text_by, AreMade, TellsHunt, TellsEach, HasTaken, HasMade, HasRoom, IsShare, IsReportOfSeed, IsTold, TellsRuns, told_line, is_racy}
+use Rattle.hunt_forms.specs.Hunts.{status_of, text_by, AreMade, TellsHunt, TellsEach, HasTaken, HasMade, IsReportOfSeed, IsTold, TellsRuns, told_line, is_racy}
 use Rattle.hunt_forms.proofs.Eaches.{each-none, each-append, each-snoc}
 
 pub runs_of : (reports : List Reported) → (hunted reports).runs ≡ length reports
@@ -42,26 +42,39 @@ told_more setup seed from runs old new was is t told text racy so_far = record {
 
 -- ---- shares
 
--- the reports of one more share
-pub has_more : (q : Quarry) (seed from made share : ℕ) (old new : Sums) (xs : List Reported) → HasTaken q seed from made old → IsShare q seed (from + made) share xs
-    → ((before : List Reported) → old ≡ hunted before → new ≡ hunted (before ++ xs)) → HasTaken q seed from (made + share) new
-has_more q seed from made share old new xs taken is goes =
-    let both = length-append taken.reports xs in
+-- one more report
+pub has_next : (q : Quarry) (seed from made : ℕ) (old new : Sums) (r : Reported) → HasTaken q seed from made old → IsReportOfSeed q.setup q.asked seed (from + made) r
+    → ((before : List Reported) → old ≡ hunted before → new ≡ hunted (before ++ r ∷ [])) → HasTaken q seed from (made + 1) new
+has_next q seed from made old new r taken is goes =
     let count = taken.count in
-    let all = is.all in
     record {
-      reports = taken.reports ++ xs;
-      count = omega (arith, both, count, all);
-      each = each-append (IsReportOfSeed q.setup q.asked seed) from (from + made) taken.reports xs (omega (arith, count)) taken.each is.each;
+      reports = taken.reports ++ r ∷ [];
+      count = length_push taken.reports r ∙ omega (arith, count);
+      each = each-snoc (IsReportOfSeed q.setup q.asked seed) from (from + made) taken.reports r (omega (arith, count)) taken.each is;
       told = goes taken.reports taken.told;
     }
 
+-- the reports of one more share
+pub has_more : (q : Quarry) (seed from made share : ℕ) (old behind new : Sums) → HasTaken q seed from made old → HasTaken q seed (from + made) share behind
+    → ((before after : List Reported) → old ≡ hunted before → behind ≡ hunted after → new ≡ hunted (before ++ after)) → HasTaken q seed from (made + share) new
+has_more q seed from made share old behind new taken more goes =
+    let both = length-append taken.reports more.reports in
+    let count = taken.count in
+    let all = more.count in
+    record {
+      reports = taken.reports ++ more.reports;
+      count = omega (arith, both, count, all);
+      each = each-append (IsReportOfSeed q.setup q.asked seed) from (from + made) taken.reports more.reports (omega (arith, count)) taken.each more.each;
+      told = goes taken.reports more.reports taken.told more.told;
+    }
+
+-- a share has no more runs than all of them
+pub share_within : (jobs share job : ℕ) → job < jobs → share ≤ jobs * share
+share_within zero share job less = omega (arith, less)
+share_within (suc jobs) share job less = omega arith
+
 pub has_none : (q : Quarry) (seed from : ℕ) (h : Sums) → h ≡ hunted [] → HasTaken q seed from 0 h
 has_none q seed from h is = record { reports = []; count = refl; each = each-none (IsReportOfSeed q.setup q.asked seed) from; told = is }
-
--- there is room for as many as are left
-pub has_room : (q : Quarry) (seed from made more : ℕ) (h : Sums) → HasTaken q seed from made h → made + more + 2 < 2 ^ 32 → HasRoom more h
-has_room q seed from made more h taken room = record { before = taken.reports; told = taken.told; room = (let count = taken.count in omega (arith, count, room)) }
 
 -- the next share of those that are left
 pub next_is : {X : Type 0} (all before rest : List X) (x : X) → before ++ x ∷ rest ≡ all → x ≡ slice_index_or all (length before) x
@@ -82,6 +95,10 @@ each_tells setup seed from runs text racy t = record { all = t.all; count = t.co
 
 pub of_ok : {A E : Type 0} (P : A → Type 0) (r : Result A E) (x : A) → r ≡ Ok x → IfOk r P → P x
 of_ok P r x is holds = subst (λ o. IfOk o P) is holds
+
+pub if_ok : {A E : Type 0} (P Q : A → Type 0) (r : Result A E) → ((x : A) → P x → Q x) → IfOk r P → IfOk r Q
+if_ok P Q (Ok x) f p = f x p
+if_ok P Q (Err e) f p = tt
 
 -- what holds where it was taken in, of what holds there
 pub on_ok : {A E P Q : Type 0} (r : Result A E) → (P → Q) → OnOk r P → OnOk r Q

@@ -1,6 +1,5 @@
 -- The runs of a hunt, and what is written of them.
-use Rattle.std.specs.Prelude.{◌≡◌, ℕ, ◌+◌, Bool, true, false, List, ◌++◌, length, codes, Option, Some, None, ◌<◌, ◌≤◌, [], ◌∷◌, slice_index_or, is_some, IsTrue, ◌↔◌, ◌*◌, ◌^◌, if◌then◌else◌, Result, IfOk, OnOk, Vec}
-use Rattle.std.specs.declared.alloc.Global.{Global}
+use Rattle.std.specs.Prelude.{◌≡◌, ℕ, ◌+◌, Bool, true, false, List, ◌++◌, length, codes, Option, Some, None, ◌<◌, ◌≤◌, [], ◌∷◌, slice_index_or, is_some, IsTrue, ◌↔◌, ◌*◌, ◌^◌, if◌then◌else◌, Result, IfOk, OnOk}
 use Rattle.std.specs.declared.alloc.AllocError.{AllocError}
 use Rattle.hunt_forms.specs.declared.input.Quarry.{Quarry}
 use Rattle.std.specs.Borrow.{Bor, MutBor}
@@ -145,27 +144,16 @@ pub record MakesRounds (pre : Bor Quarry → Bor Hunt → ℕ → Round → MutB
       → IsNext q.now hunt.now made round sums.now → post q hunt made round sums result after
       → OnOk result (HasTaken q.now hunt.now.seed hunt.now.from (made + runs_in round) after.now)
 
--- more reports can be counted, so many
-pub record HasRoom (more : ℕ) (h : Sums) : Type 0 where
-  pub before : List Reported
-  pub told : h ≡ hunted before
-  pub room : length before + more + 2 < 2 ^ 32
-
--- these are the reports of so many runs
-pub record IsShare (q : Quarry) (seed from count : ℕ) (reports : List Reported) : Type 0 where
-  pub all : length reports ≡ count
-  pub each : AreReports q.setup q.asked seed from reports
-
 -- what a thread gave
 abbrev pub Given : Type 0
-Given = Result (Vec Reported Global) AllocError
+Given = Result Sums AllocError
 
--- each thread made a share, one behind the other
+-- each thread took in a share, one behind the other
 abbrev pub AreShares : Quarry → ℕ → ℕ → ℕ → List Given → Type 0
-AreShares q seed from share shares = (job : ℕ) (made : Given) → job < length shares → made ≡ slice_index_or shares job made → IfOk made (λ reports. IsShare q seed (from + job * share) share reports.items)
+AreShares q seed from share shares = (job : ℕ) (told : Given) → job < length shares → told ≡ slice_index_or shares job told → IfOk told (HasTaken q seed (from + job * share) share)
 
-abbrev pub HaveLength : ℕ → List Given → Type 0
-HaveLength share shares = (job : ℕ) (made : Given) → job < length shares → made ≡ slice_index_or shares job made → IfOk made (λ reports. length reports.items ≡ share)
+abbrev pub HaveRuns : ℕ → List Given → Type 0
+HaveRuns share shares = (job : ℕ) (told : Given) → job < length shares → told ≡ slice_index_or shares job told → IfOk told (λ h. h.runs ≡ share)
 
 -- these are the lines of so many runs, and whether one has a race
 pub record TellsRuns (setup : Opening) (seed from runs : ℕ) (text : List ℕ) (racy : Bool) : Type 0 where

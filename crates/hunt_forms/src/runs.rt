@@ -1,8 +1,7 @@
 //! Runs that are made one after the other, and what was found in them.
 
-ghost use Rattle.std.specs.Prelude.{◌≡◌, ◌<◌, ◌+◌, ◌^◌, ◌++◌, List, length, IfOk, OnOk};
-ghost use Rattle.hunt_tally.specs.Reports.{Reported, hunted};
-ghost use Rattle.hunt_forms.specs.Hunts.{IsReportOfSeed, IsShare, HasRoom};
+ghost use Rattle.std.specs.Prelude.{◌<◌, ◌+◌, ◌^◌, length, IfOk, OnOk};
+ghost use Rattle.hunt_forms.specs.Hunts.{IsReportOfSeed, HasTaken};
 
 use crate::input::Quarry;
 use cell_hunt::run_of_seed;
@@ -21,32 +20,24 @@ fn report_of_run(alloc: Global, quarry: &Quarry, seed: u64, run: u32) -> Result<
     }
 }
 
-/// The reports of so many runs from a number on.
-pub fn reports_from(
+/// Makes so many runs behind those that were made, one after the other, and takes in what each tells.
+pub fn take_runs(
+    sums: &mut Hunted,
     alloc: Global,
     quarry: &Quarry,
     seed: u64,
     from: u32,
+    made: u32,
     count: u32,
-) -> Result<Vec<Report>, AllocError>
+) -> Result<(), AllocError>
     requires some { 0 < length quarry.now.setup.entries }
-    requires within { from + count < 2 ^ 32 }
-    ensures { IfOk result (λ reports. IsShare quarry.now seed from count reports.items) }
+    requires numbered { from + (made + count) < 2 ^ 32 }
+    requires room { made + count + 2 < 2 ^ 32 }
+    requires taken { HasTaken quarry.now seed from made sums.old }
+    ensures { OnOk result (HasTaken quarry.now seed from (made + count) sums.new) }
 {
-    let mut reports = Vec::new(alloc);
-    for place in 0..count {
-        reports.push(report_of_run(alloc, quarry, seed, from + place)?)?;
-    }
-    Ok(reports)
-}
-
-/// Takes reports in, in their order.
-pub fn take_all(sums: &mut Hunted, alloc: Global, reports: Vec<Report>) -> Result<(), AllocError>
-    requires { HasRoom (length reports.items) sums.old }
-    ensures { OnOk result ((before : List Reported) → sums.old ≡ hunted before → sums.new ≡ hunted (before ++ reports.items)) }
-{
-    for report in reports {
-        sums.take(alloc, report)?;
+    for run in made..made + count {
+        sums.take(alloc, report_of_run(alloc, quarry, seed, from + run)?)?;
     }
     Ok(())
 }

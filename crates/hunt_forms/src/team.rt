@@ -4,7 +4,7 @@ ghost use Rattle.std.specs.Prelude.{◌+◌, OnOk};
 ghost use Rattle.hunt_forms.specs.Hunts.{IsNext, HasTaken, runs_in};
 
 use crate::input::Quarry;
-use crate::runs::{reports_from, take_all};
+use crate::runs::take_runs;
 use crate::words::Hunt;
 use hunt_tally::Hunted;
 use std::alloc::{AllocError, Global};
@@ -36,6 +36,5 @@ pub fn make_alone(
     ensures { OnOk result (HasTaken quarry.now hunt.now.seed hunt.now.from (made + runs_in round) sums.new) }
 {
     let count = round.jobs * round.share;
-    let reports = reports_from(alloc, quarry, hunt.seed, hunt.from + made, count)?;
-    take_all(sums, alloc, reports)
+    take_runs(sums, alloc, quarry, hunt.seed, hunt.from, made, count)
 }

@@ -2,13 +2,13 @@
 
 ghost use Rattle.std.specs.Prelude.{◌≡◌, ◌≤◌, ◌<◌, ◌+◌, ◌*◌, ◌^◌, ℕ, length, IfOk, OnOk};
 ghost use Rattle.hunt_forms.specs.declared.input.Quarry.{Quarry as AQuarry};
-ghost use Rattle.hunt_forms.specs.Hunts.{IsNext, HasTaken, runs_in, IsShare, AreShares, HaveLength, HasRoom};
+ghost use Rattle.hunt_forms.specs.Hunts.{IsNext, HasTaken, runs_in, AreShares, HaveRuns};
 
 use crate::input::Quarry;
-use crate::runs::{reports_from, take_all};
+use crate::runs::take_runs;
 use crate::team::Round;
 use crate::words::Hunt;
-use hunt_tally::{Hunted, Report};
+use hunt_tally::Hunted;
 use std::alloc::{AllocError, Global};
 use std::thread::{Threads, available_parallelism, map_indices};
 
@@ -20,7 +20,7 @@ pub fn cores_of<R: Threads>(rt: &R) -> u32 {
     }
 }
 
-/// What one of so many threads makes: the runs behind those of the threads before it.
+/// What the runs of one of so many threads tell: those behind the runs of the threads before it.
 fn share_of(
     alloc: Global,
     quarry: &Quarry,
@@ -28,18 +28,29 @@ fn share_of(
     from: u32,
     round: Round,
     job: usize,
-) -> Result<Vec<Report>, AllocError>
+) -> Result<Hunted, AllocError>
     requires some { 0 < length quarry.now.setup.entries }
     requires within { from + round.jobs * round.share < 2 ^ 32 }
+    requires room { round.jobs * round.share + 2 < 2 ^ 32 }
     requires job { job < round.jobs }
-    ensures { IfOk result (λ reports. IsShare quarry.now seed (from + job * round.share) round.share reports.items) }
+    ensures { IfOk result (HasTaken quarry.now seed (from + job * round.share) round.share) }
 {
     let job = job as u32;
     prove!(job < round.jobs);
-    reports_from(alloc, quarry, seed, from + job * round.share, round.share)
+    let mut sums = Hunted::new(alloc);
+    take_runs(
+        &mut sums,
+        alloc,
+        quarry,
+        seed,
+        from + job * round.share,
+        0,
+        round.share,
+    )?;
+    Ok(sums)
 }
 
-/// The runs of a round, of which each thread makes the same number.
+/// What the runs of a round tell, of which each thread makes the same number.
 fn make_shares<R: Threads + Sync>(
     rt: &R,
     alloc: Global,
@@ -47,9 +58,10 @@ fn make_shares<R: Threads + Sync>(
     seed: u64,
     from: u32,
     round: Round,
-) -> Result<Vec<Result<Vec<Report>, AllocError>>, AllocError>
+) -> Result<Vec<Result<Hunted, AllocError>>, AllocError>
     requires some { 0 < length quarry.now.setup.entries }
     requires within { from + round.jobs * round.share < 2 ^ 32 }
+    requires room { round.jobs * round.share + 2 < 2 ^ 32 }
     ensures count { IfOk result (λ shares. length shares.items ≡ round.jobs) }
     ensures shares { IfOk result (λ shares. AreShares quarry.now seed from round.share shares.items) }
 {
@@ -61,19 +73,19 @@ fn make_shares<R: Threads + Sync>(
     )
 }
 
-/// Takes in what the threads made, in the order of the runs.
+/// Takes in what the threads took in, in the order of the runs.
 fn take_shares(
     sums: &mut Hunted,
     alloc: Global,
     share: u32,
-    shares: Vec<Result<Vec<Report>, AllocError>>,
+    shares: Vec<Result<Hunted, AllocError>>,
 ) -> Result<(), AllocError>
-    requires room { HasRoom (length shares.items * share) sums.old }
-    requires lengths { HaveLength share shares.items }
+    requires room { sums.old.runs + length shares.items * share < 2 ^ 32 }
+    requires runs { HaveRuns share shares.items }
     ensures { OnOk result ((quarry : AQuarry) (seed from made : ℕ) → HasTaken quarry seed from made sums.old → AreShares quarry seed (from + made) share shares.items → HasTaken quarry seed from (made + length shares.items * share) sums.new) }
 {
-    for reports in shares {
-        take_all(sums, alloc, reports?)?;
+    for told in shares {
+        sums.join(alloc, told?)?;
     }
     Ok(())
 }

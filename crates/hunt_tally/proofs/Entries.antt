@@ -1,5 +1,5 @@
 -- What a change of the map is to the entries that it stands for.
-use Rattle.std.proofs.Common.{◌≡◌, ℕ, zero, suc, ◌+◌, ◌<◌, Bool, true, false, cond, not, eqb, List, [], ◌∷◌, ◌++◌, length, map, Some, None, refl, sym, ap, ◌∙◌, arith}
+use Rattle.std.proofs.Common.{◌≡◌, ℕ, zero, suc, ◌+◌, ◌<◌, Bool, true, false, cond, not, eqb, List, [], ◌∷◌, ◌++◌, length, map, Option, Some, None, is_some, true≢false, refl, sym, ap, ◌∙◌, arith}
 use Rattle.std.specs.Prelude.{Vec, slice_get, nat_lt}
 use Rattle.std.specs.declared.alloc.Global.{Global}
 use Rattle.std.specs.List.{position_or_len, position}
@@ -8,8 +8,9 @@ use Rattle.std.specs.Map.{lookup, keys_of, values_of}
 use Rattle.std.proofs.lemmas.Option.{none-some, same_Some}
 use Rattle.indexmap.specs.IndexMap.{set_value_at}
 use Rattle.hunt_tally.specs.declared.counted.Counted.{Counted}
-use Rattle.hunt_tally.specs.Tallies.{Tells, Told, Entry}
-use Rattle.hunt_tally.specs.Takes.{fresh, counted, took}
+use Rattle.hunt_tally.specs.Tallies.{Told, Entry}
+use Rattle.hunt_tally.specs.Takes.{counted, put}
+use Rattle.hunt_tally.specs.Joins.{runs_telling}
 use Rattle.hunt_tally.specs.Views.{entry_in, entries_in}
 
 abbrev pub Kept : Type 0
@@ -21,6 +22,10 @@ entry_at [] i w at = absurd (none-some w at)
 entry_at (e ∷ es) zero w at = (e.0, ap (λ v. Some (entry_in (e.0, v))) (same_Some _ _ at))
 entry_at (e ∷ es) (suc i) w at = entry_at es i w at
 
+pub none_is : {X : Type 0} (o : Option X) → is_some o ≡ false → o ≡ None
+none_is None e = refl
+none_is (Some x) e = absurd (true≢false e)
+
 pub found : (n len i : ℕ) → Some i ≡ cond (nat_lt n len) (Some n) None → (n ≡ i) × (n < len)
 found n len i is = by (nat_lt n len) refl
   where
@@ -28,35 +33,53 @@ found n len i is = by (nat_lt n len) refl
     by true e = (sym (same_Some _ _ (is ∙ ap (λ t. cond t (Some n) None) e)), grind (arith, e))
     by false e = absurd (none-some i (sym (is ∙ ap (λ t. cond t (Some n) None) e)))
 
-module _ (run : ℕ) (t : Tells) where
-  -- it is counted where its key is
-  pub took_at : (es : List Kept) (i : ℕ) (w v : Counted) → ((k : Vec ℕ Global) → entry_in (k, v) ≡ counted run (entry_in (k, w)))
-      → slice_get (values_of es) i ≡ Some w → position_or_len (λ (k : Vec ℕ Global). bytes_eq t.key k.items) (keys_of es) ≡ i
-      → entries_in (set_value_at es i v) ≡ took run (entries_in es) t
-  took_at [] i w v is at place = absurd (none-some w at)
-  took_at (e ∷ es) zero w v is at place = by (bytes_eq t.key e.0.items) refl
+module _ (key : List ℕ) (change : Entry → Entry) (new : Entry) where
+  -- an entry is changed where its key is
+  pub put_at : (es : List Kept) (i : ℕ) (w v : Counted) → ((k : Vec ℕ Global) → entry_in (k, v) ≡ change (entry_in (k, w)))
+      → slice_get (values_of es) i ≡ Some w → position_or_len (λ (k : Vec ℕ Global). bytes_eq key k.items) (keys_of es) ≡ i
+      → entries_in (set_value_at es i v) ≡ put key change new (entries_in es)
+  put_at [] i w v is at place = absurd (none-some w at)
+  put_at (e ∷ es) zero w v is at place = by (bytes_eq key e.0.items) refl
     where
-      by : (b : Bool) → bytes_eq t.key e.0.items ≡ b → entries_in ((e.0, v) ∷ es) ≡ took run (entries_in (e ∷ es)) t
-      by true same = rw same (ap (λ x. x ∷ entries_in es) (is e.0 ∙ ap (λ x. counted run (entry_in (e.0, x))) (sym (same_Some _ _ at))))
-      by false other = absurd (let none : cond (not (bytes_eq t.key e.0.items)) (1 + position_or_len (λ (k : Vec ℕ Global). bytes_eq t.key k.items) (keys_of es)) 0 ≡ 0 = place in
-          let some : 1 + position_or_len (λ (k : Vec ℕ Global). bytes_eq t.key k.items) (keys_of es) ≡ 0 = sym (ap (λ (s : Bool). cond (not s) (1 + position_or_len (λ (k : Vec ℕ Global). bytes_eq t.key k.items) (keys_of es)) 0) other) ∙ none in omega (arith, some))
-  took_at (e ∷ es) (suc i) w v is at place = by (bytes_eq t.key e.0.items) refl (took_at es i w v is at)
+      by : (b : Bool) → bytes_eq key e.0.items ≡ b → entries_in ((e.0, v) ∷ es) ≡ put key change new (entries_in (e ∷ es))
+      by true same = rw same (ap (λ x. x ∷ entries_in es) (is e.0 ∙ ap (λ x. change (entry_in (e.0, x))) (sym (same_Some _ _ at))))
+      by false other = absurd (let none : cond (not (bytes_eq key e.0.items)) (1 + position_or_len (λ (k : Vec ℕ Global). bytes_eq key k.items) (keys_of es)) 0 ≡ 0 = place in
+          let some : 1 + position_or_len (λ (k : Vec ℕ Global). bytes_eq key k.items) (keys_of es) ≡ 0 = sym (ap (λ (s : Bool). cond (not s) (1 + position_or_len (λ (k : Vec ℕ Global). bytes_eq key k.items) (keys_of es)) 0) other) ∙ none in omega (arith, some))
+  put_at (e ∷ es) (suc i) w v is at place = by (bytes_eq key e.0.items) refl (put_at es i w v is at)
     where
-      by : (b : Bool) → bytes_eq t.key e.0.items ≡ b → (position_or_len (λ (k : Vec ℕ Global). bytes_eq t.key k.items) (keys_of es) ≡ i → entries_in (set_value_at es i v) ≡ took run (entries_in es) t)
-          → entries_in (e ∷ set_value_at es i v) ≡ took run (entries_in (e ∷ es)) t
-      by true same rest = absurd (let none : 0 ≡ suc i = sym (ap (λ (s : Bool). cond (not s) (1 + position_or_len (λ (k : Vec ℕ Global). bytes_eq t.key k.items) (keys_of es)) 0) same) ∙ place in omega (arith, none))
-      by false other rest = let some : 1 + position_or_len (λ (k : Vec ℕ Global). bytes_eq t.key k.items) (keys_of es) ≡ suc i = sym (ap (λ (s : Bool). cond (not s) (1 + position_or_len (λ (k : Vec ℕ Global). bytes_eq t.key k.items) (keys_of es)) 0) other) ∙ place in
+      by : (b : Bool) → bytes_eq key e.0.items ≡ b → (position_or_len (λ (k : Vec ℕ Global). bytes_eq key k.items) (keys_of es) ≡ i → entries_in (set_value_at es i v) ≡ put key change new (entries_in es))
+          → entries_in (e ∷ set_value_at es i v) ≡ put key change new (entries_in (e ∷ es))
+      by true same rest = absurd (let none : 0 ≡ suc i = sym (ap (λ (s : Bool). cond (not s) (1 + position_or_len (λ (k : Vec ℕ Global). bytes_eq key k.items) (keys_of es)) 0) same) ∙ place in omega (arith, none))
+      by false other rest = let some : 1 + position_or_len (λ (k : Vec ℕ Global). bytes_eq key k.items) (keys_of es) ≡ suc i = sym (ap (λ (s : Bool). cond (not s) (1 + position_or_len (λ (k : Vec ℕ Global). bytes_eq key k.items) (keys_of es)) 0) other) ∙ place in
           rw other (ap (λ x. entry_in e ∷ x) (rest (omega (arith, some))))
 
-  -- and else it goes last
-  pub took_new : (es : List Kept) → lookup (λ (k : Vec ℕ Global). bytes_eq t.key k.items) es ≡ None → took run (entries_in es) t ≡ entries_in es ++ fresh run t ∷ []
-  took_new [] none = refl
-  took_new (e ∷ es) none = by (bytes_eq t.key e.0.items) refl (took_new es)
+  -- and else a new one goes last
+  pub put_new : (es : List Kept) → lookup (λ (k : Vec ℕ Global). bytes_eq key k.items) es ≡ None → put key change new (entries_in es) ≡ entries_in es ++ new ∷ []
+  put_new [] none = refl
+  put_new (e ∷ es) none = by (bytes_eq key e.0.items) refl (put_new es)
     where
-      by : (b : Bool) → bytes_eq t.key e.0.items ≡ b → (lookup (λ (k : Vec ℕ Global). bytes_eq t.key k.items) es ≡ None → took run (entries_in es) t ≡ entries_in es ++ fresh run t ∷ [])
-          → took run (entries_in (e ∷ es)) t ≡ entry_in e ∷ (entries_in es ++ fresh run t ∷ [])
-      by true same rest = absurd (none-some e.1 (sym none ∙ ap (λ (s : Bool). cond s (Some e.1) (lookup (λ (k : Vec ℕ Global). bytes_eq t.key k.items) es)) same))
-      by false other rest = rw other (ap (λ x. entry_in e ∷ x) (rest (sym (ap (λ (s : Bool). cond s (Some e.1) (lookup (λ (k : Vec ℕ Global). bytes_eq t.key k.items) es)) other) ∙ none)))
+      by : (b : Bool) → bytes_eq key e.0.items ≡ b → (lookup (λ (k : Vec ℕ Global). bytes_eq key k.items) es ≡ None → put key change new (entries_in es) ≡ entries_in es ++ new ∷ [])
+          → put key change new (entries_in (e ∷ es)) ≡ entry_in e ∷ (entries_in es ++ new ∷ [])
+      by true same rest = absurd (none-some e.1 (sym none ∙ ap (λ (s : Bool). cond s (Some e.1) (lookup (λ (k : Vec ℕ Global). bytes_eq key k.items) es)) same))
+      by false other rest = rw other (ap (λ x. entry_in e ∷ x) (rest (sym (ap (λ (s : Bool). cond s (Some e.1) (lookup (λ (k : Vec ℕ Global). bytes_eq key k.items) es)) other) ∙ none)))
+
+-- so many runs tell the key that is found
+pub telling_at : (key : List ℕ) (es : List Kept) (i : ℕ) (w : Counted) → slice_get (values_of es) i ≡ Some w → position_or_len (λ (k : Vec ℕ Global). bytes_eq key k.items) (keys_of es) ≡ i
+    → runs_telling key (entries_in es) ≡ w.runs
+telling_at key [] i w at place = absurd (none-some w at)
+telling_at key (e ∷ es) zero w at place = by (bytes_eq key e.0.items) refl
+  where
+    by : (b : Bool) → bytes_eq key e.0.items ≡ b → cond b e.1.runs (runs_telling key (entries_in es)) ≡ w.runs
+    by true same = ap (λ (x : Counted). x.runs) (same_Some _ _ at)
+    by false other = absurd (let none : cond (not (bytes_eq key e.0.items)) (1 + position_or_len (λ (k : Vec ℕ Global). bytes_eq key k.items) (keys_of es)) 0 ≡ 0 = place in
+        let some : 1 + position_or_len (λ (k : Vec ℕ Global). bytes_eq key k.items) (keys_of es) ≡ 0 = sym (ap (λ (s : Bool). cond (not s) (1 + position_or_len (λ (k : Vec ℕ Global). bytes_eq key k.items) (keys_of es)) 0) other) ∙ none in omega (arith, some))
+telling_at key (e ∷ es) (suc i) w at place = by (bytes_eq key e.0.items) refl (telling_at key es i w at)
+  where
+    by : (b : Bool) → bytes_eq key e.0.items ≡ b → (position_or_len (λ (k : Vec ℕ Global). bytes_eq key k.items) (keys_of es) ≡ i → runs_telling key (entries_in es) ≡ w.runs)
+        → cond b e.1.runs (runs_telling key (entries_in es)) ≡ w.runs
+    by true same rest = absurd (let none : 0 ≡ suc i = sym (ap (λ (s : Bool). cond (not s) (1 + position_or_len (λ (k : Vec ℕ Global). bytes_eq key k.items) (keys_of es)) 0) same) ∙ place in omega (arith, none))
+    by false other rest = let some : 1 + position_or_len (λ (k : Vec ℕ Global). bytes_eq key k.items) (keys_of es) ≡ suc i = sym (ap (λ (s : Bool). cond (not s) (1 + position_or_len (λ (k : Vec ℕ Global). bytes_eq key k.items) (keys_of es)) 0) other) ∙ place in
+        rest (omega (arith, some))
 
 pub entries_push : (es : List Kept) (e : Kept) → entries_in (es ++ e ∷ []) ≡ entries_in es ++ entry_in e ∷ []
 entries_push [] e = refl

@@ -1,6 +1,6 @@
 -- What the runs of some reports tell together, and with one report more.
 use Rattle.std.proofs.Common.{◌≡◌, ◌+◌, ◌<◌, Bool, true, false, cond, ◌||◌, eqb, List, [], ◌∷◌, ◌++◌, length, map, refl, sym, ap, ◌∙◌, arith, true≢false}
-use Rattle.std.specs.Prelude.{nat_lt}
+use Rattle.std.specs.Prelude.{nat_lt, Result, Ok, Err, OnOk}
 use Rattle.std.specs.List.{list_any, count_by, position_or_len}
 use Rattle.std.proofs.lemmas.List.{map_push, length_push}
 use Rattle.std.proofs.lemmas.List.Folds.{position_or_len_push}
@@ -86,6 +86,11 @@ module _ {X : Type 0} (test : X → Bool) where
 
 kinds_more : (reports : List Reported) (r : Reported) → kinds_of (map (λ (x : Reported). x.kind) (reports ++ r ∷ [])) ≡ with_run (kinds_of (map (λ (x : Reported). x.kind) reports)) r.kind
 kinds_more reports r = ap kinds_of (map_push (λ (x : Reported). x.kind) reports r) ∙ fold_push with_run [] (map (λ (x : Reported). x.kind) reports) r.kind
+
+-- what holds where all went well, of what holds there
+pub on_ok : {A E : Type 0} {P Q : Type 0} (r : Result A E) → (P → Q) → OnOk r P → OnOk r Q
+on_ok (Ok a) f p = f p
+on_ok (Err e) f p = tt
 
 -- one report more
 pub more : (reports : List Reported) (r : Reported) → hunted (reports ++ r ∷ []) ≡ record {

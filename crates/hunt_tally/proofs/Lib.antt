@@ -3,3 +3,5 @@ pub mod Taking
 pub mod Told
 pub mod Hunting
 mod KindLemmas
+mod Joining
+mod Together

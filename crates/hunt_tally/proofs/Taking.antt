@@ -12,10 +12,10 @@ use Rattle.hunt_tally.specs.Takes.{fresh, counted, took}
 
 -- ---- keys
 
-same_key : (k l : List ℕ) → bytes_eq k l ≡ true → k ≡ l
+pub same_key : (k l : List ℕ) → bytes_eq k l ≡ true → k ≡ l
 same_key k l e = (bytes_eq-Decides k l).0 e
 
-same_self : (k : List ℕ) → bytes_eq k k ≡ true
+pub same_self : (k : List ℕ) → bytes_eq k k ≡ true
 same_self k = (bytes_eq-Decides k k).1 refl
 
 same_swap : (k l : List ℕ) → bytes_eq k l ≡ true → bytes_eq l k ≡ true
@@ -29,7 +29,7 @@ has_push k (u ∷ us) t = by (bytes_eq k u.key) (has_push k us t)
     by true e = refl
     by false e = e
 
-swap_false : (k l : List ℕ) → bytes_eq k l ≡ false → bytes_eq l k ≡ false
+pub swap_false : (k l : List ℕ) → bytes_eq k l ≡ false → bytes_eq l k ≡ false
 swap_false k l e = by (bytes_eq l k) refl
   where
     by : (b : Bool) → bytes_eq l k ≡ b → bytes_eq l k ≡ false
@@ -108,7 +108,7 @@ last_push test n [] run d = elim (test run) as (λ b. (if b then n else d) ≡ (
 last_push test n (r ∷ rs) run d = let at : suc n + length rs ≡ n + suc (length rs) = omega arith in
     last_push test (suc n) rs run (if test r then n else d) ∙ ap (λ k. if test run then k else last_from test (suc n) rs (if test r then n else d)) at
 
-last_within : (test : List Tells → Bool) (n : ℕ) (runs : List (List Tells)) (d : ℕ) → d < n + length runs → last_from test n runs d < n + length runs
+pub last_within : (test : List Tells → Bool) (n : ℕ) (runs : List (List Tells)) (d : ℕ) → d < n + length runs → last_from test n runs d < n + length runs
 unfolding last_from
 last_within test n [] d small = small
 last_within test n (r ∷ rs) d small = by (test r) (last_within test (suc n) rs)

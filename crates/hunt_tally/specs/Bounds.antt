@@ -1,16 +1,21 @@
 -- The counts are those of runs that were taken in.
 use Rattle.std.specs.Prelude.{ℕ, ◌≤◌}
+use Rattle.hunt_tally.specs.declared.count.Count.{Count}
 use Rattle.hunt_tally.specs.declared.flaws.FlawCounts.{FlawCounts}
 use Rattle.hunt_tally.specs.Kinds.{runs_of}
 use Rattle.hunt_tally.specs.Reports.{Sums}
 
+pub record IsAmong (most : ℕ) (c : Count) : Type 0 where
+  pub runs : c.runs ≤ most
+  pub first : c.first ≤ most
+
 pub record AreWithin (runs : ℕ) (c : FlawCounts) : Type 0 where
-  pub race : c.race.runs ≤ runs
-  pub stuck : c.stuck.runs ≤ runs
-  pub budget : c.budget.runs ≤ runs
-  pub fault : c.fault.runs ≤ runs
-  pub halt : c.halt.runs ≤ runs
-  pub missed : c.missed.runs ≤ runs
+  pub race : IsAmong runs c.race
+  pub stuck : IsAmong runs c.stuck
+  pub budget : IsAmong runs c.budget
+  pub fault : IsAmong runs c.fault
+  pub halt : IsAmong runs c.halt
+  pub missed : IsAmong runs c.missed
 
 pub record IsWithin (s : Sums) : Type 0 where
   pub all_stopped : s.all_stopped ≤ s.runs

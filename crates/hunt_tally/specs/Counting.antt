@@ -1,5 +1,5 @@
 -- How many elements of a list pass a test, and the first of them.
-use Rattle.std.specs.Prelude.{ℕ, ◌+◌, ◌==◌, Bool, List, length, nat_lt, if◌then◌else◌}
+use Rattle.std.specs.Prelude.{ℕ, ◌+◌, ◌==◌, ◌&&◌, Bool, List, length, nat_lt, if◌then◌else◌}
 use Rattle.std.specs.List.{count_by, position_or_len}
 use Rattle.hunt_tally.specs.declared.count.Count.{Count}
 
@@ -13,3 +13,7 @@ count_of test xs = record { runs = count_by test xs; first = first_of test xs }
 -- the count when a run comes to it, which passes or doesn't
 abbrev pub noted : ℕ → Bool → Count → Count
 noted run passes c = if passes then (if c.runs == 0 then record { runs = 1; first = run } else record c { runs = c.runs + 1 }) else c
+
+-- the count of runs and of those behind them, where so many are before these
+abbrev pub with_count : ℕ → Count → Count → Count
+with_count before c other = record { runs = c.runs + other.runs; first = if c.runs == 0 && nat_lt 0 other.runs then before + other.first else c.first }

@@ -3,10 +3,19 @@ use Rattle.std.specs.Prelude.{ℕ, ◌+◌, ◌==◌, List, [], ◌∷◌, map, 
 use Rattle.std.specs.List.{count_by, sum_by}
 use Rattle.hunt_tally.specs.declared.kinds.Kind.{Kind}
 
--- one run more: its kind is counted once more, or comes behind the others
+-- so many runs more of a kind: they are counted with those of it, or the kind comes behind the others
+abbrev pub with_runs : List Kind → ℕ → ℕ → List Kind
+with_runs [] digest runs = record { digest = digest; runs = runs } ∷ []
+with_runs (k ∷ kinds) digest runs = if digest == k.digest then record k { runs = k.runs + runs } ∷ kinds else k ∷ with_runs kinds digest runs
+
+-- one run more
 abbrev pub with_run : List Kind → ℕ → List Kind
-with_run [] digest = record { digest = digest; runs = 1 } ∷ []
-with_run (k ∷ kinds) digest = if digest == k.digest then record k { runs = k.runs + 1 } ∷ kinds else k ∷ with_run kinds digest
+with_run kinds digest = with_runs kinds digest 1
+
+-- the kinds of the runs behind them, too
+abbrev pub with_kinds : List Kind → List Kind → List Kind
+with_kinds kinds [] = kinds
+with_kinds kinds (k ∷ behind) = with_kinds (with_runs kinds k.digest k.runs) behind
 
 -- the kinds of the runs of which these are the digests, in the order of their first runs
 abbrev pub kinds_of : List ℕ → List Kind

@@ -1,5 +1,6 @@
 pub mod Tallies
 pub mod Takes
+pub mod Joins
 pub mod Views
 pub mod Lines
 pub mod Counting

@@ -11,6 +11,10 @@ fresh run t = record { told = record { key = t.key; shown = t.shown; runs = 1; f
 abbrev pub counted : ℕ → Entry → Entry
 counted run e = if e.last == run then e else record { told = record e.told { runs = e.told.runs + 1 }; last = run }
 
+-- the entry of the key is changed, or a new one comes behind the others
+abbrev pub put : List ℕ → (Entry → Entry) → Entry → List Entry → List Entry
+put key change new [] = new ∷ []
+put key change new (e ∷ es) = if bytes_eq key e.told.key then change e ∷ es else e ∷ put key change new es
+
 abbrev pub took : ℕ → List Entry → Tells → List Entry
-took run [] t = fresh run t ∷ []
-took run (e ∷ es) t = if bytes_eq t.key e.told.key then counted run e ∷ es else e ∷ took run es t
+took run es t = put t.key (counted run) (fresh run t) es

@@ -1,7 +1,7 @@
 //! Counts of runs.
 
 ghost use Rattle.std.specs.Prelude.{◌≡◌, ◌+◌, ◌^◌, ◌<◌};
-ghost use Rattle.hunt_tally.specs.Counting.{noted};
+ghost use Rattle.hunt_tally.specs.Counting.{noted, with_count};
 
 /// How many runs there are of a kind, and the first of them, counted from 0; 0 where there is none.
 #[derive(Clone, Copy)]
@@ -29,5 +29,17 @@ impl Count {
             }
             self.runs += 1;
         }
+    }
+
+    /// Takes in the count of the runs behind these, of which there are so many.
+    pub fn join(&mut self, runs: u32, other: Count)
+        requires runs { self.old.runs + other.runs < 2 ^ 32 }
+        requires first { runs + other.first < 2 ^ 32 }
+        ensures { self.new ≡ with_count runs self.old other }
+    {
+        if self.runs == 0 && other.runs > 0 {
+            self.first = runs + other.first;
+        }
+        self.runs += other.runs;
     }
 }

@@ -34,4 +34,28 @@ impl Counted {
             self.last = run;
         }
     }
+
+    /// Runs behind the first ones, so many, tell it, too.
+    pub fn join(&mut self, before: u32, other: &Counted)
+        requires runs { self.old.runs + other.now.runs < 2 ^ 32 }
+        requires last { before + other.now.last < 2 ^ 32 }
+        ensures { self.new ≡ record self.old { runs = self.old.runs + other.now.runs; last = before + other.now.last } }
+    {
+        self.runs += other.runs;
+        self.last = before + other.last;
+    }
+
+    /// The same of runs before which so many others were made.
+    pub fn behind(self, before: u32) -> Counted
+        requires first { before + self.first < 2 ^ 32 }
+        requires last { before + self.last < 2 ^ 32 }
+        ensures { result ≡ record self { first = before + self.first; last = before + self.last } }
+    {
+        Counted {
+            shown: self.shown,
+            runs: self.runs,
+            first: before + self.first,
+            last: before + self.last,
+        }
+    }
 }

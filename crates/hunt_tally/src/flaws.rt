@@ -1,7 +1,7 @@
 //! What goes wrong in runs.
 
-ghost use Rattle.std.specs.Prelude.{◌≡◌, ◌+◌, ◌^◌, ◌<◌, not, ◌||◌, []};
-ghost use Rattle.hunt_tally.specs.Counting.{noted};
+ghost use Rattle.std.specs.Prelude.{◌≡◌, ℕ, ◌+◌, ◌^◌, ◌<◌, not, ◌||◌, []};
+ghost use Rattle.hunt_tally.specs.Counting.{noted, with_count};
 ghost use Rattle.hunt_tally.specs.Bounds.{AreWithin};
 ghost use Rattle.hunt_tally.specs.Reports.{has_flaw, flaws_of};
 
@@ -78,6 +78,26 @@ impl FlawCounts {
         self.fault.note(run, flaws.fault);
         self.halt.note(run, flaws.halt);
         self.missed.note(run, flaws.missed);
+    }
+
+    /// Takes in what went wrong in the runs behind these, of which there are so many.
+    pub fn join(&mut self, runs: u32, other: FlawCounts)
+        requires within { AreWithin runs self.old }
+        requires room { (behind : ℕ) × (runs + behind < 2 ^ 32) × AreWithin behind other }
+        ensures race { self.new.race ≡ with_count runs self.old.race other.race }
+        ensures stuck { self.new.stuck ≡ with_count runs self.old.stuck other.stuck }
+        ensures budget { self.new.budget ≡ with_count runs self.old.budget other.budget }
+        ensures fault { self.new.fault ≡ with_count runs self.old.fault other.fault }
+        ensures halt { self.new.halt ≡ with_count runs self.old.halt other.halt }
+        ensures missed { self.new.missed ≡ with_count runs self.old.missed other.missed }
+        ensures within { (behind : ℕ) → AreWithin behind other → AreWithin (runs + behind) self.new }
+    {
+        self.race.join(runs, other.race);
+        self.stuck.join(runs, other.stuck);
+        self.budget.join(runs, other.budget);
+        self.fault.join(runs, other.fault);
+        self.halt.join(runs, other.halt);
+        self.missed.join(runs, other.missed);
     }
 
     /// Whether a run has one.

@@ -120,6 +120,34 @@ impl Hunted {
         take_missed(&mut self.missed, alloc, missed)
     }
 
+    /// Takes in what the runs behind these told. After want of memory nothing is known of what was taken in.
+    pub fn join(&mut self, alloc: Global, other: Hunted) -> Result<(), AllocError>
+        requires { self.old.runs + other.runs < 2 ^ 32 }
+        ensures runs { self.new.runs ≡ self.old.runs + other.runs }
+        ensures joined { OnOk result ((before behind : List Reported) → self.old ≡ hunted before → other ≡ hunted behind → self.new ≡ hunted (before ++ behind)) }
+    {
+        let Hunted {
+            runs,
+            all_stopped,
+            left_out,
+            flaws,
+            kinds,
+            endings,
+            results,
+            races,
+            missed,
+        } = other;
+        self.flaws.join(self.runs, flaws);
+        self.runs += runs;
+        self.all_stopped += all_stopped;
+        self.left_out += left_out;
+        self.kinds.join(kinds)?;
+        self.endings.join(alloc, endings)?;
+        self.results.join(alloc, results)?;
+        self.races.join(alloc, races)?;
+        self.missed.join(alloc, missed)
+    }
+
     /// How many were taken in.
     pub fn runs(&self) -> u32
         ensures { result ≡ self.now.runs }

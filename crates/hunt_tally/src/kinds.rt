@@ -1,7 +1,7 @@
 //! The kinds of runs.
 
 ghost use Rattle.std.specs.Prelude.{◌≡◌, ◌+◌, ◌^◌, ◌<◌, ◌≤◌, [], length, OnOk, Some, slice_get};
-ghost use Rattle.hunt_tally.specs.Kinds.{runs_of, runs_with, seen_once, with_run};
+ghost use Rattle.hunt_tally.specs.Kinds.{runs_of, runs_with, seen_once, with_run, with_runs, with_kinds};
 
 use indexmap::IndexMap;
 use std::alloc::{AllocError, Global};
@@ -50,14 +50,35 @@ impl Kinds {
         }
     }
 
+    /// Takes in so many runs of a kind. Where there is no memory for it, all stays as it was.
+    fn add(&mut self, digest: u64, runs: u32) -> Result<(), AllocError>
+        requires { runs_of self.old + runs < 2 ^ 32 }
+        ensures taken { OnOk result (self.new ≡ with_runs self.old digest runs) }
+        ensures runs { runs_of self.new ≤ runs_of self.old + runs }
+    {
+        let before = self.runs(digest);
+        self.counts.insert(digest, before + runs)?;
+        Ok(())
+    }
+
     /// Takes in a run of a kind. Where there is no memory for it, all stays as it was.
     pub fn take(&mut self, digest: u64) -> Result<(), AllocError>
         requires { runs_of self.old + 1 < 2 ^ 32 }
         ensures taken { OnOk result (self.new ≡ with_run self.old digest) }
         ensures runs { runs_of self.new ≤ runs_of self.old + 1 }
     {
-        let runs = self.runs(digest);
-        self.counts.insert(digest, runs + 1)?;
+        self.add(digest, 1)
+    }
+
+    /// Takes in the kinds of other runs. Where there is no memory for all, the first of them are taken in.
+    pub fn join(&mut self, other: Kinds) -> Result<(), AllocError>
+        requires { runs_of self.old + runs_of other < 2 ^ 32 }
+        ensures taken { OnOk result (self.new ≡ with_kinds self.old other) }
+        ensures runs { runs_of self.new ≤ runs_of self.old + runs_of other }
+    {
+        for (digest, runs) in other.counts {
+            self.add(digest, runs)?;
+        }
         Ok(())
     }
 

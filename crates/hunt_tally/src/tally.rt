@@ -5,7 +5,8 @@ ghost use Rattle.std.specs.List.{position};
 ghost use Rattle.std.specs.Str.{bytes_eq};
 ghost use Rattle.hunt_tally.specs.Tallies.{Tells, Told, Entry, Took, entries_of, tallied, told_in};
 ghost use Rattle.hunt_tally.specs.Takes.{took};
-ghost use Rattle.hunt_tally.specs.Views.{entries_in};
+ghost use Rattle.hunt_tally.specs.Joins.{with_entry, joined, runs_telling, Fits, Joined};
+ghost use Rattle.hunt_tally.specs.Views.{entry_in, entries_in};
 ghost use Rattle.hunt_tally.specs.Lines.{told_by};
 
 use crate::counted::Counted;
@@ -13,6 +14,7 @@ use crate::telling::Telling;
 use indexmap::IndexMap;
 use std::alloc::{AllocError, Global};
 use std::marker::Model;
+use std::mem::replace;
 
 /// What is told: its key, what is printed of it, how many runs tell it, and the first of them, counted from 0.
 #[derive(Clone, Copy)]
@@ -81,6 +83,42 @@ fn take_run(
     Ok(())
 }
 
+/// Takes in what runs tell of a key, before which so many others were made.
+fn join_in(
+    entries: &mut IndexMap<Vec<u8>, Counted>,
+    before: u32,
+    key: Vec<u8>,
+    counted: Counted,
+) -> Result<(), AllocError>
+    requires runs { runs_telling key.items (entries_in entries.old.entries) + counted.runs < 2 ^ 32 }
+    requires first { before + counted.first < 2 ^ 32 }
+    requires last { before + counted.last < 2 ^ 32 }
+    ensures { OnOk result (entries_in entries.new.entries ≡ with_entry before (entries_in entries.old.entries) (entry_in (key, counted))) }
+{
+    match entries.get_index_of(key.as_slice()) {
+        Some(place) => entries[place].join(before, &counted),
+        None => {
+            entries.insert(key, counted.behind(before))?;
+        }
+    }
+    Ok(())
+}
+
+/// Takes in what runs tell, before which so many others were made.
+fn join_entries(
+    entries: &mut IndexMap<Vec<u8>, Counted>,
+    before: u32,
+    behind: IndexMap<Vec<u8>, Counted>,
+) -> Result<(), AllocError>
+    requires { (runs : ℕ) × (before + runs < 2 ^ 32) × Fits before runs (entries_in entries.old.entries) (entries_in behind.entries) }
+    ensures { OnOk result (entries_in entries.new.entries ≡ joined before (entries_in entries.old.entries) (entries_in behind.entries)) }
+{
+    for (key, counted) in behind {
+        join_in(entries, before, key, counted)?;
+    }
+    Ok(())
+}
+
 impl Tally {
     /// Before the first run.
     pub fn new(alloc: Global) -> Tally
@@ -102,6 +140,20 @@ impl Tally {
         let run = self.runs;
         self.runs += 1;
         take_run(&mut self.entries, run, tellings)
+    }
+
+    /// Takes in what the runs behind these tell. Where there is no memory for all, nothing is kept of what runs told.
+    pub fn join(&mut self, alloc: Global, other: Tally) -> Result<(), AllocError>
+        requires { self.old.runs + other.runs < 2 ^ 32 }
+        ensures runs { self.new.runs ≡ self.old.runs + other.runs }
+        ensures joined { OnOk result (Joined self.old other self.new) }
+    {
+        let before = self.runs;
+        self.runs += other.runs;
+        let mut entries = replace(&mut self.entries, IndexMap::new(alloc));
+        join_entries(&mut entries, before, other.entries)?;
+        self.entries = entries;
+        Ok(())
     }
 
     /// How many different keys were told.

@@ -1,68 +1,63 @@
 use Rattle.std.proofs.Common.{◌≡◌, ◌+◌, ◌*◌, ◌<◌, ℕ, List, [], ◌∷◌, ◌++◌, length, length-append, sym, ap, subst, ◌∙◌, arith, append_assoc, rules}
 use Rattle.std.specs.Prelude.{slice_index_or}
 use Rattle.std.proofs.lemmas.List.{length_push}
-use Rattle.hunt_forms.specs.Hunts.{HasTaken, IsShare, Given}
+use Rattle.hunt_forms.specs.Hunts.{HasTaken, Given}
 use Rattle.hunt_forms.proofs.HuntsLaws.{has_more, next_is, next_inside, of_ok}
 use Rattle.hunt_forms.proofs.threads.take_shares.Goals as goal
-use Rattle.hunt_forms.proofs.threads.take_shares.Goals.{In_ok-reports}
+use Rattle.hunt_forms.proofs.threads.take_shares.Goals.{In_ok-told}
 
 -- what is left begins with the share that is taken next
-left : (c : In_ok-reports) → c.loop-reports.yielded ++ c.in-Some.reports ∷ c.next.new.self.rest.items ≡ c.args.shares.items
-left c = ap (λ (xs : List Given). c.loop-reports.yielded ++ xs) (sym c.in-Some.ensures.steps.0) ∙ c.loop-reports.invariant.whole
+left : (c : In_ok-told) → c.loop-told.yielded ++ c.in-Some.told ∷ c.next.new.self.rest.items ≡ c.args.shares.items
+left c = ap (λ (xs : List Given). c.loop-told.yielded ++ xs) (sym c.in-Some.ensures.steps.0) ∙ c.loop-told.invariant.whole
 
-inside : (c : In_ok-reports) → length c.loop-reports.yielded < length c.args.shares.items
-inside c = next_inside c.args.shares.items c.loop-reports.yielded c.next.new.self.rest.items c.in-Some.reports (left c)
+inside : (c : In_ok-told) → length c.loop-told.yielded < length c.args.shares.items
+inside c = next_inside c.args.shares.items c.loop-told.yielded c.next.new.self.rest.items c.in-Some.told (left c)
 
-here : (c : In_ok-reports) → c.in-Some.reports ≡ slice_index_or c.args.shares.items (length c.loop-reports.yielded) c.in-Some.reports
-here c = next_is c.args.shares.items c.loop-reports.yielded c.next.new.self.rest.items c.in-Some.reports (left c)
+here : (c : In_ok-told) → c.in-Some.told ≡ slice_index_or c.args.shares.items (length c.loop-told.yielded) c.in-Some.told
+here c = next_is c.args.shares.items c.loop-told.yielded c.next.new.self.rest.items c.in-Some.told (left c)
 
-long : (c : In_ok-reports) → length c.in_ok-reports.field-0.items ≡ c.args.share
-long c = of_ok (λ r. length r.items ≡ c.args.share) c.in-Some.reports c.in_ok-reports.field-0 c.in_ok-reports.was (c.requires.lengths (length c.loop-reports.yielded) c.in-Some.reports (inside c) (here c))
+many : (c : In_ok-told) → c.in_ok-told.field-0.runs ≡ c.args.share
+many c = of_ok (λ h. h.runs ≡ c.args.share) c.in-Some.told c.in_ok-told.field-0 c.in_ok-told.was (c.requires.runs (length c.loop-told.yielded) c.in-Some.told (inside c) (here c))
 
-pub take_all-requires : goal.take_all-requires
-take_all-requires c =
-    let r = c.requires.room in
-    let grown = c.loop-reports.invariant.grown r.before r.told in
-    let all = ap (λ n. n * c.args.share) (sym (ap length (left c)) ∙ length-append c.loop-reports.yielded (c.in-Some.reports ∷ c.next.new.self.rest.items)) in
-    let more = long c in
-    record { before = grown.0; told = grown.1; room = omega (arith, grown.2, all, more, r.room) }
+pub join-requires : goal.join-requires
+join-requires c =
+    let all = ap (λ n. n * c.args.share) (sym (ap length (left c)) ∙ length-append c.loop-told.yielded (c.in-Some.told ∷ c.next.new.self.rest.items)) in
+    let more = many c in
+    omega (arith, c.loop-told.invariant.runs, all, more, c.requires.room)
 
-pub loop-reports-init : goal.loop-reports-init
-loop-reports-init c = record {
+pub loop-told-init : goal.loop-told-init
+loop-told-init c = record {
   can = tt;
   finite = tt;
-  whole = c.into_iter-reports-iterator.ensures.into_iter_gives.0;
-  grown = λ before is. (before, is, omega arith);
+  whole = c.into_iter-told-iterator.ensures.into_iter_gives.0;
+  runs = omega arith;
   taken = λ q seed from made taken shares. subst (λ n. HasTaken q seed from n c.args.sums.now) (let same : made ≡ made + 0 * c.args.share = omega arith in same) taken;
 }
 
-pub loop-reports-preserved : goal.loop-reports-preserved
-loop-reports-preserved c =
-    let o = (goal.at.loop-reports-preserved c).In_ok-reports in
-    let one = ap (λ n. n * c.args.share) (length_push c.loop-reports.yielded c.in-Some.reports) in
-    let more = long o in
+pub loop-told-preserved : goal.loop-told-preserved
+loop-told-preserved c =
+    let o = (goal.at.loop-told-preserved c).In_ok-told in
+    let one = ap (λ n. n * c.args.share) (length_push c.loop-told.yielded c.in-Some.told) in
+    let more = many o in
     record {
       can = tt;
       finite = tt;
-      whole = append_assoc c.loop-reports.yielded (c.in-Some.reports ∷ []) c.next.new.self.rest.items ∙ left o;
-      grown = λ before is.
-          let g = c.loop-reports.invariant.grown before is in
-          let both = length-append g.0 c.in_ok-reports.field-0.items in
-          (g.0 ++ c.in_ok-reports.field-0.items, c.in_ok-take_all.ensures g.0 g.1, omega (arith, both, g.2, one, more));
+      whole = append_assoc c.loop-told.yielded (c.in-Some.told ∷ []) c.next.new.self.rest.items ∙ left o;
+      runs = omega (arith, c.join.ensures.runs, c.loop-told.invariant.runs, one, more);
       taken = λ q seed from made taken shares.
-          let n : ℕ = length c.loop-reports.yielded * c.args.share in
-          let share : IsShare q seed (from + made + n) c.args.share c.in_ok-reports.field-0.items =
-          of_ok (λ r. IsShare q seed (from + made + n) c.args.share r.items) c.in-Some.reports c.in_ok-reports.field-0 c.in_ok-reports.was (shares (length c.loop-reports.yielded) c.in-Some.reports (inside o) (here o)) in
-          let moved : IsShare q seed (from + (made + n)) c.args.share c.in_ok-reports.field-0.items =
-          subst (λ k. IsShare q seed k c.args.share c.in_ok-reports.field-0.items) (let same : from + made + n ≡ from + (made + n) = omega arith in same) share in
-          subst (λ k. HasTaken q seed from k c.take_all.new.sums)
-          (let same : made + n + c.args.share ≡ made + length (c.loop-reports.yielded ++ c.in-Some.reports ∷ []) * c.args.share = omega (arith, one) in same)
-          (has_more q seed from (made + n) c.args.share c.loop-reports.sums c.take_all.new.sums c.in_ok-reports.field-0.items (c.loop-reports.invariant.taken q seed from made taken shares) moved c.in_ok-take_all.ensures);
+          let n : ℕ = length c.loop-told.yielded * c.args.share in
+          let share : HasTaken q seed (from + made + n) c.args.share c.in_ok-told.field-0 =
+          of_ok (HasTaken q seed (from + made + n) c.args.share) c.in-Some.told c.in_ok-told.field-0 c.in_ok-told.was (shares (length c.loop-told.yielded) c.in-Some.told (inside o) (here o)) in
+          let moved : HasTaken q seed (from + (made + n)) c.args.share c.in_ok-told.field-0 =
+          subst (λ k. HasTaken q seed k c.args.share c.in_ok-told.field-0) (let same : from + made + n ≡ from + (made + n) = omega arith in same) share in
+          subst (λ k. HasTaken q seed from k c.join.new.self)
+          (let same : made + n + c.args.share ≡ made + length (c.loop-told.yielded ++ c.in-Some.told ∷ []) * c.args.share = omega (arith, one) in same)
+          (has_more q seed from (made + n) c.args.share c.loop-told.sums c.in_ok-told.field-0 c.join.new.self (c.loop-told.invariant.taken q seed from made taken shares) moved c.in_ok-join.ensures.joined);
     }
 
 pub returns : goal.returns
 returns c = λ q seed from made taken shares.
-    let none : length c.loop-reports.reports-iterator.rest.items ≡ 0 = search rules in
-    let all : length c.loop-reports.yielded ≡ length c.args.shares.items =
-    (let whole = ap length c.loop-reports.invariant.whole in let parts = length-append c.loop-reports.yielded c.loop-reports.reports-iterator.rest.items in omega (arith, none, whole, parts)) in
-    subst (λ n. HasTaken q seed from (made + n * c.args.share) c.loop-reports.sums) all (c.loop-reports.invariant.taken q seed from made taken shares)
+    let none : length c.loop-told.told-iterator.rest.items ≡ 0 = search rules in
+    let all : length c.loop-told.yielded ≡ length c.args.shares.items =
+    (let whole = ap length c.loop-told.invariant.whole in let parts = length-append c.loop-told.yielded c.loop-told.told-iterator.rest.items in omega (arith, none, whole, parts)) in
+    subst (λ n. HasTaken q seed from (made + n * c.args.share) c.loop-told.sums) all (c.loop-told.invariant.taken q seed from made taken shares)

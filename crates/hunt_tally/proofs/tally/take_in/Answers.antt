@@ -1,12 +1,12 @@
-use Rattle.std.proofs.Common.{◌≡◌, ℕ, ◌∷◌, [], ◌++◌, Option, Some, None, is_some, refl, sym, ap, ◌∙◌, subst, false, true≢false, Vec, Global}
+use Rattle.std.proofs.Common.{◌≡◌, ℕ, ◌∷◌, [], ◌++◌, Some, None, sym, ap, ◌∙◌, subst, Vec, Global}
 use Rattle.std.specs.Str.{bytes_eq}
 use Rattle.std.specs.Map.{lookup, keys_of}
 use Rattle.std.specs.List.{position}
 use Rattle.indexmap.proofs.CallerLemmas.{insert_entry-new}
 use Rattle.hunt_tally.specs.Tallies.{Tells}
-use Rattle.hunt_tally.specs.Takes.{fresh}
+use Rattle.hunt_tally.specs.Takes.{fresh, counted}
 use Rattle.hunt_tally.specs.Views.{entries_in, entry_in}
-use Rattle.hunt_tally.proofs.Entries.{entry_at, found, took_at, took_new, entries_push, counted_is}
+use Rattle.hunt_tally.proofs.Entries.{entry_at, found, none_is, put_at, put_new, entries_push, counted_is}
 use Rattle.hunt_tally.proofs.tally.take_in.Goals as goal
 
 pub count-requires : goal.count-requires
@@ -19,11 +19,7 @@ returns-in-Some-clause-taken c =
     let is : Some c.in-Some.place ≡ position (λ (k : Vec ℕ Global). bytes_eq c.args.telling.key k.items) (keys_of c.args.entries.now.entries)
     = subst (λ key. Some c.in-Some.place ≡ position (λ (k : Vec ℕ Global). bytes_eq key k.items) (keys_of c.args.entries.now.entries)) same c.in-Some.ensures.index in
     let place = found _ _ c.in-Some.place is in
-    took_at c.args.run c.args.telling c.args.entries.now.entries c.in-Some.place c.index_mut.result.now c.count.new.self (counted_is c.args.run _ _ c.count.ensures) c.index_mut.ensures.value place.0
-
-none_is : {X : Type 0} (o : Option X) → is_some o ≡ false → o ≡ None
-none_is None e = refl
-none_is (Some x) e = absurd (true≢false e)
+    put_at c.args.telling.key (counted c.args.run) (fresh c.args.run c.args.telling) c.args.entries.now.entries c.in-Some.place c.index_mut.result.now c.count.new.self (counted_is c.args.run _ _ c.count.ensures) c.index_mut.ensures.value place.0
 
 pub returns-in_ok-insert-in-None-clause-taken : goal.returns-in_ok-insert-in-None-clause-taken
 returns-in_ok-insert-in-None-clause-taken c =
@@ -38,4 +34,4 @@ returns-in_ok-insert-in-None-clause-taken c =
     let is : entry_in (c.telling.inside.key, c.new.result) ≡ fresh c.args.run c.args.telling
     = ap (λ v. entry_in (c.telling.inside.key, v)) c.new.ensures ∙ ap (fresh c.args.run) c.telling.view_is in
     ap entries_in pushed ∙ entries_push c.args.entries.now.entries (c.telling.inside.key, c.new.result)
-    ∙ ap (λ e. entries_in c.args.entries.now.entries ++ e ∷ []) is ∙ sym (took_new c.args.run c.args.telling c.args.entries.now.entries there)
+    ∙ ap (λ e. entries_in c.args.entries.now.entries ++ e ∷ []) is ∙ sym (put_new c.args.telling.key (counted c.args.run) (fresh c.args.run c.args.telling) c.args.entries.now.entries there)

@@ -1,13 +1,8 @@
 use Rattle.std.proofs.Common.{◌≡◌, ◌+◌, cond, map, refl, ap, ◌∙◌, List, [], ◌∷◌, ◌++◌, subst}
-use Rattle.std.specs.Prelude.{Result, Ok, Err, OnOk}
 use Rattle.hunt_tally.specs.Tallies.{Took}
 use Rattle.hunt_tally.specs.Reports.{Reported, Sums, missed_told, hunted}
-use Rattle.hunt_tally.proofs.Hunting.{IsMore, took_report}
+use Rattle.hunt_tally.proofs.Hunting.{IsMore, took_report, on_ok}
 use Rattle.hunt_tally.proofs.hunted.Hunted.take.Goals as goal
-
-on_ok : {A E : Type 0} {P Q : Type 0} (r : Result A E) → (P → Q) → OnOk r P → OnOk r Q
-on_ok (Ok a) f p = f p
-on_ok (Err e) f p = tt
 
 pub returns : goal.returns
 returns c =
