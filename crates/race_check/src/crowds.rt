@@ -63,6 +63,7 @@ fn find_near(crowds: &[Crowd], entry: &Entry, near: usize) -> Option<usize>
 }
 
 /// Adds the bytes of the entry with its step and the others, to a crowd that has those bytes if there is one.
+#[inline(never)]
 fn put(
     alloc: Global,
     crowds: &mut Vec<Crowd>,
@@ -85,7 +86,8 @@ fn put(
     Ok(())
 }
 
-/// Adds what a cut left of an entry, with the others.
+/// Adds what a cut left of an entry, with the others. Mostly it left nothing.
+#[inline(always)]
 fn put_cut(
     alloc: Global,
     crowds: &mut Vec<Crowd>,

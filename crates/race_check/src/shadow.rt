@@ -115,8 +115,30 @@ impl Shadow {
         Ok(latest)
     }
 
-    /// Takes the bytes of the span, which the step at `step` reads or writes, into the lists, and answers
+    /// Takes the bytes of the span, which the step at `step` reads or writes, into the lists of its lines, and answers
     /// the latest step that races with them.
+    #[inline(never)]
+    fn visit_lines(
+        &mut self,
+        span: &Span,
+        writes: bool,
+        step: u32,
+        walk: &Walk,
+    ) -> Result<Option<u32>, RaceError>
+        requires { IsLast walk.now step }
+        ensures { IfOk result (TakesSpan (IsOrdered (walked walk.now)) self.old self.new span.now step writes) }
+    {
+        let first = u64::from(span.at) / 128;
+        let end = (u64::from(span.at) + u64::from(span.len) + 127) / 128;
+        let mut latest = None;
+        for line in first..end {
+            let entry = clip(span, line, step);
+            latest = later(latest, self.visit_line(&entry, writes, line, walk)?);
+        }
+        Ok(latest)
+    }
+
+    /// The same. Many spans are empty.
     fn visit_span(
         &mut self,
         span: &Span,
@@ -130,14 +152,7 @@ impl Shadow {
         if span.len == 0 {
             return Ok(None);
         }
-        let first = u64::from(span.at) / 128;
-        let end = (u64::from(span.at) + u64::from(span.len) + 127) / 128;
-        let mut latest = None;
-        for line in first..end {
-            let entry = clip(span, line, step);
-            latest = later(latest, self.visit_line(&entry, writes, line, walk)?);
-        }
-        Ok(latest)
+        self.visit_lines(span, writes, step, walk)
     }
 
     /// Takes what the step at `step` fetches, reads and writes into the shadow, and answers the latest step that races with it.

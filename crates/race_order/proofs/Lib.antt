@@ -43,6 +43,9 @@ pub mod Small
 pub mod Shapes
 pub mod Moved
 pub mod Growing
+pub mod Gains
+pub mod Entered
+pub mod Sole
 pub mod InPlace
 pub mod Untouched
 pub mod OwnSteps

@@ -18,6 +18,8 @@ pub mod Lives
 pub mod Passes
 pub mod Ordering
 pub mod Bringing
+pub mod Gains
+pub mod Sole
 pub mod Standing
 pub mod Stages
 pub mod RunLaws

@@ -5,10 +5,11 @@ ghost use Rattle.std.specs.List.{list_any};
 ghost use Rattle.order_sets.specs.declared.facts.At.{At};
 ghost use Rattle.race_order.specs.declared.roles.QueueRole.{QueueRole as ARole};
 ghost use Rattle.race_order.specs.Counted.{Fits};
-ghost use Rattle.race_order.specs.Lives.{HaveRoom, AreWithin, AreOutstanding, lives_of, near};
+ghost use Rattle.race_order.specs.Lives.{HaveRoom, AreWithin, AreOutstanding, is_touched, lives_of, near};
 ghost use Rattle.race_order.specs.Ordering.{issued_in, issue_list, spe_in};
 ghost use Rattle.race_order.specs.Passes.{AreMoved, is_over};
 ghost use Rattle.race_order.specs.Bringing.{has_brought, IsOfChains, entered, nexts, AreStepped, AreKept};
+ghost use Rattle.race_order.specs.Sole.{ArePutOn, IsSole};
 ghost use Rattle.race_order.specs.Standing.{with_issued};
 ghost use Rattle.race_order.specs.Tables.{sets_have, AreOf};
 
@@ -16,12 +17,13 @@ use crate::boxes::Boxes;
 use crate::brought::Brought;
 use crate::entering::enter_all;
 use crate::error::OrderError;
-use crate::going::go_on_all;
+use crate::going::{go_on_all, pass_stall};
 use crate::lists::{find_issue, spe_of};
-use crate::lives::{Live, touch_all};
+use crate::lives::{Live, after_step, enter, target_of, touch_all};
 use crate::passes::{pass_done, pass_fixed, pass_issued};
 use crate::progress::begin;
 use crate::sets::Sets;
+use crate::touched::only_touched;
 use cell_base::Step;
 use cell_machine::Note;
 use order_sets::Known;
@@ -36,6 +38,88 @@ fn pass_issue(sets: &mut Sets, spare: &mut Known, step: Step, note: Note) -> Res
     match find_issue(step, note) {
         Some(issued) => pass_issued(sets, spare, &issued),
         None => Ok(()),
+    }
+}
+
+/// Puts the only command forward that the step touches, and answers whether it is complete then.
+fn put_one_on(
+    sets: &mut Sets,
+    spare: &mut Known,
+    lives: &mut [Live],
+    i: usize,
+    brought: &Brought,
+) -> Result<bool, OrderError>
+    requires sole { IsSole (λ l. is_touched l brought.now.step brought.now.effect.now.note) lives.old i }
+    requires room { HaveRoom lives.old }
+    requires live { AreOutstanding lives.old }
+    requires within { AreWithin brought.now.spes lives.old }
+    requires brought { IsOfChains brought.now }
+    requires sets { AreOf (3 * brought.now.spes + 1) sets.old }
+    requires spare { spare.old.chains ≡ 3 * brought.now.spes + 1 }
+    ensures put { OnOk result (ArePutOn brought.now.spes brought.now.step brought.now.effect.now.note (has_brought brought.now) lives.old (sets_have sets.old) (sets_have sets.new)) }
+    ensures next { OnOk result (lives.new ≡ nexts brought.now.step brought.now.effect.now lives.old) }
+    ensures done { IfOk result (λ done. done ≡ list_any (λ l. l.progress.done) lives.new) }
+    ensures chains { OnOk result (AreOf (spare.old.chains) sets.new) }
+    ensures spare { spare.new.chains ≡ spare.old.chains }
+{
+    let (step, note) = (brought.step, brought.effect.note);
+    let live = lives[i];
+    let next = after_step(&live, step, note);
+    enter(sets, &live, &next, brought)?;
+    pass_issue(sets, spare, step, note)?;
+    pass_stall(sets, spare, &live, &next)?;
+    lives[i] = next;
+    Ok(next.progress.done)
+}
+
+/// Puts all commands forward that the step touches, and answers whether one is complete then.
+fn put_all_on(
+    sets: &mut Sets,
+    spare: &mut Known,
+    lives: &mut [Live],
+    brought: &Brought,
+) -> Result<bool, OrderError>
+    requires room { HaveRoom lives.old }
+    requires live { AreOutstanding lives.old }
+    requires within { AreWithin brought.now.spes lives.old }
+    requires brought { IsOfChains brought.now }
+    requires sets { AreOf (3 * brought.now.spes + 1) sets.old }
+    requires spare { spare.old.chains ≡ 3 * brought.now.spes + 1 }
+    ensures put { OnOk result (ArePutOn brought.now.spes brought.now.step brought.now.effect.now.note (has_brought brought.now) lives.old (sets_have sets.old) (sets_have sets.new)) }
+    ensures next { OnOk result (lives.new ≡ nexts brought.now.step brought.now.effect.now lives.old) }
+    ensures done { IfOk result (λ done. done ≡ list_any (λ l. l.progress.done) lives.new) }
+    ensures chains { OnOk result (AreOf (spare.old.chains) sets.new) }
+    ensures spare { spare.new.chains ≡ spare.old.chains }
+{
+    touch_all(sets, lives, brought)?;
+    pass_issue(sets, spare, brought.step, brought.effect.note)?;
+    let done = go_on_all(sets, spare, lives, brought)?;
+    Ok(done)
+}
+
+/// Puts the commands forward that the step touches, and answers whether one is complete then.
+fn put_on(
+    sets: &mut Sets,
+    spare: &mut Known,
+    lives: &mut [Live],
+    brought: &Brought,
+) -> Result<bool, OrderError>
+    requires room { HaveRoom lives.old }
+    requires live { AreOutstanding lives.old }
+    requires within { AreWithin brought.now.spes lives.old }
+    requires brought { IsOfChains brought.now }
+    requires sets { AreOf (3 * brought.now.spes + 1) sets.old }
+    requires spare { spare.old.chains ≡ 3 * brought.now.spes + 1 }
+    ensures put { OnOk result (ArePutOn brought.now.spes brought.now.step brought.now.effect.now.note (has_brought brought.now) lives.old (sets_have sets.old) (sets_have sets.new)) }
+    ensures next { OnOk result (lives.new ≡ nexts brought.now.step brought.now.effect.now lives.old) }
+    ensures done { IfOk result (λ done. done ≡ list_any (λ l. l.progress.done) lives.new) }
+    ensures chains { OnOk result (AreOf (spare.old.chains) sets.new) }
+    ensures spare { spare.new.chains ≡ spare.old.chains }
+{
+    // One command is put forward by itself: then its next state is made once.
+    match only_touched(lives, target_of(brought.step, brought.effect.note)) {
+        Some(i) => put_one_on(sets, spare, lives, i, brought),
+        None => put_all_on(sets, spare, lives, brought),
     }
 }
 
@@ -60,13 +144,10 @@ fn apply(
     ensures chains { OnOk result (AreOf (3 * brought.now.spes + 1) sets.new) }
     ensures spare { spare.new.chains ≡ spare.old.chains }
 {
-    let (step, note) = (brought.step, brought.effect.note);
     enter_all(sets, boxes, brought)?;
-    touch_all(sets, lives, brought)?;
-    pass_issue(sets, spare, step, note)?;
-    let done = go_on_all(sets, spare, lives, brought)?;
+    let done = put_on(sets, spare, lives, brought)?;
     pass_done(sets, spare, lives, done)?;
-    pass_fixed(sets, spare, step, brought.effect.fixed)?;
+    pass_fixed(sets, spare, brought.step, brought.effect.fixed)?;
     Ok(done)
 }
 

@@ -8,7 +8,10 @@ ghost use Rattle.order_sets.specs.Stands.{has_at, Fits};
 ghost use Rattle.race_order.specs.declared.roles.QueueRole.{QueueRole as ARole};
 ghost use Rattle.race_order.specs.Tables.{same_role, row_has, bucket_has, AreRowsOf, FitsChains};
 ghost use Rattle.race_order.specs.Passes.{is_over_as, is_over};
+ghost use Rattle.race_order.specs.Bringing.{IsOfChains};
+ghost use Rattle.race_order.specs.Gains.{SomeFits, has_gain};
 
+use crate::brought::{Brought, add_all};
 use crate::error::OrderError;
 use crate::lives::Live;
 use crate::roles::{QueueRole, is_role};
@@ -50,7 +53,7 @@ fn gather_row(row: &Row, role: QueueRole, known: &mut Known) -> Result<(), Order
     ensures has { OnOk result ((at : At) → has_at known.new at ≡ (has_at known.old at || row_has role at row.now)) }
     ensures chains { known.new.chains ≡ known.old.chains }
 {
-    if is_role(row.role, role) {
+    if is_role(&row.role, &role) {
         known.join(&row.known)?;
     }
     Ok(())
@@ -78,6 +81,24 @@ fn put_row(row: &mut Row, role: QueueRole, known: &Known) -> Result<(), OrderErr
     Ok(())
 }
 
+/// Adds to the row, which is the role's, what the step brings, and what one more fact covers, if there is one.
+fn bring_row(
+    row: &mut Row,
+    role: QueueRole,
+    brought: &Brought,
+    more: Option<Fact>,
+) -> Result<(), OrderError>
+    requires role { same_role row.old.role role ≡ true }
+    requires brought { IsOfChains brought.now }
+    requires more { SomeFits (3 * brought.now.spes + 1) more }
+    requires chains { row.old.known.chains ≡ 3 * brought.now.spes + 1 }
+    ensures has { OnOk result ((r : ARole) (at : At) → row_has r at row.new ≡ (row_has r at row.old || (same_role role r && has_gain brought.now more at))) }
+    ensures chains { row.new.known.chains ≡ row.old.known.chains }
+{
+    add_all(&mut row.known, brought, more)?;
+    Ok(())
+}
+
 impl Bucket {
     pub(crate) fn new(alloc: Global) -> Bucket
         ensures { result.rows.items ≡ [] }
@@ -91,7 +112,7 @@ impl Bucket {
     pub(crate) fn holds(&self, role: QueueRole) -> bool
         ensures { result ≡ list_any (λ row. same_role row.role role) self.now.rows.items }
     {
-        self.rows.iter().any(|row| is_role(row.role, role))
+        self.rows.iter().any(|row| is_role(&row.role, &role))
     }
 
     /// Adds to the known steps what the role's set has.
@@ -117,7 +138,7 @@ impl Bucket {
         ensures role { IfOk result (λ i. (d : Row) → same_role (slice_index_or self.new.rows.items i d).role role ≡ true) }
     {
         for i in 0..self.rows.len() {
-            if is_role(self.rows[i].role, role) {
+            if is_role(&self.rows[i].role, &role) {
                 return Ok(i);
             }
         }
@@ -163,6 +184,25 @@ impl Bucket {
     {
         let i = self.place(alloc, spes, role)?;
         add_row(&mut self.rows[i], role, fact)?;
+        Ok(())
+    }
+
+    /// Adds to the role's set what the step brings, and what one more fact covers, if there is one.
+    pub(crate) fn bring(
+        &mut self,
+        alloc: Global,
+        role: QueueRole,
+        brought: &Brought,
+        more: Option<Fact>,
+    ) -> Result<(), OrderError>
+        requires brought { IsOfChains brought.now }
+        requires more { SomeFits (3 * brought.now.spes + 1) more }
+        requires rows { AreRowsOf (3 * brought.now.spes + 1) self.old.rows.items }
+        ensures has { OnOk result ((r : ARole) (at : At) → bucket_has r at self.new ≡ (bucket_has r at self.old || (same_role role r && has_gain brought.now more at))) }
+        ensures rows { OnOk result (AreRowsOf (3 * brought.now.spes + 1) self.new.rows.items) }
+    {
+        let i = self.place(alloc, brought.spes, role)?;
+        bring_row(&mut self.rows[i], role, brought, more)?;
         Ok(())
     }
 

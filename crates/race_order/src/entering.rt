@@ -28,7 +28,7 @@ fn enter_some(sets: &mut Sets, role: Option<Role>, brought: &Brought) -> Result<
     ensures chains { OnOk result (AreOf (3 * brought.now.spes + 1) sets.new) }
 {
     if let Some(role) = role {
-        sets.bring(QueueRole::Base { role }, brought)?;
+        sets.bring(QueueRole::Base { role }, brought, None)?;
     }
     Ok(())
 }
@@ -77,6 +77,7 @@ fn enter_issued(sets: &mut Sets, brought: &Brought) -> Result<(), OrderError>
                 cmd: i.cmd,
             },
             brought,
+            None,
         )?;
     }
     Ok(())

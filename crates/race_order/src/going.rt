@@ -16,7 +16,7 @@ use crate::sets::Sets;
 use order_sets::Known;
 
 /// The list's set goes into that of its tag, where the list is stalled by the step.
-fn pass_stall(
+pub(crate) fn pass_stall(
     sets: &mut Sets,
     spare: &mut Known,
     live: &Live,

@@ -24,6 +24,7 @@ mod roles;
 mod sets;
 mod stamps;
 mod table;
+mod touched;
 
 pub use error::OrderError;
 pub use orderer::Orderer;

@@ -3,7 +3,6 @@
 ghost use Rattle.std.specs.Prelude.{Some, ◌≡◌, ℕ, ◌+◌, ◌*◌, ◌<◌, ◌≤◌, ◌^◌, ◌||◌, ◌&&◌, IfOk, OnOk, length, [], false};
 ghost use Rattle.std.specs.List.{list_any};
 ghost use Rattle.order_sets.specs.declared.facts.At.{At as AnAt};
-ghost use Rattle.order_sets.specs.declared.facts.Fact.TheVariants.{Whole};
 ghost use Rattle.order_sets.specs.Facts.{covers};
 ghost use Rattle.race_order.specs.Trace.{is_of};
 ghost use Rattle.race_order.specs.Status.{is_by, elements_done};
@@ -14,7 +13,7 @@ ghost use Rattle.race_order.specs.Bringing.{has_brought, IsOfChains};
 ghost use Rattle.race_order.specs.Lines.{is_queued_line};
 ghost use Rattle.race_order.specs.Ordering.{spe_in};
 ghost use Rattle.race_order.specs.Lives.{acked_by, acks, reads_of, delivers, goes_in, moves_own_line, moves_line_by, is_only_piece, is_only_step, near, is_target, is_touched, moved, own_has, HaveRoom, AreWithin, AreOutstanding, touch_brings, lives_of};
-ghost use Rattle.race_order.specs.Tables.{same_role, sets_have, AreOf};
+ghost use Rattle.race_order.specs.Tables.{same_role, sets_have, AreOf, FitsChains};
 
 use crate::brought::Brought;
 use crate::error::OrderError;
@@ -248,71 +247,55 @@ pub(crate) fn after_step(live: &Live, step: Step, note: Note) -> Live
     }
 }
 
-/// Adds that the command is complete, where it is.
-fn add_whole(sets: &mut Sets, role: QueueRole, chain: u8, live: &Live) -> Result<(), OrderError>
-    requires { AreOf (3 * sets.old.table.spes + 1) sets.old }
-    ensures has { OnOk result ((r : ARole) (at : AnAt) → sets_have sets.new r at ≡ (sets_have sets.old r at || (same_role role r && (live.now.progress.done && covers (Whole chain live.now.cmd) at)))) }
-    ensures chains { OnOk result (AreOf (3 * sets.old.table.spes + 1) sets.new) }
-{
-    if live.progress.done {
-        sets.add(
-            role,
-            Fact::Whole {
-                chain,
-                cmd: live.cmd,
-            },
-        )?;
-    }
-    Ok(())
-}
-
-/// Adds what is done of the command to its set.
-fn add_own(sets: &mut Sets, spes: u8, live: &Live) -> Result<(), OrderError>
+/// What is done of the command: all of it where it is complete, else its first elements.
+fn own_fact(spes: u8, live: &Live) -> Fact
     requires room { elements_done live.now.progress < 2 ^ 16 }
     requires spe { live.now.spe < spes }
     requires spes { spes ≤ 16 }
-    requires sets { AreOf (3 * spes + 1) sets.old }
-    ensures has { OnOk result ((r : ARole) (at : AnAt) → sets_have sets.new r at ≡ (sets_have sets.old r at || (same_role (Waits live.now.spe live.now.cmd) r && own_has spes live.now at))) }
-    ensures chains { OnOk result (AreOf (3 * spes + 1) sets.new) }
+    ensures has { (at : AnAt) → covers result at ≡ own_has spes live.now at }
+    ensures fits { (chains : ℕ) → FitsChains chains result }
+{
+    let chain = 2 * spes + live.spe;
+    let cmd = live.cmd;
+    if live.progress.done {
+        Fact::Whole { chain, cmd }
+    } else {
+        let below = done_elements(&live.progress) as u16;
+        Fact::Elements { chain, cmd, below }
+    }
+}
+
+/// Adds what is done of the touched command to its set, and what the step brings, where that goes in itself. This is how the command is after the step.
+pub(crate) fn enter(
+    sets: &mut Sets,
+    live: &Live,
+    next: &Live,
+    brought: &Brought,
+) -> Result<(), OrderError>
+    requires next { next.now ≡ moved live.now brought.now.step brought.now.effect.now.note }
+    requires room { live.now.progress.read + 1 < 2 ^ 16 }
+    requires live { live.now.progress.done ≡ false }
+    requires spe { live.now.spe < brought.now.spes }
+    requires brought { IsOfChains brought.now }
+    requires sets { AreOf (3 * brought.now.spes + 1) sets.old }
+    ensures has { OnOk result ((r : ARole) (at : AnAt) → sets_have sets.new r at ≡ (sets_have sets.old r at || (same_role (Waits live.now.spe live.now.cmd) r && ((goes_in live.now brought.now.step brought.now.effect.now.note && has_brought brought.now at) || own_has brought.now.spes next.now at)))) }
+    ensures chains { OnOk result (AreOf (3 * brought.now.spes + 1) sets.new) }
 {
     let role = QueueRole::Waits {
         spe: live.spe,
         cmd: live.cmd,
     };
-    let chain = 2 * spes + live.spe;
-    let below = done_elements(&live.progress) as u16;
-    sets.add(
-        role,
-        Fact::Elements {
-            chain,
-            cmd: live.cmd,
-            below,
-        },
-    )?;
-    add_whole(sets, role, chain, live)?;
-    Ok(())
-}
-
-/// What the step brings goes into the set of the command, where it goes in itself.
-fn enter(sets: &mut Sets, live: &Live, brought: &Brought) -> Result<(), OrderError>
-    requires brought { IsOfChains brought.now }
-    requires sets { AreOf (3 * brought.now.spes + 1) sets.old }
-    ensures has { OnOk result ((r : ARole) (at : AnAt) → sets_have sets.new r at ≡ (sets_have sets.old r at || (same_role (Waits live.now.spe live.now.cmd) r && (goes_in live.now brought.now.step brought.now.effect.now.note && has_brought brought.now at)))) }
-    ensures chains { OnOk result (AreOf (3 * brought.now.spes + 1) sets.new) }
-{
+    let own = own_fact(brought.spes, next);
     if goes_into(live, &brought.step, &brought.effect.note) {
-        sets.bring(
-            QueueRole::Waits {
-                spe: live.spe,
-                cmd: live.cmd,
-            },
-            brought,
-        )?;
+        sets.bring(role, brought, Some(own))?;
+        Ok(())
+    } else {
+        sets.add(role, own)?;
+        Ok(())
     }
-    Ok(())
 }
 
-/// The same, and what is done of the command after the step, where it touches the command.
+/// The same, where the step touches the command.
 fn touch(sets: &mut Sets, live: &Live, target: Target, brought: &Brought) -> Result<(), OrderError>
     requires target { (l : ALive) → is_target target l ≡ is_touched l brought.now.step brought.now.effect.now.note }
     requires room { live.now.progress.read + 1 < 2 ^ 16 }
@@ -326,9 +309,8 @@ fn touch(sets: &mut Sets, live: &Live, target: Target, brought: &Brought) -> Res
     if !touches(live, target) {
         return Ok(());
     }
-    enter(sets, live, brought)?;
     let next = after_step(live, brought.step, brought.effect.note);
-    add_own(sets, brought.spes, &next)?;
+    enter(sets, live, &next, brought)?;
     Ok(())
 }
 

@@ -213,7 +213,20 @@ fn pass_complete(
     Ok(())
 }
 
-/// The same for all commands, of which one is complete or none.
+/// The same for all commands.
+fn pass_each(sets: &mut Sets, spare: &mut Known, next: &[Live]) -> Result<(), OrderError>
+    requires { AreOf (spare.old.chains) sets.old }
+    ensures has { OnOk result (AreMoved (λ g. list_any (done_any g next.now) next.now) (sets_have sets.old) (sets_have sets.new)) }
+    ensures chains { OnOk result (AreOf (spare.old.chains) sets.new) }
+    ensures spare { spare.new.chains ≡ spare.old.chains }
+{
+    for c in next {
+        pass_complete(sets, spare, c, next)?;
+    }
+    Ok(())
+}
+
+/// The same, where one is complete or none.
 pub(crate) fn pass_done(
     sets: &mut Sets,
     spare: &mut Known,
@@ -229,9 +242,7 @@ pub(crate) fn pass_done(
     if !done {
         return Ok(());
     }
-    for c in next {
-        pass_complete(sets, spare, c, next)?;
-    }
+    pass_each(sets, spare, next)?;
     Ok(())
 }
 

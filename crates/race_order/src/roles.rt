@@ -50,10 +50,10 @@ pub(crate) enum QueueRole {
 }
 
 /// Whether the two are one role.
-fn is_same(a: Role, b: Role) -> bool
-    ensures { result ≡ same_base a b }
+fn is_same(a: &Role, b: &Role) -> bool
+    ensures { result ≡ same_base a.now b.now }
 {
-    match (a, b) {
+    match (*a, *b) {
         (Role::OfExec { spe: p }, Role::OfExec { spe: q }) => p == q,
         (Role::OfHost, Role::OfHost) => true,
         (Role::OfSlot { spe: p }, Role::OfSlot { spe: q }) => p == q,
@@ -99,11 +99,11 @@ pub(crate) fn is_class(a: Class, b: Class) -> bool
 }
 
 /// Whether the two are one role.
-pub(crate) fn is_role(a: QueueRole, b: QueueRole) -> bool
-    ensures { result ≡ same_role a b }
+pub(crate) fn is_role(a: &QueueRole, b: &QueueRole) -> bool
+    ensures { result ≡ same_role a.now b.now }
 {
-    match (a, b) {
-        (QueueRole::Base { role: r }, QueueRole::Base { role: s }) => is_same(r, s),
+    match (*a, *b) {
+        (QueueRole::Base { role: r }, QueueRole::Base { role: s }) => is_same(&r, &s),
         (QueueRole::Waits { spe: p, cmd: c }, QueueRole::Waits { spe: q, cmd: d }) => {
             p == q && c == d
         }

@@ -9,10 +9,11 @@ ghost use Rattle.race_order.specs.declared.roles.QueueRole.{QueueRole as ARole};
 ghost use Rattle.race_order.specs.declared.roles.QueueRole.TheVariants.{Base};
 ghost use Rattle.race_order.specs.declared.roles.Role.TheVariants.{OfExec};
 ghost use Rattle.race_order.specs.Tables.{same_role, own_of, sets_have, AreOf, FitsChains};
-ghost use Rattle.race_order.specs.Bringing.{has_brought, IsOfChains};
+ghost use Rattle.race_order.specs.Bringing.{IsOfChains};
+ghost use Rattle.race_order.specs.Gains.{SomeFits, has_gain};
 ghost use Rattle.race_order.specs.Passes.{is_over};
 
-use crate::brought::Brought;
+use crate::brought::{Brought, add_all};
 use crate::error::OrderError;
 use crate::lives::Live;
 use crate::roles::{QueueRole, Role};
@@ -161,16 +162,41 @@ impl Sets {
         }
     }
 
-    /// Adds what the step brings to the role's set.
-    pub(crate) fn bring(&mut self, role: QueueRole, brought: &Brought) -> Result<(), OrderError>
+    /// Adds to the set of the processor's instructions what the step brings, and what one more fact covers, if there is one.
+    fn bring_own(
+        &mut self,
+        spe: u8,
+        brought: &Brought,
+        more: Option<Fact>,
+    ) -> Result<(), OrderError>
+        requires inside { spe < length self.old.own.items }
         requires brought { IsOfChains brought.now }
+        requires more { SomeFits (3 * brought.now.spes + 1) more }
         requires sets { AreOf (3 * brought.now.spes + 1) self.old }
-        ensures has { OnOk result ((r : ARole) (at : AnAt) → sets_have self.new r at ≡ (sets_have self.old r at || (same_role role r && has_brought brought.now at))) }
+        ensures has { OnOk result ((r : ARole) (at : AnAt) → sets_have self.new r at ≡ (sets_have self.old r at || (same_role (Base (OfExec spe)) r && has_gain brought.now more at))) }
         ensures chains { OnOk result (AreOf (3 * brought.now.spes + 1) self.new) }
     {
-        self.put(role, brought.known)?;
-        self.add(role, brought.fact)?;
+        add_all(&mut self.own[usize::from(spe)], brought, more)?;
         Ok(())
+    }
+
+    /// Adds to the role's set what the step brings, and what one more fact covers, if there is one.
+    pub(crate) fn bring(
+        &mut self,
+        role: QueueRole,
+        brought: &Brought,
+        more: Option<Fact>,
+    ) -> Result<(), OrderError>
+        requires brought { IsOfChains brought.now }
+        requires more { SomeFits (3 * brought.now.spes + 1) more }
+        requires sets { AreOf (3 * brought.now.spes + 1) self.old }
+        ensures has { OnOk result ((r : ARole) (at : AnAt) → sets_have self.new r at ≡ (sets_have self.old r at || (same_role role r && has_gain brought.now more at))) }
+        ensures chains { OnOk result (AreOf (3 * brought.now.spes + 1) self.new) }
+    {
+        match self.own_at(role) {
+            Some(spe) => self.bring_own(spe, brought, more),
+            None => self.table.bring(role, brought, more),
+        }
     }
 
     /// Drops the sets that the steps of complete commands waited for.

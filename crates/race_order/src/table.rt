@@ -7,7 +7,10 @@ ghost use Rattle.order_sets.specs.Stands.{has_at};
 ghost use Rattle.race_order.specs.declared.roles.QueueRole.{QueueRole as ARole};
 ghost use Rattle.race_order.specs.Tables.{same_role, number, table_has, IsTableOf, FitsChains};
 ghost use Rattle.race_order.specs.Passes.{is_over};
+ghost use Rattle.race_order.specs.Bringing.{IsOfChains};
+ghost use Rattle.race_order.specs.Gains.{SomeFits, has_gain};
 
+use crate::brought::Brought;
 use crate::buckets::Bucket;
 use crate::error::OrderError;
 use crate::lives::Live;
@@ -105,6 +108,25 @@ impl Table {
         let k = self.bucket(role)?;
         let (alloc, spes) = (self.alloc, self.spes);
         self.buckets[k].add(alloc, spes, role, fact)?;
+        Ok(())
+    }
+
+    /// Adds to the role's set what the step brings, and what one more fact covers, if there is one.
+    pub(crate) fn bring(
+        &mut self,
+        role: QueueRole,
+        brought: &Brought,
+        more: Option<Fact>,
+    ) -> Result<(), OrderError>
+        requires brought { IsOfChains brought.now }
+        requires more { SomeFits (3 * brought.now.spes + 1) more }
+        requires sets { IsTableOf (3 * brought.now.spes + 1) self.old }
+        ensures has { OnOk result ((r : ARole) (at : At) → table_has self.new r at ≡ (table_has self.old r at || (same_role role r && has_gain brought.now more at))) }
+        ensures chains { OnOk result (IsTableOf (3 * brought.now.spes + 1) self.new) }
+    {
+        let k = self.bucket(role)?;
+        let alloc = self.alloc;
+        self.buckets[k].bring(alloc, role, brought, more)?;
         Ok(())
     }
 

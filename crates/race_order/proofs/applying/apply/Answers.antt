@@ -11,23 +11,24 @@ use Rattle.race_order.proofs.applying.apply.Goals.{In_ok-pass_fixed}
 pub returns-clause-stepped : goal.returns-clause-stepped
 returns-clause-stepped c =
     let b = c.args.brought.now in
+    let put = c.in_ok-done.ensures.put in
     record {
-      touched = sets_have c.touch_all.new.sets;
-      issued = sets_have c.pass_issue.new.sets;
-      stalled = sets_have c.go_on_all.new.sets;
+      touched = put.touched;
+      issued = put.issued;
+      stalled = sets_have c.put_on.new.sets;
       done = sets_have c.pass_done.new.sets;
       is_touched = λ r a.
-          c.in_ok-touch_all.ensures.has r a
+          put.is_touched r a
           ∙ ap (λ x. x || list_any (touch_brings b.spes b.step b.effect.now.note (has_brought c.args.brought.now) r a) c.args.lives.now) (c.in_ok-enter_all.ensures.has r a);
-      is_issued = c.in_ok-pass_issue.ensures.has;
-      is_stalled = c.in_ok-done.ensures.has;
-      is_done = subst (λ (next : List Live). AreMoved (λ g. list_any (done_any g next) next) (sets_have c.go_on_all.new.sets) (sets_have c.pass_done.new.sets)) c.in_ok-done.ensures.next c.in_ok-pass_done.ensures.has;
+      is_issued = put.is_issued;
+      is_stalled = put.is_stalled;
+      is_done = subst (λ (next : List Live). AreMoved (λ g. list_any (done_any g next) next) (sets_have c.put_on.new.sets) (sets_have c.pass_done.new.sets)) c.in_ok-done.ensures.next c.in_ok-pass_done.ensures.has;
       is_fixed = c.in_ok-pass_fixed.ensures.has;
     }
 
 -- the spare set stays of as many chains
 same_chains : (c : In_ok-pass_fixed) → c.pass_done.new.spare.chains ≡ c.args.spare.now.chains
-same_chains c = c.pass_done.ensures.spare ∙ (c.go_on_all.ensures.spare ∙ c.pass_issue.ensures.spare)
+same_chains c = c.pass_done.ensures.spare ∙ c.put_on.ensures.spare
 
 pub returns-clause-next : goal.returns-clause-next
 returns-clause-next c = c.in_ok-done.ensures.next

@@ -2,7 +2,7 @@ use Rattle.std.proofs.Common.{◌≡◌, take}
 use Rattle.std.specs.List.{list_any}
 use Rattle.race_order.specs.Passes.{AreMoved, done_any}
 use Rattle.race_order.specs.Tables.{sets_have, AreOf}
-use Rattle.race_order.proofs.passes.pass_done.Given as goal
+use Rattle.race_order.proofs.passes.pass_each.Given as goal
 
 abbrev pub invariant-loop-c : goal.invariant-loop-c
 invariant-loop-c l = record {
