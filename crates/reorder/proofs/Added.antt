@@ -229,6 +229,14 @@ covers-next m j tracks mid new index kept before one k d high = on (cases_lt k i
     on (inl l) = covers-more m j (slice_index_or tracks k d) mid new kept (before k d l)
     on (inr l) = let e : index ≡ k = omega arith in subst (λ i. CoversTrack m j (slice_index_or tracks i d) new) e (one d)
 
+-- an index that is one of the first k + 1 and isn't k
+pub not-yet : (own k : ℕ) → own < k + 1 → (k ≡ own → ⊥) → own < k
+not-yet own k low other = on (cases_lt own k)
+  where
+    on : (own < k) ⊎ (k ≤ own) → own < k
+    on (inl l) = l
+    on (inr h) = absurd (other (omega arith))
+
 pub blocks-chains : (m : Ran) (j : ℕ) (t : Track) → IsTrack m j t → Each (AreChains m j) t.blocks.items
 blocks-chains m j t is = each-on (IsBlock m j t.chain.items) (AreChains m j) t.blocks.items (λ b block. each-on (IsStrand m j t.chain.items) (λ (s : Strand). IsChain m j (places s)) b.strands.items (λ s strand. strand.steps) block.strands) is.blocks
 

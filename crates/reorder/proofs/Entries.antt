@@ -1,13 +1,13 @@
 -- What lists of numbers have.
-use Rattle.std.proofs.Common.{◌≡◌, ℕ, zero, suc, ◌+◌, ◌<◌, List, [], ◌∷◌, ◌++◌, length, take, get_or, set, refl, sym, ap, ◌∙◌, subst, arith, ◌⊎◌, inl, inr, Some}
-use Rattle.std.specs.Prelude.{◌↔◌, slice_get, Vec}
+use Rattle.std.proofs.Common.{◌≡◌, ℕ, zero, suc, ◌+◌, ◌<◌, List, [], ◌∷◌, ◌++◌, length, take, get_or, set, refl, sym, ap, ◌∙◌, subst, arith, ◌⊎◌, inl, inr, Option, Some, None}
+use Rattle.std.specs.Prelude.{◌↔◌, slice_get}
 use Rattle.std.specs.List.{insert, remove}
-use Rattle.std.specs.declared.alloc.Global.{Global}
 use Rattle.std.proofs.lemmas.Bool.{cases_eq}
 use Rattle.std.proofs.lemmas.List.{take_more}
 use Rattle.std.proofs.lemmas.Option.{none-some, same_Some, slice_get-get_or}
 use Rattle.settled.specs.Lists.{IsIn}
-use Rattle.reorder.specs.Lists.{list_at}
+use Rattle.reorder.specs.Lists.{in_front, list_at, steps_in}
+use Rattle.reorder.specs.declared.few.Few.{Few}
 
 pub in-at : (xs : List ℕ) (k j : ℕ) → slice_get xs k ≡ Some j → IsIn j xs
 in-at [] k j h = absurd (none-some j h)
@@ -128,39 +128,65 @@ is-in (x ∷ xs) j = on (cases_eq x j) (is-in xs j)
 
 -- ---- the list at a place
 
-pub list-read : (vs : List (Vec ℕ Global)) (i : ℕ) (v : Vec ℕ Global) → i < length vs → v ≡ get_or vs i v → list_at vs i ≡ v.items
+pub list-read : (vs : List Few) (i : ℕ) (v : Few) → i < length vs → v ≡ get_or vs i v → list_at vs i ≡ steps_in v
 list-read [] i v low e = absurd (omega arith)
-list-read (w ∷ vs) zero v low e = ap (λ (u : Vec ℕ Global). u.items) (sym e)
+list-read (w ∷ vs) zero v low e = ap steps_in (sym e)
 list-read (w ∷ vs) (suc i) v low e = list-read vs i v (omega arith) e
 
-pub list-get : (vs : List (Vec ℕ Global)) (i : ℕ) (d : Vec ℕ Global) → i < length vs → list_at vs i ≡ (get_or vs i d).items
+pub list-get : (vs : List Few) (i : ℕ) (d : Few) → i < length vs → list_at vs i ≡ steps_in (get_or vs i d)
 list-get [] i d low = absurd (omega arith)
 list-get (w ∷ vs) zero d low = refl
 list-get (w ∷ vs) (suc i) d low = list-get vs i d (omega arith)
 
-pub list-set : (vs : List (Vec ℕ Global)) (i : ℕ) (v : Vec ℕ Global) → i < length vs → list_at (set vs i v) i ≡ v.items
+pub list-set : (vs : List Few) (i : ℕ) (v : Few) → i < length vs → list_at (set vs i v) i ≡ steps_in v
 list-set [] i v low = absurd (omega arith)
 list-set (w ∷ vs) zero v low = refl
 list-set (w ∷ vs) (suc i) v low = list-set vs i v (omega arith)
 
-pub list-other : (vs : List (Vec ℕ Global)) (i a : ℕ) (v : Vec ℕ Global) → (a ≡ i → ⊥) → list_at (set vs i v) a ≡ list_at vs a
+pub list-other : (vs : List Few) (i a : ℕ) (v : Few) → (a ≡ i → ⊥) → list_at (set vs i v) a ≡ list_at vs a
 list-other [] i a v other = refl
 list-other (w ∷ vs) zero zero v other = absurd (other refl)
 list-other (w ∷ vs) zero (suc a) v other = refl
 list-other (w ∷ vs) (suc i) zero v other = refl
 list-other (w ∷ vs) (suc i) (suc a) v other = list-other vs i a v (λ e. other (ap suc e))
 
-pub list-push : (vs : List (Vec ℕ Global)) (v : Vec ℕ Global) → list_at (vs ++ v ∷ []) (length vs) ≡ v.items
+pub list-push : (vs : List Few) (v : Few) → list_at (vs ++ v ∷ []) (length vs) ≡ steps_in v
 list-push [] v = refl
 list-push (w ∷ vs) v = list-push vs v
 
-pub list-front : (vs : List (Vec ℕ Global)) (v : Vec ℕ Global) (a : ℕ) → a < length vs → list_at (vs ++ v ∷ []) a ≡ list_at vs a
+pub list-front : (vs : List Few) (v : Few) (a : ℕ) → a < length vs → list_at (vs ++ v ∷ []) a ≡ list_at vs a
 list-front [] v a low = absurd (omega arith)
 list-front (w ∷ vs) v zero low = refl
 list-front (w ∷ vs) v (suc a) low = list-front vs v a (omega arith)
 
 -- behind the last there is none
-pub list-past : (vs : List (Vec ℕ Global)) (a j : ℕ) → IsIn j (list_at vs a) → a < length vs
+pub list-past : (vs : List Few) (a j : ℕ) → IsIn j (list_at vs a) → a < length vs
 list-past [] a j h = absurd h
 list-past (w ∷ vs) zero j h = omega arith
 list-past (w ∷ vs) (suc a) j h = let l : a < length vs = list-past vs a j h in omega arith
+
+pub empty : (xs : List ℕ) → length xs ≡ 0 → [] ≡ xs
+empty [] none = refl
+empty (x ∷ xs) none = absurd (omega arith)
+
+-- ---- a number in front of others
+
+pub front-behind : (first : Option ℕ) (xs : List ℕ) (i : ℕ) → IsIn i xs → IsIn i (in_front first xs)
+front-behind None xs i h = h
+front-behind (Some y) xs i h = inr h
+
+pub front-first : (first : Option ℕ) (y : ℕ) (xs : List ℕ) → first ≡ Some y → IsIn y (in_front first xs)
+front-first first y xs is = subst (λ f. IsIn y (in_front f xs)) (sym is) (inl refl)
+
+pub front-new : (first : Option ℕ) (xs : List ℕ) (y j : ℕ) → first ≡ None → IsIn j (y ∷ xs) ↔ (IsIn j (in_front first xs) ⊎ (j ≡ y))
+front-new first xs y j none = subst (λ f. IsIn j (y ∷ xs) ↔ (IsIn j (in_front f xs) ⊎ (j ≡ y))) (sym none) (in-head xs y j)
+
+pub front-push : (first : Option ℕ) (xs : List ℕ) (y j : ℕ) → IsIn j (in_front first (xs ++ y ∷ [])) ↔ (IsIn j (in_front first xs) ⊎ (j ≡ y))
+front-push None xs y j = in-push xs y j
+front-push (Some z) xs y j = in-push (z ∷ xs) y j
+
+-- what holds of the first and of all others holds of each
+pub front-each : (P : ℕ → Type 0) (first : Option ℕ) (xs : List ℕ) → ((y : ℕ) → first ≡ Some y → P y) → ((i : ℕ) → IsIn i xs → P i) → (i : ℕ) → IsIn i (in_front first xs) → P i
+front-each P None xs one rest i h = rest i h
+front-each P (Some y) xs one rest i (inl e) = subst P e (one y refl)
+front-each P (Some y) xs one rest i (inr h) = rest i h

@@ -1,5 +1,5 @@
 -- Free steps among those that are taken.
-use Rattle.std.proofs.Common.{◌≡◌, ℕ, ◌+◌, ◌<◌, ◌≤◌, Bool, true, false, List, length, take, get_or, sym, ap, ◌∙◌, subst, arith, ◌⊎◌, inl, inr, Some, true≢false}
+use Rattle.std.proofs.Common.{◌≡◌, ℕ, ◌+◌, ◌<◌, ◌≤◌, Bool, true, false, List, length, take, get_or, sym, ap, ◌∙◌, subst, arith, ◌⊎◌, inl, inr, Option, Some, true≢false}
 use Rattle.std.specs.Prelude.{◌↔◌, Result, Ok, Err, MatchResult, slice_get}
 use Rattle.std.specs.List.{insert}
 use Rattle.std.specs.List.Sorted.{IsBinarySearchResult}
@@ -8,9 +8,9 @@ use Rattle.std.proofs.lemmas.Bool.{cases_lt}
 use Rattle.std.proofs.lemmas.List.Sorted.{searched}
 use Rattle.std.proofs.lemmas.Option.{slice_get-get_or, get_or_from_slice_get}
 use Rattle.settled.specs.Lists.{IsIn}
-use Rattle.reorder.specs.Lists.{IsRising}
+use Rattle.reorder.specs.Lists.{IsRising, in_front}
 use Rattle.reorder.specs.Choices.{IsTaken}
-use Rattle.reorder.proofs.Entries.{in-get, in-more}
+use Rattle.reorder.proofs.Entries.{front-each, in-get, in-more}
 use Rattle.reorder.proofs.Rising.{rising-sorted, rising-insert}
 
 -- ---- flags
@@ -66,6 +66,11 @@ seen-more First Mid New steps i low before one k (inr h) = on ((in-more steps i 
     on : IsIn k (take i steps) ⊎ (k ≡ get_or steps i 0) → New k
     on (inl b) = one k (inl (before k (inr b)))
     on (inr e) = one k (inr e)
+
+-- the first one, where it stands by itself, and then the others
+pub seen-few : (First Mid New : ℕ → Type 0) (first : Option ℕ) (xs : List ℕ) → ((k : ℕ) → First k → Mid k) → ((y : ℕ) → first ≡ Some y → Mid y) → ((k : ℕ) → Mid k ⊎ IsIn k xs → New k) → (k : ℕ) → First k ⊎ IsIn k (in_front first xs) → New k
+seen-few First Mid New first xs kept one rest k (inl h) = rest k (inl (kept k h))
+seen-few First Mid New first xs kept one rest k (inr h) = front-each New first xs (λ y is. rest y (inl (one y is))) (λ i among. rest i (inr among)) k h
 
 -- the same by the number of the step
 pub seen-next : (Mid New : ℕ → Type 0) (n : ℕ) → ((k : ℕ) → k < n → Mid k) → ((k : ℕ) → Mid k ⊎ (k ≡ n) → New k) → (k : ℕ) → k < n + 1 → New k

@@ -1,7 +1,5 @@
 -- What is gathered of a run, as it goes on.
 use Rattle.std.proofs.Common.{◌≡◌, ℕ, ◌+◌, ◌<◌, List, [], ◌∷◌, ◌++◌, length, refl, sym, ap, ◌∙◌, subst, arith, inl, inr, Option, Some, None}
-use Rattle.std.specs.Prelude.{Vec}
-use Rattle.std.specs.declared.alloc.Global.{Global}
 use Rattle.cell_machine.specs.Opening.{Opening}
 use Rattle.cell_machine.specs.Run.{Ran, IsRun}
 use Rattle.run_walk.specs.Ordered.{IsOrdered}
@@ -10,11 +8,12 @@ use Rattle.run_permute.specs.Places.{until}
 use Rattle.settled.proofs.Alike.{Alike, alike-first}
 use Rattle.settled.specs.Lists.{Each}
 use Rattle.reorder.specs.declared.block.Block.{Block}
+use Rattle.reorder.specs.declared.few.Few.{Few}
 use Rattle.reorder.specs.declared.needs.Needs.{Needs}
 use Rattle.reorder.specs.declared.strand.Strand.{Strand}
 use Rattle.reorder.specs.declared.track.Track.{Track}
 use Rattle.reorder.specs.Gathered.{Gathers}
-use Rattle.reorder.specs.Lists.{list_at}
+use Rattle.reorder.specs.Lists.{list_at, steps_in}
 use Rattle.reorder.specs.Needs.{AreNeeds, AreNeedsOf}
 use Rattle.reorder.proofs.Needing.{needs-more, needs-none}
 use Rattle.reorder.specs.Tracks.{AreTracks, IsBlock, IsChain, IsStrand, IsTrack, MayBeUntil, places}
@@ -61,7 +60,7 @@ module _ (m n : Ran) (j : ℕ) (a : Alike m n j) where
         record { need = c.need; within = c.within; covers = elim c.covers [ inl same ↦ inl same | inr before ↦ inr (a.to i c.need (omega arith) before) ] };
   }
 
-  pub needs-on : (needs : List (Vec ℕ Global)) → AreNeeds (IsOrdered m) j needs → AreNeeds (IsOrdered n) j needs
+  pub needs-on : (needs : List Few) → AreNeeds (IsOrdered m) j needs → AreNeeds (IsOrdered n) j needs
   needs-on needs x = record { all = x.all; each = λ k low. one-on k (list_at needs k) low (x.each k low) }
 
 -- ---- as the run goes on
@@ -81,7 +80,7 @@ module _ (m : Ran) (place : ℕ) (g : Needs) (run : IsRun m.setup m.steps) (coun
   needs-before : AreNeeds (IsOrdered m) place g.needs.items
   needs-before = needs-on (until m place) m place same g.needs.items (subst (λ n. AreNeeds (IsOrdered (until m place)) n g.needs.items) counted old.needs)
 
-  pub gathers-more : (h : Needs) (v : Vec ℕ Global) → length m.steps ≡ place + 1 → h.spes ≡ g.spes → length h.tracks.items ≡ length g.tracks.items → AreTracks m (place + 1) h.tracks.items → h.needs.items ≡ g.needs.items ++ v ∷ [] → AreNeedsOf (IsOrdered m) place v.items → Gathers m h
+  pub gathers-more : (h : Needs) (v : Few) → length m.steps ≡ place + 1 → h.spes ≡ g.spes → length h.tracks.items ≡ length g.tracks.items → AreTracks m (place + 1) h.tracks.items → h.needs.items ≡ g.needs.items ++ v ∷ [] → AreNeedsOf (IsOrdered m) place (steps_in v) → Gathers m h
   gathers-more h v long spes many tracks put one = record {
     spes = spes ∙ old.spes;
     long = many ∙ old.long ∙ ap (λ n. n + 1) (sym spes);

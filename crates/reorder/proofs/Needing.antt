@@ -1,17 +1,16 @@
 -- What each step of a run needs, step by step.
 use Rattle.std.proofs.Common.{◌≡◌, ℕ, ◌+◌, ◌<◌, ◌≤◌, List, [], ◌∷◌, ◌++◌, length, refl, sym, ap, ◌∙◌, subst, arith, ◌⊎◌, inl, inr}
-use Rattle.std.specs.Prelude.{Vec}
-use Rattle.std.specs.declared.alloc.Global.{Global}
 use Rattle.std.proofs.lemmas.Bool.{cases_lt}
 use Rattle.std.proofs.lemmas.List.{length_push}
-use Rattle.reorder.specs.Lists.{list_at}
+use Rattle.reorder.specs.Lists.{list_at, steps_in}
 use Rattle.reorder.specs.Needs.{AreNeedsOf, AreNeeds}
+use Rattle.reorder.specs.declared.few.Few.{Few}
 use Rattle.reorder.proofs.Entries.{list-push, list-front}
 
 pub needs-none : (Before : ℕ → ℕ → Type 0) → AreNeeds Before 0 []
 needs-none Before = record { all = refl; each = λ j low. absurd (omega arith) }
 
-pub needs-more : (Before : ℕ → ℕ → Type 0) (n : ℕ) (needs : List (Vec ℕ Global)) (v : Vec ℕ Global) → AreNeeds Before n needs → AreNeedsOf Before n v.items → AreNeeds Before (n + 1) (needs ++ v ∷ [])
+pub needs-more : (Before : ℕ → ℕ → Type 0) (n : ℕ) (needs : List Few) (v : Few) → AreNeeds Before n needs → AreNeedsOf Before n (steps_in v) → AreNeeds Before (n + 1) (needs ++ v ∷ [])
 needs-more Before n needs v are one = record { all = length_push needs v ∙ ap (λ k. k + 1) are.all; each = λ j low. on j (cases_lt j n) low }
   where
     size : length needs ≡ n

@@ -1,8 +1,7 @@
 -- The steps that are taken, and those that are free then.
 use Rattle.std.proofs.Common.{◌≡◌, ℕ, zero, suc, ◌+◌, ◌*◌, ◌%◌, ◌<◌, Bool, true, false, List, [], ◌∷◌, ◌++◌, length, set, replicate, refl, sym, ap, ◌∙◌, subst, arith, ◌⊎◌, inl, inr, Some, true≢false}
-use Rattle.std.specs.Prelude.{◌↔◌, slice_get, Vec}
+use Rattle.std.specs.Prelude.{◌↔◌, slice_get}
 use Rattle.std.specs.List.{remove}
-use Rattle.std.specs.declared.alloc.Global.{Global}
 use Rattle.std.proofs.lemmas.Bool.{cases_eq}
 use Rattle.std.proofs.lemmas.List.{length-set}
 use Rattle.std.proofs.lemmas.Option.{none-some, same_Some}
@@ -13,6 +12,7 @@ use Rattle.reorder.specs.Lists.{IsRising, list_at}
 use Rattle.reorder.specs.Nth.{IsFree, AreFree, IsChosen, AreChosen}
 use Rattle.reorder.specs.Needs.{IsCovered, AreNeeds}
 use Rattle.reorder.specs.Choices.{IsTaken, IsReady, IsWaiting, IsSeen, IsSound, AreInside, IsStage}
+use Rattle.reorder.specs.declared.few.Few.{Few}
 use Rattle.reorder.specs.declared.order.Order.{Order}
 use Rattle.reorder.proofs.Entries.{in-at, at-in, in-push, in-remove, in-kept, list-past}
 use Rattle.reorder.proofs.Rising.{removed, rising-remove}
@@ -54,7 +54,7 @@ none-taken (suc n) (suc j) h = none-taken n j h
 
 -- ---- one step is taken
 
-module _ (needs : List (Vec ℕ Global)) (o : Order) (at step : ℕ) (stage : IsStage needs o) (is : slice_get o.free.items at ≡ Some step) where
+module _ (needs : List Few) (o : Order) (at step : ℕ) (stage : IsStage needs o) (is : slice_get o.free.items at ≡ Some step) where
   pub step-ready : IsReady needs o.taken.items step
   step-ready = stage.sound.ready step (in-at o.free.items at step is)
 
@@ -132,7 +132,7 @@ module _ (needs : List (Vec ℕ Global)) (o : Order) (at step : ℕ) (stage : Is
       on (inr (inr w)) = on-waiting w (cases_eq w.at step)
 
 -- the free steps are all that are ready
-pub stage-exactly : (needs : List (Vec ℕ Global)) (o : Order) → IsStage needs o → (j : ℕ) → IsIn j o.free.items ↔ IsReady needs o.taken.items j
+pub stage-exactly : (needs : List Few) (o : Order) → IsStage needs o → (j : ℕ) → IsIn j o.free.items ↔ IsReady needs o.taken.items j
 stage-exactly needs o stage j = (stage.sound.ready j, λ r. into r (stage.seen j (let l : j < length o.taken.items = r.within in let e : length o.taken.items ≡ length needs = stage.sound.long in omega arith)))
   where
     into : IsReady needs o.taken.items j → IsSeen needs o j → IsIn j o.free.items
@@ -142,14 +142,14 @@ stage-exactly needs o stage j = (stage.sound.ready j, λ r. into r (stage.seen j
 
 -- ---- what is ready is free
 
-pub inside-from : (m : Ran) (n : ℕ) (needs : List (Vec ℕ Global)) → AreNeeds (IsOrdered m) n needs → AreInside needs
+pub inside-from : (m : Ran) (n : ℕ) (needs : List Few) → AreNeeds (IsOrdered m) n needs → AreInside needs
 inside-from m n needs are i j h =
     let low : j < length needs = list-past needs j i h in
     let all : length needs ≡ n = are.all in
     let below : i < j = ordered-up m i j ((are.each j (omega arith)).sound i h) in
     omega arith
 
-module _ (m : Ran) (n number : ℕ) (needs : List (Vec ℕ Global)) (are : AreNeeds (IsOrdered m) n needs) (f : Order) (stage : IsStage needs f) (chosen : AreChosen (IsOrdered m) n number f.steps.items) where
+module _ (m : Ran) (n number : ℕ) (needs : List Few) (are : AreNeeds (IsOrdered m) n needs) (f : Order) (stage : IsStage needs f) (chosen : AreChosen (IsOrdered m) n number f.steps.items) where
   size : length f.taken.items ≡ n
   size = stage.sound.long ∙ are.all
 

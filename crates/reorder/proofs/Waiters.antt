@@ -5,12 +5,13 @@ use Rattle.std.specs.declared.alloc.Global.{Global}
 use Rattle.std.proofs.lemmas.Bool.{cases_eq, cases_lt}
 use Rattle.std.proofs.lemmas.List.{length_push}
 use Rattle.settled.specs.Lists.{IsIn}
-use Rattle.reorder.specs.Lists.{IsRising, list_at}
+use Rattle.reorder.specs.Lists.{IsRising, list_at, steps_in}
 use Rattle.reorder.specs.Choices.{IsTaken, IsReady, IsSeen, IsSound}
+use Rattle.reorder.specs.declared.few.Few.{Few}
 use Rattle.reorder.specs.declared.order.Order.{Order}
 use Rattle.reorder.proofs.Entries.{list-past, list-push, list-front, list-set, list-other}
 
-pub none-more : (vs : List (Vec ℕ Global)) (v : Vec ℕ Global) → v.items ≡ [] → ((i j : ℕ) → IsIn j (list_at vs i) → ⊥) → (i j : ℕ) → IsIn j (list_at (vs ++ v ∷ []) i) → ⊥
+pub none-more : (vs : List Few) (v : Few) → steps_in v ≡ [] → ((i j : ℕ) → IsIn j (list_at vs i) → ⊥) → (i j : ℕ) → IsIn j (list_at (vs ++ v ∷ []) i) → ⊥
 none-more vs v empty none i j h = on (cases_lt i (length vs))
   where
     low : i < length (vs ++ v ∷ [])
@@ -24,7 +25,7 @@ none-more vs v empty none i j h = on (cases_lt i (length vs))
         subst (IsIn j) (ap (list_at (vs ++ v ∷ [])) e ∙ list-push vs v ∙ empty) h
 
 -- where one list was emptied
-pub emptied : (vs : List (Vec ℕ Global)) (i : ℕ) (v : Vec ℕ Global) (a k : ℕ) → i < length vs → v.items ≡ [] → IsIn k (list_at (set vs i v) a) → IsIn k (list_at vs a)
+pub emptied : (vs : List Few) (i : ℕ) (v : Few) (a k : ℕ) → i < length vs → steps_in v ≡ [] → IsIn k (list_at (set vs i v) a) → IsIn k (list_at vs a)
 emptied vs i v a k low empty h = on (cases_eq a i)
   where
     on : (a ≡ i) ⊎ (a ≡ i → ⊥) → IsIn k (list_at vs a)
@@ -33,7 +34,7 @@ emptied vs i v a k low empty h = on (cases_eq a i)
 
 -- ---- a step is looked at: it is ready
 
-module _ (needs : List (Vec ℕ Global)) (o : Order) (step : ℕ) (places : Vec ℕ Global) (put : (k : ℕ) → IsIn k places.items ↔ (IsIn k o.free.items ⊎ (k ≡ step))) where
+module _ (needs : List Few) (o : Order) (step : ℕ) (places : Vec ℕ Global) (put : (k : ℕ) → IsIn k places.items ↔ (IsIn k o.free.items ⊎ (k ≡ step))) where
   pub free-sound : IsSound needs o → IsReady needs o.taken.items step → IsRising places.items → IsSound needs (record o { free = places })
   free-sound s ready rising = record { long = s.long; lists = s.lists; taken = s.taken; rising = rising; ready = λ j h. on j ((put j).0 h); there = s.there }
     where
@@ -49,7 +50,7 @@ module _ (needs : List (Vec ℕ Global)) (o : Order) (step : ℕ) (places : Vec 
 
 -- ---- it waits for one that it needs
 
-module _ (needs : List (Vec ℕ Global)) (o : Order) (need step : ℕ) (lists : Vec (Vec ℕ Global) Global) (here : (k : ℕ) → IsIn k (list_at lists.items need) ↔ (IsIn k (list_at o.waiting.items need) ⊎ (k ≡ step)))
+module _ (needs : List Few) (o : Order) (need step : ℕ) (lists : Vec Few Global) (here : (k : ℕ) → IsIn k (list_at lists.items need) ↔ (IsIn k (list_at o.waiting.items need) ⊎ (k ≡ step)))
     (others : (a : ℕ) → (a ≡ need → ⊥) → list_at lists.items a ≡ list_at o.waiting.items a) where
   listed-out : (a k : ℕ) → IsIn k (list_at lists.items a) → IsIn k (list_at o.waiting.items a) ⊎ (k ≡ step)
   listed-out a k h = on (cases_eq a need)
@@ -84,6 +85,6 @@ module _ (needs : List (Vec ℕ Global)) (o : Order) (need step : ℕ) (lists : 
 
 -- ---- or it is taken already
 
-pub taken-still : (needs : List (Vec ℕ Global)) (o : Order) (step : ℕ) → IsTaken o.taken.items step → (k : ℕ) → IsSeen needs o k ⊎ (k ≡ step) → IsSeen needs o k
+pub taken-still : (needs : List Few) (o : Order) (step : ℕ) → IsTaken o.taken.items step → (k : ℕ) → IsSeen needs o k ⊎ (k ≡ step) → IsSeen needs o k
 taken-still needs o step t k (inl h) = h
 taken-still needs o step t k (inr e) = inl (subst (IsTaken o.taken.items) (sym e) t)

@@ -1,36 +1,36 @@
 -- Steps that are put into an order, one after the other.
-use Rattle.std.specs.Prelude.{◌≡◌, ℕ, ◌<◌, ◌⊎◌, ◌↔◌, ◌++◌, ◌∷◌, [], Bool, true, List, length, Some, slice_get, Vec}
-use Rattle.std.specs.declared.alloc.Global.{Global}
+use Rattle.std.specs.Prelude.{◌≡◌, ℕ, ◌<◌, ◌⊎◌, ◌↔◌, ◌++◌, ◌∷◌, [], Bool, true, List, length, Some, slice_get}
 use Rattle.settled.specs.Lists.{IsIn}
 use Rattle.reorder.specs.Lists.{IsRising, list_at}
+use Rattle.reorder.specs.declared.few.Few.{Few}
 use Rattle.reorder.specs.declared.order.Order.{Order}
 
 abbrev pub IsTaken : List Bool → ℕ → Type 0
 IsTaken taken i = slice_get taken i ≡ Some true
 
 -- step j is there and not taken, and all are taken that it needs
-pub record IsReady (needs : List (Vec ℕ Global)) (taken : List Bool) (j : ℕ) : Type 0 where
+pub record IsReady (needs : List Few) (taken : List Bool) (j : ℕ) : Type 0 where
   pub within : j < length taken
   pub left : IsTaken taken j → ⊥
   pub needs_taken : (i : ℕ) → IsIn i (list_at needs j) → IsTaken taken i
 
 -- the steps that each step needs are there
-abbrev pub AreInside : List (Vec ℕ Global) → Type 0
+abbrev pub AreInside : List Few → Type 0
 AreInside needs = (i j : ℕ) → IsIn i (list_at needs j) → i < length needs
 
 -- step j waits for one that it needs and that isn't taken
-pub record IsWaiting (needs : List (Vec ℕ Global)) (o : Order) (j : ℕ) : Type 0 where
+pub record IsWaiting (needs : List Few) (o : Order) (j : ℕ) : Type 0 where
   pub at : ℕ
   pub needed : IsIn at (list_at needs j)
   pub left : IsTaken o.taken.items at → ⊥
   pub listed : IsIn j (list_at o.waiting.items at)
 
 -- step j is taken, or free, or waits
-abbrev pub IsSeen : List (Vec ℕ Global) → Order → ℕ → Type 0
+abbrev pub IsSeen : List Few → Order → ℕ → Type 0
 IsSeen needs o j = IsTaken o.taken.items j ⊎ (IsIn j o.free.items ⊎ IsWaiting needs o j)
 
 -- the steps of the order are taken, the free ones are ready, and those that wait are there
-pub record IsSound (needs : List (Vec ℕ Global)) (o : Order) : Type 0 where
+pub record IsSound (needs : List Few) (o : Order) : Type 0 where
   pub long : length o.taken.items ≡ length needs
   pub lists : length o.waiting.items ≡ length needs
   pub taken : (j : ℕ) → IsTaken o.taken.items j ↔ IsIn j o.steps.items
@@ -39,7 +39,7 @@ pub record IsSound (needs : List (Vec ℕ Global)) (o : Order) : Type 0 where
   pub there : (i j : ℕ) → IsIn j (list_at o.waiting.items i) → j < length needs
 
 -- and each step is seen, so that the free ones are all that are ready
-pub record IsStage (needs : List (Vec ℕ Global)) (o : Order) : Type 0 where
+pub record IsStage (needs : List Few) (o : Order) : Type 0 where
   pub sound : IsSound needs o
   pub seen : (j : ℕ) → j < length needs → IsSeen needs o j
 

@@ -1,17 +1,25 @@
 -- Lists of numbers.
-use Rattle.std.specs.Prelude.{◌≡◌, ℕ, zero, suc, ◌<◌, ◌⊎◌, List, [], ◌∷◌, Vec, length, slice_index_or, slice_set}
-use Rattle.std.specs.declared.alloc.Global.{Global}
+use Rattle.std.specs.Prelude.{◌≡◌, ℕ, zero, suc, ◌<◌, ◌⊎◌, List, [], ◌∷◌, Option, Some, None, length, slice_index_or, slice_set}
 use Rattle.settled.specs.Lists.{IsIn}
+use Rattle.reorder.specs.declared.few.Few.{Few}
 
 -- each is below those behind it
 abbrev pub IsRising : List ℕ → Type 0
 IsRising [] = Unit {0}
 IsRising (x ∷ xs) = ((y : ℕ) → IsIn y xs → x < y) × IsRising xs
 
+-- the number, if there is one, in front of others
+abbrev pub in_front : Option ℕ → List ℕ → List ℕ
+in_front None xs = xs
+in_front (Some x) xs = x ∷ xs
+
+abbrev pub steps_in : Few → List ℕ
+steps_in f = in_front f.first f.rest.items
+
 -- the list at this place, [] behind the last
-abbrev pub list_at : List (Vec ℕ Global) → ℕ → List ℕ
+abbrev pub list_at : List Few → ℕ → List ℕ
 list_at [] i = []
-list_at (v ∷ vs) zero = v.items
+list_at (v ∷ vs) zero = steps_in v
 list_at (v ∷ vs) (suc i) = list_at vs i
 
 -- it holds of one of them

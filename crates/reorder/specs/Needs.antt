@@ -1,8 +1,8 @@
 -- The steps that each step needs directly: what else is ordered before it is ordered before one of these.
-use Rattle.std.specs.Prelude.{◌≡◌, ℕ, ◌<◌, ◌⊎◌, List, length, Vec}
-use Rattle.std.specs.declared.alloc.Global.{Global}
+use Rattle.std.specs.Prelude.{◌≡◌, ℕ, ◌<◌, ◌⊎◌, List, length}
 use Rattle.settled.specs.Lists.{IsIn}
 use Rattle.reorder.specs.Lists.{list_at}
+use Rattle.reorder.specs.declared.few.Few.{Few}
 
 -- i is one of them or ordered before one of them
 pub record IsCovered (Before : ℕ → ℕ → Type 0) (needs : List ℕ) (i : ℕ) : Type 0 where
@@ -16,6 +16,6 @@ pub record AreNeedsOf (Before : ℕ → ℕ → Type 0) (j : ℕ) (needs : List 
   pub complete : (i : ℕ) → Before i j → IsCovered Before needs i
 
 -- those of each of the first n steps
-pub record AreNeeds (Before : ℕ → ℕ → Type 0) (n : ℕ) (needs : List (Vec ℕ Global)) : Type 0 where
+pub record AreNeeds (Before : ℕ → ℕ → Type 0) (n : ℕ) (needs : List Few) : Type 0 where
   pub all : length needs ≡ n
   pub each : (j : ℕ) → j < n → AreNeedsOf Before j (list_at needs j)

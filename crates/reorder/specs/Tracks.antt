@@ -152,3 +152,7 @@ pub record IsPut (s : Strand) (bs ns : List Block) : Type 0 where
 pub record AreTracks (m : Ran) (j : ℕ) (tracks : List Track) : Type 0 where
   pub each : Each (IsTrack m j) tracks
   pub all : (i : ℕ) → i < j → One (λ t. IsOn t i) tracks
+
+-- it is the end of the chain of the track at the index
+abbrev pub IsEndAt : Ran → ℕ → List Track → ℕ → ℕ → Type 0
+IsEndAt m j tracks own end = HasAt (λ t. IsEnd m j t.chain.items end) tracks own

@@ -58,8 +58,24 @@ fn search_end(chain: &[u32], walk: &Walk, fewest: usize, most: usize) -> usize
     low
 }
 
+/// Whether the hint says that none of the steps of a chain is ordered before the last step, and none is.
+fn is_apart(chain: &[u32], walk: &Walk, hint: usize) -> bool
+    ghost here: { Here }
+    requires at { IsAt walk.now here.run (here.place + 1) }
+    requires chain { IsChain here.run here.place chain.now }
+    ensures { IsTrue result → IsEnd here.run here.place chain.now 0 }
+{
+    if hint > 0 {
+        return false;
+    }
+    if is_known(chain, walk, 0) {
+        return false;
+    }
+    true
+}
+
 /// How many of the steps of a chain are ordered before the last step. Mostly they are as many as the hint says, or all.
-pub fn end_of(chain: &[u32], walk: &Walk, hint: usize) -> usize
+fn end_of(chain: &[u32], walk: &Walk, hint: usize) -> usize
     ghost here: { Here }
     requires at { IsAt walk.now here.run (here.place + 1) }
     requires chain { IsChain here.run here.place chain.now }
@@ -93,6 +109,9 @@ pub fn gather_chain(
     ensures end { IfOk result (IsEnd here.run here.place chain.now) }
     ensures last { IfOk result (λ end. 0 < end → IsIn (slice_index chain.now (end - 1)) needs.new.items) }
 {
+    if is_apart(chain, walk, hint) {
+        return Ok(0);
+    }
     let end = end_of(chain, walk, hint);
     if end > 0 {
         needs.push(chain[end - 1])?;

@@ -5,6 +5,7 @@ ghost use Rattle.run_frames.specs.OrderedLaws.{IsOrdered};
 ghost use Rattle.reorder.specs.Nth.{IsNth};
 ghost use Rattle.reorder.specs.Needs.{AreNeeds};
 
+use crate::few::Few;
 use crate::order::Order;
 use cell_machine::Machine;
 use std::alloc::{AllocError, Global};
@@ -23,7 +24,7 @@ fn position(number: u32, taken: u32, free: usize) -> usize
 pub fn order_of_number(
     alloc: Global,
     whole: &Machine,
-    needs: &[Vec<u32>],
+    needs: &[Few],
     number: u32,
 ) -> Result<Vec<u32>, AllocError>
     requires few { length needs.now ≤ 1000000 }

@@ -31,15 +31,39 @@ fn command_of(step: Step) -> Option<u32> {
     }
 }
 
-/// Where the hint stands for such a step of an actor, on the track of this number. On its own one, instructions come behind all.
-fn slot(step: Step, own: usize, track: usize) -> Option<usize> {
-    let row = own.min(TRACKS - 1);
-    let at = track.min(TRACKS - 1);
-    match command_of(step) {
-        Some(cmd) if own == track => Some((TRACKS + row) * ROW + TRACKS + cmd as usize % COMMANDS),
-        Some(_) => Some((TRACKS + row) * ROW + at),
-        None if own == track => None,
-        None => Some(row * ROW + at),
+/// Where the hints of a step stand: those of other actors' tracks from here on, and that of its own actor's track.
+#[derive(Clone, Copy)]
+pub struct Row {
+    first: usize,
+    own: usize,
+    // none for an instruction, which mostly comes behind all of its track
+    at: Option<usize>,
+}
+
+impl Row {
+    /// That of such a step of an actor.
+    pub fn of(step: Step, own: usize) -> Row {
+        let actor = own.min(TRACKS - 1);
+        match command_of(step) {
+            Some(cmd) => {
+                let first = (TRACKS + actor) * ROW;
+                let at = Some(first + TRACKS + cmd as usize % COMMANDS);
+                Row { first, own, at }
+            }
+            None => Row {
+                first: actor * ROW,
+                own,
+                at: None,
+            },
+        }
+    }
+
+    /// Where the hint of the track of this number stands.
+    fn slot(self, track: usize) -> Option<usize> {
+        if track == self.own {
+            return self.at;
+        }
+        Some(self.first.saturating_add(track))
     }
 }
 
@@ -51,9 +75,9 @@ impl Hints {
         })
     }
 
-    /// How many steps of the chain of a track are mostly ordered before such a step of an actor.
-    pub fn of(&self, step: Step, own: usize, track: usize) -> usize {
-        let Some(at) = slot(step, own, track) else {
+    /// How many steps of the chain of a track are mostly ordered before the step of the row.
+    pub fn of(&self, row: Row, track: usize) -> usize {
+        let Some(at) = row.slot(track) else {
             return usize::MAX;
         };
         match self.ends.get(at) {
@@ -63,8 +87,8 @@ impl Hints {
     }
 
     /// Keeps how many were.
-    pub fn keep(&mut self, step: Step, own: usize, track: usize, end: usize) {
-        if let Some(at) = slot(step, own, track) {
+    pub fn keep(&mut self, row: Row, track: usize, end: usize) {
+        if let Some(at) = row.slot(track) {
             if at < self.ends.len() {
                 self.ends[at] = end;
             }

@@ -7,6 +7,7 @@
 mod block;
 mod chain;
 mod choosing;
+mod few;
 mod hints;
 mod laws;
 mod needs;

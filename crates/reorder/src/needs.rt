@@ -6,6 +6,7 @@ ghost use Rattle.run_permute.specs.Places.{until};
 ghost use Rattle.run_walk.specs.Walks.{IsLast, walked};
 ghost use Rattle.reorder.specs.Gathered.{Gathers};
 
+use crate::few::Few;
 use crate::hints::Hints;
 use crate::track::Track;
 use crate::tracks::{add, gather, no_tracks, track_of};
@@ -22,7 +23,9 @@ pub struct Needs {
     // the steps so far, by which those that a step needs are found
     tracks: Vec<Track>,
     hints: Hints,
-    pub(crate) needs: Vec<Vec<u32>>,
+    // those that the last step needs
+    found: Vec<u32>,
+    pub(crate) needs: Vec<Few>,
 }
 
 impl Needs {
@@ -38,6 +41,7 @@ impl Needs {
             spes,
             tracks,
             hints,
+            found: Vec::new(alloc),
             needs,
         })
     }
@@ -53,10 +57,12 @@ impl Needs {
     {
         let _steps = walk.machine().steps(); // which are a run, as its contract says
         let own = track_of(step, self.spes);
-        let found = gather(self.alloc, &self.tracks, walk, step, own, &mut self.hints)?;
+        let (hints, found) = (&mut self.hints, &mut self.found);
+        let spot = gather(&self.tracks, walk, step, own, hints, found)?;
         let tracks = self.tracks.as_mut_slice();
-        add(self.alloc, tracks, walk, place, step, own, found.spot)?;
-        self.needs.push(found.needs)?;
+        add(self.alloc, tracks, walk, place, step, own, spot)?;
+        let needs = Few::of(self.alloc, &self.found)?;
+        self.needs.push(needs)?;
         Ok(())
     }
 }

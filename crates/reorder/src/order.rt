@@ -2,9 +2,10 @@
 
 ghost use Rattle.std.specs.Prelude.{◌≡◌, ℕ, ◌<◌, ◌≤◌, ◌⊎◌, ◌↔◌, [], IfOk, MatchOption, length};
 ghost use Rattle.settled.specs.Lists.{IsIn};
-ghost use Rattle.reorder.specs.Lists.{IsRising};
+ghost use Rattle.reorder.specs.Lists.{IsRising, steps_in};
 ghost use Rattle.reorder.specs.Choices.{IsTaken, IsSound, IsSeen, IsStage, IsOneMore, AreInside};
 
+use crate::few::Few;
 use crate::waiting::{add_waiter, no_waiters, take_waiters};
 use std::alloc::{AllocError, Global};
 
@@ -14,7 +15,7 @@ use std::alloc::{AllocError, Global};
 pub struct Order {
     steps: Vec<u32>,
     taken: Vec<bool>,
-    waiting: Vec<Vec<u32>>,
+    waiting: Vec<Few>,
     free: Vec<u32>,
 }
 
@@ -34,6 +35,23 @@ fn last_left(steps: &[u32], taken: &[bool]) -> Option<u32>
     None
 }
 
+/// One of the needs that isn't taken, if there is one.
+fn need_left(needs: &Few, taken: &[bool]) -> Option<u32>
+    requires { (i : ℕ) → IsIn i (steps_in needs.now) → i < length taken.now }
+    ensures { MatchOption result ((i : ℕ) → IsIn i (steps_in needs.now) → IsTaken taken.now i) (λ i. IsIn i (steps_in needs.now) × (IsTaken taken.now i → ⊥)) }
+{
+    if let Some(need) = last_left(needs.rest(), taken) {
+        return Some(need);
+    }
+    let Some(need) = needs.first() else {
+        return None;
+    };
+    if taken[need as usize] {
+        return None;
+    }
+    Some(need)
+}
+
 /// Puts a place among those that rise.
 fn put(places: &mut Vec<u32>, place: u32) -> Result<(), AllocError>
     requires { IsRising places.old.items }
@@ -51,7 +69,7 @@ fn put(places: &mut Vec<u32>, place: u32) -> Result<(), AllocError>
 
 impl Order {
     /// Puts the step among the free ones where it is ready, and else with those that wait for a step that it needs.
-    fn look_at(&mut self, needs: &[Vec<u32>], step: u32) -> Result<(), AllocError>
+    fn look_at(&mut self, needs: &[Few], step: u32) -> Result<(), AllocError>
         requires inside { AreInside needs.now }
         requires within { step < length needs.now }
         requires sound { IsSound needs.now self.old }
@@ -62,7 +80,7 @@ impl Order {
         if self.taken[step as usize] {
             return Ok(());
         }
-        match last_left(&needs[step as usize], &self.taken) {
+        match need_left(&needs[step as usize], &self.taken) {
             Some(need) => {
                 add_waiter(self.waiting.as_mut_slice(), need, step)?;
                 Ok(())
@@ -75,7 +93,7 @@ impl Order {
     }
 
     /// Does so with each of the steps.
-    fn look_at_all(&mut self, needs: &[Vec<u32>], steps: &[u32]) -> Result<(), AllocError>
+    fn look_at_all(&mut self, needs: &[Few], steps: &[u32]) -> Result<(), AllocError>
         requires inside { AreInside needs.now }
         requires within { (k : ℕ) → IsIn k steps.now → k < length needs.now }
         requires sound { IsSound needs.now self.old }
@@ -89,8 +107,24 @@ impl Order {
         Ok(())
     }
 
+    /// Does so with each of those in the list.
+    fn look_at_few(&mut self, needs: &[Few], few: &Few) -> Result<(), AllocError>
+        requires inside { AreInside needs.now }
+        requires within { (k : ℕ) → IsIn k (steps_in few.now) → k < length needs.now }
+        requires sound { IsSound needs.now self.old }
+        ensures steps { self.new.steps ≡ self.old.steps }
+        ensures sound { IfOk result (λ _. IsSound needs.now self.new) }
+        ensures seen { IfOk result (λ _. (k : ℕ) → IsSeen needs.now self.old k ⊎ IsIn k (steps_in few.now) → IsSeen needs.now self.new k) }
+    {
+        if let Some(step) = few.first() {
+            self.look_at(needs, step)?;
+        }
+        self.look_at_all(needs, few.rest())?;
+        Ok(())
+    }
+
     /// Before any step is taken.
-    pub fn new(alloc: Global, needs: &[Vec<u32>]) -> Result<Order, AllocError>
+    pub fn new(alloc: Global, needs: &[Few]) -> Result<Order, AllocError>
         requires inside { AreInside needs.now }
         requires few { length needs.now ≤ 1000000 }
         ensures none { IfOk result (λ order. order.steps.items ≡ []) }
@@ -116,7 +150,7 @@ impl Order {
     }
 
     /// Takes the free step at the position.
-    pub fn take(&mut self, alloc: Global, needs: &[Vec<u32>], at: usize) -> Result<(), AllocError>
+    pub fn take(&mut self, alloc: Global, needs: &[Few], at: usize) -> Result<(), AllocError>
         requires stage { IsStage needs.now self.old }
         requires inside { AreInside needs.now }
         requires within { at < length self.old.free.items }
@@ -127,7 +161,7 @@ impl Order {
         self.taken[step as usize] = true;
         self.steps.push(step)?;
         let waiters = take_waiters(alloc, self.waiting.as_mut_slice(), step);
-        self.look_at_all(needs, &waiters)?;
+        self.look_at_few(needs, &waiters)?;
         Ok(())
     }
 

@@ -8,7 +8,7 @@ ghost use Rattle.reorder.specs.Lists.{HasAt, IsOneChanged};
 ghost use Rattle.reorder.specs.Tracks.{AreChains, CoversTrack, IsBlockClosed, IsBlockFound, IsBlockLonger, IsBounded, IsEnd, IsOn, IsOpenAt, IsPut, IsTrack};
 
 use crate::block::Block;
-use crate::chain::{end_of, gather_chain};
+use crate::chain::gather_chain;
 use crate::past::Past;
 use crate::strand::Strand;
 use run_walk::Walk;
@@ -30,8 +30,8 @@ pub struct At {
     strand: usize,
 }
 
-/// What was found on a track: how many of its chain are ordered before a step, and a strand of which all are. Both only say where to look
-/// first.
+/// What was found on a track: how many of its chain are ordered before a step, and a strand of which all are. The strand only says where to
+/// look first.
 #[derive(Clone, Copy)]
 pub struct Spot {
     pub end: usize,
@@ -163,6 +163,7 @@ impl Track {
         ensures kept { IfOk result (λ _. (k : ℕ) → IsIn k needs.old.items → IsIn k needs.new.items) }
         ensures sound { IfOk result (λ _. (k : ℕ) → IsIn k needs.new.items → IsIn k needs.old.items ⊎ IsOrdered here.run k here.place) }
         ensures covers { IfOk result (λ _. CoversTrack here.run here.place self.now needs.new.items) }
+        ensures end { IfOk result (λ spot. IsEnd here.run here.place self.now.chain.items spot.end) }
     {
         let end = gather_chain(&self.chain, walk, hint, needs)?;
         let passed = self.past.passed(end);
@@ -231,14 +232,14 @@ impl Track {
         requires at { IsAt walk.now here.run (here.place + 1) }
         requires place { place ≡ here.place }
         requires track { IsTrack here.run here.place self.old }
+        requires end { IsEnd here.run here.place self.old.chain.items spot.end }
         ensures track { IfOk result (λ _. IsTrack here.run (here.place + 1) self.new) }
         ensures kept { IfOk result (λ _. (i : ℕ) → IsOn self.old i → IsOn self.new i) }
         ensures added { IfOk result (λ _. IsOn self.new place) }
     {
-        let end = end_of(&self.chain, walk, spot.end);
-        if links && end == self.chain.len() {
+        if links && spot.end == self.chain.len() {
             return self.link(walk, place);
         }
-        self.loosen(alloc, walk, place, end, spot.at)
+        self.loosen(alloc, walk, place, spot.end, spot.at)
     }
 }

@@ -5,9 +5,9 @@ ghost use Rattle.run_frames.specs.OrderedLaws.{IsOrdered};
 ghost use Rattle.race_order.specs.Orderly.{IsWithin};
 ghost use Rattle.reorder.specs.Needs.{AreNeedsOf};
 ghost use Rattle.settled.specs.Walks.{Here, IsAt};
-ghost use Rattle.reorder.specs.Tracks.{AreTracks};
+ghost use Rattle.reorder.specs.Tracks.{AreTracks, IsEndAt};
 
-use crate::hints::Hints;
+use crate::hints::{Hints, Row};
 use crate::track::{Spot, Track};
 use cell_base::Step;
 use run_walk::Walk;
@@ -53,38 +53,35 @@ pub fn no_tracks(alloc: Global, spes: u8) -> Result<Vec<Track>, AllocError>
     Ok(tracks)
 }
 
-/// What a step needs, and what was found for it on its own track.
-#[derive(Drop)]
-pub struct Found {
-    pub needs: Vec<u32>,
-    pub spot: Spot,
-}
-
-/// What the last step of the walk needs, which goes to the track of this number.
+/// Puts what the last step of the walk needs in the place of what the list has. It goes to the track of this number: answers what was found
+/// for it there.
 pub fn gather(
-    alloc: Global,
     tracks: &[Track],
     walk: &Walk,
     step: Step,
     own: usize,
     hints: &mut Hints,
-) -> Result<Found, AllocError>
+    needs: &mut Vec<u32>,
+) -> Result<Spot, AllocError>
     ghost here: { Here }
     requires at { IsAt walk.now here.run (here.place + 1) }
+    requires own { own < length tracks.now }
     requires tracks { AreTracks here.run here.place tracks.now }
-    ensures { IfOk result (λ found. AreNeedsOf (IsOrdered here.run) here.place found.needs.items) }
+    ensures needs { IfOk result (λ _. AreNeedsOf (IsOrdered here.run) here.place needs.new.items) }
+    ensures end { IfOk result (λ spot. IsEndAt here.run here.place tracks.now own spot.end) }
 {
-    let mut needs = Vec::new(alloc);
+    needs.clear();
     let mut spot = Spot::none();
+    let row = Row::of(step, own);
     for k in 0..tracks.len() {
-        let hint = hints.of(step, own, k);
-        let found = tracks[k].gather(walk, hint, &mut needs)?;
-        hints.keep(step, own, k, found.end);
+        let hint = hints.of(row, k);
+        let found = tracks[k].gather(walk, hint, needs)?;
+        hints.keep(row, k, found.end);
         if k == own {
             spot = found;
         }
     }
-    Ok(Found { needs, spot })
+    Ok(spot)
 }
 
 /// Adds the last step of the walk to its track, which has this number, and on which this was found for it.
@@ -102,6 +99,7 @@ pub fn add(
     requires place { place ≡ here.place }
     requires own { own < length tracks.old }
     requires tracks { AreTracks here.run here.place tracks.old }
+    requires end { IsEndAt here.run here.place tracks.old own spot.end }
     ensures long { length tracks.new ≡ length tracks.old }
     ensures tracks { IfOk result (λ _. AreTracks here.run (here.place + 1) tracks.new) }
 {

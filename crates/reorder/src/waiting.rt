@@ -2,25 +2,26 @@
 
 ghost use Rattle.std.specs.Prelude.{◌≡◌, ℕ, ◌<◌, ◌⊎◌, ◌↔◌, IfOk, length};
 ghost use Rattle.settled.specs.Lists.{IsIn};
-ghost use Rattle.reorder.specs.Lists.{list_at};
+ghost use Rattle.reorder.specs.Lists.{list_at, steps_in};
 
+use crate::few::Few;
 use std::alloc::{AllocError, Global};
 use std::mem::replace;
 
 /// An empty list for each of so many steps.
-pub fn no_waiters(alloc: Global, count: usize) -> Result<Vec<Vec<u32>>, AllocError>
+pub fn no_waiters(alloc: Global, count: usize) -> Result<Vec<Few>, AllocError>
     ensures long { IfOk result (λ waiting. length waiting.items ≡ count) }
     ensures none { IfOk result (λ waiting. (i j : ℕ) → IsIn j (list_at waiting.items i) → ⊥) }
 {
     let mut waiting = Vec::with_capacity(alloc, count)?;
     for _ in 0..count {
-        waiting.push(Vec::new(alloc))?;
+        waiting.push(Few::none(alloc))?;
     }
     Ok(waiting)
 }
 
 /// Adds step `j` to those that wait for step `i`.
-pub fn add_waiter(waiting: &mut [Vec<u32>], i: u32, j: u32) -> Result<(), AllocError>
+pub fn add_waiter(waiting: &mut [Few], i: u32, j: u32) -> Result<(), AllocError>
     requires { i < length waiting.old }
     ensures long { length waiting.new ≡ length waiting.old }
     ensures here { IfOk result (λ _. (k : ℕ) → IsIn k (list_at waiting.new i) ↔ (IsIn k (list_at waiting.old i) ⊎ (k ≡ j))) }
@@ -31,12 +32,12 @@ pub fn add_waiter(waiting: &mut [Vec<u32>], i: u32, j: u32) -> Result<(), AllocE
 }
 
 /// Those that wait for step `i`, whose list is empty then.
-pub fn take_waiters(alloc: Global, waiting: &mut [Vec<u32>], i: u32) -> Vec<u32>
+pub fn take_waiters(alloc: Global, waiting: &mut [Few], i: u32) -> Few
     requires { i < length waiting.old }
     ensures long { length waiting.new ≡ length waiting.old }
-    ensures taken { result.items ≡ list_at waiting.old i }
+    ensures taken { steps_in result ≡ list_at waiting.old i }
     ensures kept { (a k : ℕ) → IsIn k (list_at waiting.new a) → IsIn k (list_at waiting.old a) }
     ensures others { (a : ℕ) → (a ≡ i → ⊥) → list_at waiting.new a ≡ list_at waiting.old a }
 {
-    replace(&mut waiting[i as usize], Vec::new(alloc))
+    replace(&mut waiting[i as usize], Few::none(alloc))
 }

@@ -2,7 +2,7 @@ use Rattle.std.proofs.Common.{ℕ, ◌<◌}
 use Rattle.std.specs.Prelude.{slice_index_or}
 use Rattle.run_frames.specs.OrderedLaws.{IsOrdered}
 use Rattle.settled.specs.Lists.{IsIn}
-use Rattle.reorder.specs.Tracks.{CoversTrack}
+use Rattle.reorder.specs.Tracks.{CoversTrack, IsEnd}
 use Rattle.reorder.specs.declared.track.Track.{Track}
 use Rattle.reorder.proofs.tracks.gather.Given as goal
 
@@ -14,4 +14,5 @@ invariant-loop-k g l =
     record {
       sound : (k : ℕ) → IsIn k l.needs.items → IsOrdered g.here.run k g.here.place;
       covers : (k : ℕ) (d : Track) → k < l.k → CoversTrack g.here.run g.here.place (slice_index_or l.tracks k d) l.needs.items;
+      end : (d : Track) → l.own < l.k → IsEnd g.here.run g.here.place (slice_index_or l.tracks l.own d).chain.items l.spot.end;
     }

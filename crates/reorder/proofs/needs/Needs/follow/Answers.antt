@@ -8,7 +8,7 @@ use Rattle.settled.specs.Walks.{IsAt}
 use Rattle.settled.proofs.Settlings.{stepped}
 use Rattle.settled.proofs.Walking.{step-inside}
 use Rattle.reorder.specs.Needs.{AreNeedsOf}
-use Rattle.reorder.specs.Tracks.{AreTracks}
+use Rattle.reorder.specs.Tracks.{AreTracks, IsEndAt}
 use Rattle.reorder.specs.declared.track.Track.{Track}
 use Rattle.reorder.proofs.Gathering.{gathers-more, tracks-before}
 use Rattle.reorder.proofs.needs.Needs.follow.Goals as goal
@@ -20,7 +20,12 @@ gather-requires c =
     let st = stepped c.args.walk.now c.args.place run c.requires.last in
     let e : length m.steps - 1 ≡ c.args.place = (let long : length m.steps ≡ c.args.place + 1 = st.long in omega arith) in
     let before = tracks-before m c.args.place c.args.self.now run st.counted c.requires.gathers in
-    (subst (λ j. IsAt c.args.walk.now m (j + 1)) (sym e) st.at, subst (λ j. AreTracks m j c.deref.result.now) (sym e) (subst (AreTracks m c.args.place) (sym c.deref.ensures.value) before))
+    let high : c.track_of-own.result ≤ c.args.self.now.spes = c.track_of-own.ensures in
+    let long : length c.args.self.now.tracks.items ≡ c.args.self.now.spes + 1 = c.requires.gathers.long in
+    let low : c.track_of-own.result < length c.args.self.now.tracks.items = omega arith in (
+      subst (λ j. IsAt c.args.walk.now m (j + 1)) (sym e) st.at,
+      (subst (λ (ts : List Track). c.track_of-own.result < length ts) (sym c.deref.ensures.value) low, subst (λ j. AreTracks m j c.deref.result.now) (sym e) (subst (AreTracks m c.args.place) (sym c.deref.ensures.value) before)),
+    )
 
 pub track_of-own-requires : goal.track_of-own-requires
 track_of-own-requires c =
@@ -39,7 +44,11 @@ add-requires c =
     let high : c.track_of-own.result ≤ c.args.self.now.spes = c.track_of-own.ensures in
     let long : length c.args.self.now.tracks.items ≡ c.args.self.now.spes + 1 = g.long in
     let low : c.track_of-own.result < length c.args.self.now.tracks.items = omega arith in
-    (st.at, (refl, (subst (λ (ts : List Track). c.track_of-own.result < length ts) (sym tracks) low, subst (AreTracks m c.args.place) (sym tracks) before)))
+    let own = c.track_of-own.result in
+    let end = c.in_ok-spot.spot.end in
+    let e : length m.steps - 1 ≡ c.args.place = (let long : length m.steps ≡ c.args.place + 1 = st.long in omega arith) in
+    let is = subst (λ (ts : List Track). IsEndAt m c.args.place ts own end) (c.deref.ensures.value ∙ sym tracks) (subst (λ j. IsEndAt m j c.deref.result.now own end) e c.in_ok-spot.ensures.end) in
+    (st.at, (refl, (subst (λ (ts : List Track). own < length ts) (sym tracks) low, (subst (AreTracks m c.args.place) (sym tracks) before, is))))
 
 pub returns-clause-gathers : goal.returns-clause-gathers
 returns-clause-gathers c =
@@ -49,5 +58,7 @@ returns-clause-gathers c =
     let st = stepped c.args.walk.now c.args.place run c.requires.last in
     let e : length m.steps - 1 ≡ c.args.place = (let long : length m.steps ≡ c.args.place + 1 = st.long in omega arith) in
     let same = whole self.tracks.len c.add.new.tracks self.tracks.items (sym (c.add.ensures.long ∙ c.as_mut_slice-tracks.ensures.len)) in
-    gathers-more m c.args.place self run st.counted c.requires.gathers _ c.in_ok-found.found.needs st.long refl (ap length same ∙ c.add.ensures.long ∙ ap length c.as_mut_slice-tracks.ensures.value)
-    (subst (AreTracks m (c.args.place + 1)) (sym same) c.in_ok-add.ensures.tracks) c.in_ok-push.ensures.items (subst (λ j. AreNeedsOf (IsOrdered m) j c.in_ok-found.found.needs.items) e c.in_ok-found.ensures)
+    let are = c.in_ok-needs.ensures ∙ c.deref-2.ensures.value in
+    gathers-more m c.args.place self run st.counted c.requires.gathers _ c.in_ok-needs.needs st.long refl (ap length same ∙ c.add.ensures.long ∙ ap length c.as_mut_slice-tracks.ensures.value)
+    (subst (AreTracks m (c.args.place + 1)) (sym same) c.in_ok-add.ensures.tracks) c.in_ok-push.ensures.items
+    (subst (AreNeedsOf (IsOrdered m) c.args.place) (sym are) (subst (λ j. AreNeedsOf (IsOrdered m) j c.gather.new.needs.items) e c.in_ok-spot.ensures.needs))

@@ -1,8 +1,5 @@
 use Rattle.reorder.proofs.track.Track.add.Given as goal
 
-abbrev pub ghost-end_of : goal.ghost-end_of
-ghost-end_of g a = g.here
-
 abbrev pub ghost-link : goal.ghost-link
 ghost-link g a = g.here
 

@@ -37,3 +37,6 @@ returns-clause-covers g c =
     let found = subst (Each (IsBlockFound m j end needs)) behind c.in_ok-at.ensures.found in
     let all = past-found m j end passed needs self.past self.blocks.items c.passed-passed.ensures.within c.passed-passed.ensures.beside c.requires.1.past (blocks-bounded m j self c.requires.1) found in
     covers-track m j self end needs c.requires.1 is (λ some. c.in_ok-at.ensures.kept (get_or chain (end - 1) 0) (last some)) all
+
+pub returns-clause-end : goal.returns-clause-end
+returns-clause-end g c = subst (λ (xs : List ℕ). IsEnd g.here.run g.here.place xs c.in_ok-end.end) c.deref.ensures.value c.in_ok-end.ensures.end
