@@ -15,6 +15,7 @@ use Rattle.mfc_queue.specs.At.{IsAt}
 use Rattle.mfc_queue.specs.Calls.{Call, outstanding as outstanding_calls, is_outstanding, is_retired, is_marked, issued, parts, left}
 use Rattle.mfc_queue.proofs.AtLemmas.{ok-of, at-here}
 use Rattle.std.proofs.Math.ListN.{length-map}
+use Rattle.std.proofs.lemmas.List.{nil_from_length}
 use Rattle.cell_machine.specs.Shown.{parts_missing, parts_left}
 use Rattle.cell_machine.proofs.Showing.{left-is}
 use Rattle.cell_machine.specs.Spe.{Spe, Moves, is_faulted}
@@ -228,6 +229,13 @@ mfc-cut p P = on (may_atomic P)
     on : (b : Bool) → cond b (Atomic p ∷ queued_steps p P) (queued_steps p P) ≡ (if b then Atomic p ∷ [] else []) ++ queued_steps p P
     on true = refl
     on false = refl
+
+-- where nothing is outstanding and no atomic command is there, there are none
+pub mfc-idle : (p : ℕ) (P : Spe) → length (outstanding P) ≡ 0 → may_atomic P ≡ false → allowed_of_mfc p P ≡ []
+mfc-idle p P none lacks =
+    mfc-cut p P
+    ∙ ap (λ b. (if b then Atomic p ∷ [] else []) ++ queued_steps p P) lacks
+    ∙ ap (λ cs. filter (may P) (flat_map (steps_of_number p P) cs)) (nil_from_length (outstanding P) none)
 
 -- and those of the commands from index i on
 abbrev pub steps_at : ℕ → Spe → ℕ → List Step

@@ -35,6 +35,7 @@ use spu_regs::Regs;
 const OUTBOUND_PLACES: u32 = 1;
 
 /// The channel operation that an instruction asks for, if it is a channel instruction.
+#[inline(always)]
 #[tactic(auto, unfolding(spu_exec::specs::Meaning::meaning))]
 pub(crate) fn operation(i: Instr, registers: &Regs) -> Option<ChannelOp>
     requires { FieldsFit i }
@@ -419,6 +420,7 @@ impl Processor {
     }
 
     /// Whether a channel operation is allowed.
+    #[inline(always)]
     pub(crate) fn is_ready(&self, op: ChannelOp) -> bool
         ensures { (lines : ℕ) (P : Spe) → ShowsChannels self.now P → result ≡ is_some (channel lines P op) }
     {

@@ -166,6 +166,9 @@ impl Processor {
         requires { FieldsFit instruction }
         ensures { (lines : ℕ) (P : Spe) → ShowsSpe self.now P → is_running self.now.status ≡ true → instr_of (word_at self.now.store self.now.pc) ≡ Some instruction → result ≡ is_some (exec lines P) }
     {
+        if !may_operate(Some(instruction.row)) {
+            return true;
+        }
         match operation(instruction, &self.registers) {
             Some(op) => self.is_ready(op),
             None => true,

@@ -127,6 +127,17 @@ impl Processor {
         }
     }
 
+    /// Whether there is nothing to do. That takes one look, and most flow controllers that are asked have nothing.
+    #[inline(always)]
+    fn is_idle(&self) -> bool
+        ensures { (spe : ℕ) (P : Spe) → ShowsSpe self.now P → result ≡ true → allowed_of_mfc spe P ≡ [] }
+    {
+        if self.queued() > 0 {
+            return false;
+        }
+        !self.may_atomic()
+    }
+
     /// The first allowed step.
     pub(crate) fn first_of_mfc(&self, spe: u8) -> Option<Step>
         requires { IsKept self.now.commands.queue }
@@ -140,6 +151,9 @@ impl Processor {
         requires { IsKept self.now.commands.queue }
         ensures { (P : Spe) → ShowsSpe self.now P → result ≡ slice_get (allowed_of_mfc spe P) (choice % length (allowed_of_mfc spe P)) }
     {
+        if self.is_idle() {
+            return None;
+        }
         match self.step_of_mfc(spe, choice) {
             Ok(step) => Some(step),
             Err(rest) => {

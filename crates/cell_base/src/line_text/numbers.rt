@@ -38,15 +38,25 @@ pub fn number_at(bytes: &[u8], limit: u32) -> Option<(u32, &[u8])>
     }
 }
 
-/// Writes a number in decimal at the end.
+/// Writes a number in decimal at the end. It is compiled into its callers, since most numbers of a record have one digit.
+#[inline(always)]
+#[cycle(decimal)]
 pub fn put_decimal(out: &mut Vec<u8>, n: u32) -> Result<(), AllocError>
     ensures { OnOk result (out.new.items ≡ out.old.items ++ decimal n) }
 {
     if n >= 10 {
-        put_decimal(out, n / 10)?;
+        put_leading(out, n / 10)?;
     }
     out.push(b'0' + (n % 10) as u8)?;
     Ok(())
+}
+
+/// Writes the digits before the last one.
+#[cycle(decimal)]
+fn put_leading(out: &mut Vec<u8>, n: u32) -> Result<(), AllocError>
+    ensures { OnOk result (out.new.items ≡ out.old.items ++ decimal n) }
+{
+    put_decimal(out, n)
 }
 
 fn hex_digit(c: u8) -> Option<u32>

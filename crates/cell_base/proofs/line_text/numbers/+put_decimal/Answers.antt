@@ -1,8 +1,0 @@
-use Rattle.std.proofs.Common.{arith}
-use Rattle.std.proofs.lemmas.Grind.{common_steps}
-use Rattle.std.proofs.lemmas.Fmt.{decimal_digit}
-use Rattle.cell_base.proofs.Digits.{decimal_onto}
-use Rattle.cell_base.proofs.line_text.numbers.+put_decimal.Goals as goal
-
-pub returns : goal.returns
-returns t c = grind (arith, common_steps, decimal_onto, decimal_digit)
