@@ -71,8 +71,8 @@ def of_record(machine: str, record: str) -> Iterator[Question]:
 
 def of_source(source: str) -> Iterator[Question]:
     files = files_of(source)
-    yield Question(("asm", source), files)
-    yield Question(("check", source, source), files)
+    for words in (("asm", source), ("check", source, source), ("trace", "lines", source)):
+        yield Question(words, files)
 
 
 def of_nothing() -> Iterator[Question]:
@@ -80,7 +80,8 @@ def of_nothing() -> Iterator[Question]:
     for words in (["asm", "none.s"], ["check", "none.cell", "none.out"], ["hunt", "none.cell", FEW], ["trace", "effects", "none.cell", "none.out"], ["frob"],
                   ["hunt"], ["trace", "frob"], ["check", "none.cell"], ["hunt", "none.cell", "0"]):
         yield Question(tuple(words), {})
-    yield Question(("asm", "faulty.s"), {"faulty.s": b"_start: il $3\n"})
+    for words in (("asm", "faulty.s"), ("trace", "lines", "faulty.s")):
+        yield Question(words, {"faulty.s": b"_start: il $3\n"})
 
 
 def questions() -> List[Question]:

@@ -4,6 +4,7 @@ pub mod InstrLemmas
 pub mod LabelLemmas
 pub mod LayoutLemmas
 pub mod LengthLaws
+pub mod ListingLemmas
 pub mod NumbersLemmas
 pub mod OutcomeLemmas
 pub mod SectionLemmas

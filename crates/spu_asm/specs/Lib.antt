@@ -3,6 +3,7 @@ pub mod Encoding
 pub mod Expressions
 pub mod Images
 pub mod Layout
+pub mod Listings
 pub mod Names
 pub mod Operands
 pub mod Outcomes

@@ -174,7 +174,7 @@ pub(crate) fn text_end(text: &[u8], lines: Unread<'_>) -> Result<u32, AsmError>
 }
 
 /// The addresses of text and of data after a line.
-fn both_stepped(text_at: u32, data_at: u32, line: &Line) -> Result<(u32, u32), AsmError>
+pub(crate) fn both_stepped(text_at: u32, data_at: u32, line: &Line) -> Result<(u32, u32), AsmError>
     requires text_at { text_at ≤ 262144 }
     requires data_at { data_at ≤ 262144 }
     requires small { IsSmall line.now.statement }
@@ -187,7 +187,7 @@ fn both_stepped(text_at: u32, data_at: u32, line: &Line) -> Result<(u32, u32), A
     Ok((text_next, data_next))
 }
 
-fn present(section: Section, text_at: u32, data_at: u32) -> u32
+pub(crate) fn present(section: Section, text_at: u32, data_at: u32) -> u32
     ensures { result ≡ present section text_at data_at }
 {
     match section {

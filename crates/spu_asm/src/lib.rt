@@ -4,7 +4,8 @@
 ghost use Rattle.std.specs.Prelude.{◌≡◌, ◌≤◌, ◌<◌, ◌%◌, ◌^◌, length, IfOk};
 ghost use Rattle.spu_lex.specs.Tokens.{tokens_of};
 ghost use Rattle.spu_asm.specs.Assembling.{assembled, lexed, laid_out, line_at, entry_of, FitsLines, IsAsLongAsItsLines};
-ghost use Rattle.spu_asm.specs.Outcomes.{Gives};
+ghost use Rattle.spu_asm.specs.Listings.{listed};
+ghost use Rattle.spu_asm.specs.Outcomes.{Gives, Shows};
 ghost use Rattle.spu_asm.specs.ReadLines.{AllRead};
 ghost use Rattle.spu_asm.specs.Reading.{Within};
 ghost use Rattle.spu_asm.specs.Source.{source_view, lines_in};
@@ -17,6 +18,7 @@ mod instructions;
 mod labels;
 mod layout;
 mod lines;
+mod listing;
 mod lists;
 mod names;
 mod numbers;
@@ -34,12 +36,14 @@ pub use image::Image;
 use indexmap::IndexMap;
 pub use instructions::{allowed, is_hint, range_of};
 use layout::{next_multiple, places, text_end};
+pub use listing::Listing;
+use listing::{listed_labels, listed_lines};
 pub use operands::{is_optional, pattern};
 use sections::make_sections;
 use source::{all_lines, labels_in};
 use spu_lex::{LexError, Token, Tokens, lex};
 use std::alloc::Global;
-pub use syntax::{Range, Slot};
+pub use syntax::{Label, ListedLine, Range, Section, Slot};
 use values::value_of_label;
 
 /// The image of a text, or the first faulty line of the first phase that has one.
@@ -53,6 +57,25 @@ pub fn assemble(alloc: Global, text: &[u8]) -> Result<Image, AsmError>
     let tokens = tokens_in(alloc, text)?;
     let labels = labels_in(alloc, text, tokens.items())?;
     lay_out(alloc, text, tokens.items(), &labels)
+}
+
+/// The image of a text with its lines and labels, or what `assemble` refuses the text for.
+#[tactic(auto, unfolding(crate::specs::Assembling::assembled, crate::specs::Listings::listed))]
+pub fn list(alloc: Global, text: &[u8]) -> Result<Listing<'_>, AsmError>
+    requires { length text.now ≤ 4194304 }
+    ensures listing { Gives result (listed text.now) }
+    ensures image { Shows (λ listing. listing.image) result (assembled text.now) }
+{
+    let tokens = tokens_in(alloc, text)?;
+    let defined = labels_in(alloc, text, tokens.items())?;
+    let image = lay_out(alloc, text, tokens.items(), &defined)?;
+    let lines = listed_lines(alloc, text, all_lines(tokens.items()), image.bytes_at)?;
+    let labels = listed_labels(alloc, &defined)?;
+    Ok(Listing {
+        image,
+        lines,
+        labels,
+    })
 }
 
 /// The tokens of a text, or its first fault by its line.

@@ -129,3 +129,19 @@ pub struct Sections {
     pub text: Vec<u8>,
     pub data_bytes: Vec<u8>,
 }
+
+/// A line as a listing has it: its number from 1, its section, its address, and the address behind it.
+#[derive(Clone, Copy)]
+pub struct ListedLine {
+    pub number: u32,
+    pub section: Section,
+    pub at: u32,
+    pub next: u32,
+}
+
+/// A label, with the number of the line that defines it.
+#[derive(Clone, Copy)]
+pub struct Label<'a> {
+    pub name: &'a [u8],
+    pub line: u32,
+}

@@ -1,4 +1,5 @@
 pub mod FilesLaws
+pub mod ListingLaws
 pub mod StepsLaws
 pub mod TellLaws
 pub mod RangesLaws

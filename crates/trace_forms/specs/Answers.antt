@@ -15,10 +15,12 @@ use Rattle.trace_forms.specs.declared.fault.Fault.{Fault}
 use Rattle.trace_forms.specs.declared.fault.Fault.TheVariants.{Usage, WriteFault}
 use Rattle.trace_forms.specs.declared.fault.Status.{Status}
 use Rattle.trace_forms.specs.declared.fault.Status.TheVariants.{Done, Refused}
-use Rattle.trace_forms.specs.Words.{Spoken, alone, choose, asked, go, no_form}
+use Rattle.spu_asm.specs.Listings.{Listing}
+use Rattle.trace_forms.specs.Words.{Spoken, alone, choose, asked, go, lined, no_form}
 use Rattle.trace_forms.specs.Choices.{start, with_choices, TakesTurns}
 use Rattle.trace_forms.specs.Told.{first_run, Tells, TellsRecord, Goes}
-use Rattle.trace_forms.specs.Files.{StandsFor, HasRecord, HasChoices, MachineRefuses, RecordRefuses, ChoicesRefuse, RecordedRefuse, count_of, FailsAtMachine, FailsAtRecord, FailsAtChoices, IsOfFiles}
+use Rattle.trace_forms.specs.Files.{StandsFor, HasRecord, HasChoices, MachineRefuses, RecordRefuses, ChoicesRefuse, RecordedRefuse, SourceRefuses, count_of, FailsAtMachine, FailsAtRecord, FailsAtChoices, FailsAtSource, IsOfFiles}
+use Rattle.trace_forms.specs.Listings.{HasListing, listing_text}
 
 -- ---- what may be written
 
@@ -32,6 +34,7 @@ Writes files (asked machine record_file ask) text =
 Writes files (go machine record_file count choices) text =
     (setup : Opening) × (steps : List Step) × (numbers : List ℕ) × StandsFor files machine setup × HasRecord files record_file steps × HasChoices files choices numbers
     × (count ≤ length steps) × Goes numbers (first_run setup steps count) text
+Writes files (lined source) text = (l : Listing) × HasListing files source l × (text ≡ listing_text l)
 Writes files no_form text = ⊥
 
 -- why nothing is written
@@ -42,6 +45,7 @@ Refuses files (asked machine record_file ask) old new fault =
     MachineRefuses files machine old new fault ⊎ RecordRefuses files record_file old new fault ⊎ RecordedRefuse files machine record_file (count_of ask) fault
 Refuses files (go machine record_file count choices) old new fault =
     MachineRefuses files machine old new fault ⊎ RecordRefuses files record_file old new fault ⊎ ChoicesRefuse files choices old new fault ⊎ RecordedRefuse files machine record_file (Some count) fault
+Refuses files (lined source) old new fault = SourceRefuses files source old new fault
 Refuses files no_form old new fault = fault ≡ Usage
 
 -- the text of a form, or why there is none
@@ -56,6 +60,7 @@ FailsBy (choose machine choices) old new fault = FailsAtMachine machine old new 
 FailsBy (asked machine record_file ask) old new fault = FailsAtMachine machine old new fault ⊎ FailsAtRecord record_file old new fault
 FailsBy (go machine record_file count choices) old new fault =
     FailsAtMachine machine old new fault ⊎ FailsAtRecord record_file old new fault ⊎ FailsAtChoices choices old new fault
+FailsBy (lined source) old new fault = FailsAtSource source old new fault
 FailsBy no_form old new fault = fault ≡ Usage
 
 -- ---- answers

@@ -9,11 +9,11 @@ use Rattle.cell_machine.specs.Run.{Ran}
 use Rattle.run_record.specs.Form.{Reading, BeginsWith, IsFault}
 use Rattle.run_record.specs.Replayed.{IsRefusedAt}
 use Rattle.cell_forms.specs.declared.fault.Fault.TheVariants.{ReadFault as InputReadFault, TooLong as InputTooLong, BadRecord, NotARun}
-use Rattle.cell_forms.specs.declared.fault.FileId.TheVariants.{Rec}
+use Rattle.cell_forms.specs.declared.fault.FileId.TheVariants.{Rec, Source}
 use Rattle.cell_forms.specs.Task.{run_of}
 use Rattle.cell_forms.specs.Course.{too_long, whole, given, Settles}
-use Rattle.cell_forms.specs.Forms.{record_limit, run_task}
-use Rattle.cell_forms.specs.Answer.{RefusesIn, AtMachine}
+use Rattle.cell_forms.specs.Forms.{asm_task, record_limit, run_task}
+use Rattle.cell_forms.specs.Answer.{RefusesIn, AtFile, AtMachine}
 use Rattle.trace_forms.specs.declared.fault.Fault.{Fault}
 use Rattle.trace_forms.specs.declared.fault.Fault.TheVariants.{Usage, Input, TooShort, ReadFault, TooLong, Choices, WriteFault, Memory}
 use Rattle.trace_forms.specs.declared.words.Ask.{Ask}
@@ -43,6 +43,12 @@ abbrev pub MachineRefuses : List File → Word → Ledger → Ledger → Fault �
 MachineRefuses files machine old new (Input fault) = RefusesIn files (run_task machine) old new fault
 MachineRefuses files machine old new Memory = Unit {0}
 MachineRefuses files machine old new other = ⊥
+
+-- a source is refused as `cell asm` refuses it
+abbrev pub SourceRefuses : List File → Word → Ledger → Ledger → Fault → Type 0
+SourceRefuses files source old new (Input fault) = RefusesIn files (asm_task source) old new fault
+SourceRefuses files source old new Memory = Unit {0}
+SourceRefuses files source old new other = ⊥
 
 -- this line of the record file is the first that is outside the form of a record
 abbrev pub IsBadLine : List File → Word → ℕ → Type 0
@@ -111,6 +117,12 @@ abbrev pub FailsAtMachine : Word → Ledger → Ledger → Fault → Type 0
 FailsAtMachine machine old new (Input (InputReadFault file)) = AtMachine machine file old new
 FailsAtMachine machine old new ReadFault = ⊥
 FailsAtMachine machine old new other = Unit {0}
+
+-- the reading of the source failed
+abbrev pub FailsAtSource : Word → Ledger → Ledger → Fault → Type 0
+FailsAtSource source old new (Input (InputReadFault file)) = AtFile (Source 0) source file old new
+FailsAtSource source old new ReadFault = ⊥
+FailsAtSource source old new other = Unit {0}
 
 -- the reading of the record file failed
 abbrev pub FailsAtRecord : Word → Ledger → Ledger → Fault → Type 0

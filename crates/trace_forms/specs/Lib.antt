@@ -5,4 +5,5 @@ pub mod Ranges
 pub mod Told
 pub mod Numbers
 pub mod Files
+pub mod Listings
 pub mod Answers

@@ -16,6 +16,7 @@ pub data Spoken : Type 0 where
   choose : Word → Word → Spoken
   asked : Word → Word → Ask → Spoken
   go : Word → Word → ℕ → Word → Spoken
+  lined : Word → Spoken
   no_form : Spoken
 
 -- what is asked of the run of a record by a word alone
@@ -43,6 +44,13 @@ abbrev pub go_said : Word → Word → Option ℕ → Word → Spoken
 go_said machine record_file None choices = no_form
 go_said machine record_file (Some steps) choices = go machine record_file steps choices
 
+-- a word with one file
+abbrev pub one_said : Word → Word → Spoken
+one_said word file =
+    if is_word word (codes "alone") then alone file
+    else if is_word word (codes "lines") then lined file
+    else no_form
+
 -- a word with the machine file and another file
 abbrev pub file_said : Word → Word → Word → Spoken
 file_said word machine file =
@@ -51,7 +59,7 @@ file_said word machine file =
 abbrev pub spoken : List Word → Spoken
 spoken [] = no_form
 spoken (word ∷ []) = no_form
-spoken (word ∷ a ∷ []) = if is_word word (codes "alone") then alone a else no_form
+spoken (word ∷ a ∷ []) = one_said word a
 spoken (word ∷ a ∷ b ∷ []) = file_said word a b
 spoken (word ∷ a ∷ b ∷ c ∷ []) =
     if is_word word (codes "before") then before_said a b (decimal_number c)
@@ -68,4 +76,5 @@ said (form.Alone machine) = alone machine.now
 said (form.Choose machine choices) = choose machine.now choices.now
 said (form.Ask machine record_file ask) = asked machine.now record_file.now ask
 said (form.Go machine record_file steps choices) = go machine.now record_file.now steps choices.now
+said (form.Lines source) = lined source.now
 said form.NoForm = no_form

@@ -7,6 +7,7 @@ mod choices;
 mod choosing;
 mod fault;
 mod following;
+mod listing;
 mod program;
 mod ranges;
 mod reading;

@@ -18,7 +18,7 @@ use std::alloc::Global;
 const RECORD_LIMIT: usize = 33_554_432;
 
 /// What a refusal of the machine file, of a source or of the record file is called here.
-fn fault_of(fault: InputFault) -> Fault
+pub fn fault_of(fault: InputFault) -> Fault
     ensures told { result ≡ told_as fault }
     ensures input { IsOfFiles result }
 {

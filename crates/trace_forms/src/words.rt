@@ -2,7 +2,7 @@
 
 ghost use Rattle.std.specs.Prelude.{◌≡◌, map, string_bytes};
 ghost use Rattle.cell_base.specs.Numbers.{decimal_number};
-ghost use Rattle.trace_forms.specs.Words.{spoken, said, asked_by, file_said, before_said, states_said, go_said};
+ghost use Rattle.trace_forms.specs.Words.{spoken, said, asked_by, one_said, file_said, before_said, states_said, go_said};
 
 use cell_base::line_text::number_at;
 
@@ -44,6 +44,10 @@ pub enum Form<'a> {
         record_file: &'a str,
         steps: u32,
         choices: &'a str,
+    },
+    /// Where the lines of a source stand.
+    Lines {
+        source: &'a str,
     },
     NoForm,
 }
@@ -111,6 +115,17 @@ fn ask_of(word: &str) -> Option<Ask>
     }
 }
 
+/// The form of a word with one file.
+fn one_form<'a>(form: &str, file: &'a str) -> Form<'a>
+    ensures { said result ≡ one_said form.now file.now }
+{
+    match form {
+        "alone" => Form::Alone { machine: file },
+        "lines" => Form::Lines { source: file },
+        _ => Form::NoForm,
+    }
+}
+
 /// The form of a word with a machine file and another file.
 fn file_form<'a>(form: &str, machine: &'a str, file: &'a str) -> Form<'a>
     ensures { said result ≡ file_said form.now machine.now file.now }
@@ -136,9 +151,7 @@ pub fn form_of(words: &[String]) -> Form<'_>
     ensures { said result ≡ spoken (map string_bytes words.now) }
 {
     match words {
-        [form, machine] if form.as_str() == "alone" => Form::Alone {
-            machine: machine.as_str(),
-        },
+        [form, file] => one_form(form.as_str(), file.as_str()),
         [form, machine, file] => file_form(form.as_str(), machine.as_str(), file.as_str()),
         [form, machine, record_file, number] if form.as_str() == "before" => {
             before_form(machine.as_str(), record_file.as_str(), number.as_str())
