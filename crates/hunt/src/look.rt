@@ -18,7 +18,7 @@ const FIRST_SHARE: u32 = 4;
 /// How many runs a thread makes at most before the next look, and how many times as many as before the last one.
 const MOST_SHARE: u32 = 65_536;
 
-const MOST_TIMES: u128 = 32;
+const MOST_TIMES: u128 = 64;
 
 /// Shows how far a hunt is, finds out how many runs fit between two looks, and ends the hunt once a file is there.
 #[derive(Drop)]
