@@ -59,7 +59,7 @@ set_own [] i y x h = absurd (cc)
 set_own (z ∷ xs) zero y x h = refl
 set_own (z ∷ xs) (suc i) y x h = set_own xs i y x h
 
-set_other : {X : Type 0} (xs : List X) (p i : ℕ) (y : X) → (p ≡ i → ⊥) → slice_get (slice_set xs p y) i ≡ slice_get xs i
+pub set_other : {X : Type 0} (xs : List X) (p i : ℕ) (y : X) → (p ≡ i → ⊥) → slice_get (slice_set xs p y) i ≡ slice_get xs i
 set_other [] p i y apart = refl
 set_other (z ∷ xs) zero zero y apart = absurd (apart refl)
 set_other (z ∷ xs) zero (suc i) y apart = refl

@@ -53,6 +53,7 @@ pub mod ByteRunning
 pub mod EffectsDefined
 pub mod StatusesFixed
 pub mod Telling
+mod Marks
 pub mod Fixed
 pub mod InstructionEffects
 pub mod StepEffects

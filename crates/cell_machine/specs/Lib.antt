@@ -23,6 +23,7 @@ pub mod Lists
 pub mod Locks
 pub mod OwnEvents
 pub mod Shows
+pub mod Blocked
 pub mod Shown
 pub mod Effects
 pub mod Written

@@ -2,6 +2,7 @@
 #![tactic(auto)]
 
 mod atomics;
+mod blocked;
 mod channels;
 mod commands;
 mod effect;

@@ -28,7 +28,9 @@ ghost use Rattle.cell_machine.specs.Sound.{EachByte, EffectsFit, IsSound};
 ghost use Rattle.cell_machine.specs.ByteRuns.{RunsOnBytes};
 ghost use Rattle.lock_lines.specs.Stands.{HasSameSize};
 ghost use Rattle.cell_machine.specs.Shows.{Shows, AllTwo, ShowsSpe, IsFit, CanGo, AreSettled};
+ghost use Rattle.cell_machine.specs.Blocked.{AreBlocked};
 
+use crate::blocked::Blocked;
 use crate::effect::Effect;
 use crate::effects::effect_of;
 use crate::error::MachineError;
@@ -58,6 +60,8 @@ pub struct Machine {
     memory: SharedMemory,
     host: Host,
     steps: Vec<Step>,
+    /// The processors that `step_as` and `step_any` needn't try.
+    blocked: Blocked,
 }
 
 impl Model for Machine {
@@ -67,30 +71,44 @@ impl Model for Machine {
     ghost Value = { Ran };
 
     ghost use Rattle.cell_machine.specs.Shows.{IsMachine};
+    ghost use Rattle.cell_machine.specs.Blocked.{AreBlocked};
 
     ghost view = { λ a. record { setup = a.setup; steps = a.steps.items } };
 
-    ghost invariant = { λ a. IsMachine a.setup a.steps.items (vec_capacity a.steps) a.processors.items a.memory a.host };
+    ghost invariant = { λ a. IsMachine a.setup a.steps.items (vec_capacity a.steps) a.processors.items a.memory a.host × AreBlocked a.blocked a.processors.items };
 }
 
 /// Makes the next instruction of a processor, or leaves all as it is where it isn't allowed.
 #[inline(always)]
-fn act_exec(processors: &mut [Processor], memory: &SharedMemory, spe: u8) -> bool
+fn act_exec(
+    processors: &mut [Processor],
+    memory: &SharedMemory,
+    blocked: &mut Blocked,
+    spe: u8,
+) -> bool
     requires many { length processors.old ≤ 16 }
     requires can { CanGo processors.old memory.now }
+    requires blocked { AreBlocked blocked.old processors.old }
     ensures made { (host : Progress) (M : State) → Shows processors.old memory.now host M → AreSettled M.spes → MatchBool result (IsSomeAnd (act M (Exec spe)) (λ N. Shows processors.new memory.now host (closed_in M (Exec spe) N))) (act M (Exec spe) ≡ None) }
     ensures refused { OnFalse result (processors.new ≡ processors.old) }
+    ensures blocked { AreBlocked blocked.new processors.new }
 {
     if spe as usize >= processors.len() {
         return false;
     }
-    processors[spe as usize].exec_step(memory.bytes.lines())
+    if blocked.has(spe) {
+        return false;
+    }
+    let made = processors[spe as usize].exec_step(memory.bytes.lines());
+    blocked.tell(spe, !made);
+    made
 }
 
 /// Copies or delivers the piece, or leaves all as it is where it isn't allowed.
 fn act_piece(
     processors: &mut [Processor],
     memory: &mut SharedMemory,
+    blocked: &mut Blocked,
     spe: u8,
     cmd: u32,
     elem: u16,
@@ -99,9 +117,11 @@ fn act_piece(
     requires many { length processors.old ≤ 16 }
     requires can { CanGo processors.old memory.old }
     requires small { length memory.old.bytes ≤ 67108864 }
+    requires blocked { AreBlocked blocked.old processors.old }
     ensures made { (host : Progress) (M : State) → Shows processors.old memory.old host M → AreSettled M.spes → MatchBool result (IsSomeAnd (act M (Piece spe cmd elem part)) (λ N. Shows processors.new memory.new host (closed_in M (Piece spe cmd elem part) N))) (act M (Piece spe cmd elem part) ≡ None) }
     ensures refused { OnFalse result ((processors.new ≡ processors.old) × (memory.new ≡ memory.old)) }
     ensures size { HasSameSize memory.old.locks memory.new.locks }
+    ensures blocked { AreBlocked blocked.new processors.new }
 {
     if spe as usize >= processors.len() {
         return false;
@@ -110,17 +130,25 @@ fn act_piece(
         return false;
     };
     spread(processors, reach);
+    blocked.wake(spe, reach.is_none());
     true
 }
 
 /// Does the atomic command of the slot, or leaves all as it is where it isn't allowed.
-fn act_atomic(processors: &mut [Processor], memory: &mut SharedMemory, spe: u8) -> bool
+fn act_atomic(
+    processors: &mut [Processor],
+    memory: &mut SharedMemory,
+    blocked: &mut Blocked,
+    spe: u8,
+) -> bool
     requires many { length processors.old ≤ 16 }
     requires can { CanGo processors.old memory.old }
     requires small { length memory.old.bytes ≤ 67108864 }
+    requires blocked { AreBlocked blocked.old processors.old }
     ensures made { (host : Progress) (M : State) → Shows processors.old memory.old host M → AreSettled M.spes → MatchBool result (IsSomeAnd (act M (Atomic spe)) (λ N. Shows processors.new memory.new host (closed_in M (Atomic spe) N))) (act M (Atomic spe) ≡ None) }
     ensures refused { OnFalse result ((processors.new ≡ processors.old) × (memory.new ≡ memory.old)) }
     ensures size { HasSameSize memory.old.locks memory.new.locks }
+    ensures blocked { AreBlocked blocked.new processors.new }
 {
     if spe as usize >= processors.len() {
         return false;
@@ -129,42 +157,58 @@ fn act_atomic(processors: &mut [Processor], memory: &mut SharedMemory, spe: u8) 
         return false;
     };
     lose(processors, losers);
+    blocked.wake(spe, losers == 0);
     true
 }
 
 /// Does the step, or leaves all as it is where it isn't allowed.
-fn act(processors: &mut [Processor], memory: &mut SharedMemory, host: &mut Host, s: Step) -> bool
+fn act(
+    processors: &mut [Processor],
+    memory: &mut SharedMemory,
+    host: &mut Host,
+    blocked: &mut Blocked,
+    s: Step,
+) -> bool
     requires many { length processors.old ≤ 16 }
     requires fit { IsFit (length processors.old) memory.old host.old }
     requires can { CanGo processors.old memory.old }
+    requires blocked { AreBlocked blocked.old processors.old }
     ensures made { (M : State) → Shows processors.old memory.old host.old M → AreSettled M.spes → MatchBool result (IsSomeAnd (act M s) (λ N. Shows processors.new memory.new host.new (closed_in M s N))) (act M s ≡ None) }
     ensures refused { OnFalse result ((processors.new ≡ processors.old) × (memory.new ≡ memory.old) × (host.new ≡ host.old)) }
     ensures size { HasSameSize memory.old.locks memory.new.locks }
     ensures script { host.new.script ≡ host.old.script }
+    ensures blocked { AreBlocked blocked.new processors.new }
 {
     let lines = memory.bytes.lines();
     match s {
-        Step::Exec { spe } => act_exec(processors, memory, spe),
+        Step::Exec { spe } => act_exec(processors, memory, blocked, spe),
         Step::Piece {
             spe,
             cmd,
             elem,
             part,
-        } => act_piece(processors, memory, spe, cmd, elem, part),
+        } => act_piece(processors, memory, blocked, spe, cmd, elem, part),
         Step::Elem { spe, cmd } => {
             if spe as usize >= processors.len() {
                 return false;
             }
-            processors[spe as usize].elem_step(lines, cmd)
+            let made = processors[spe as usize].elem_step(lines, cmd);
+            blocked.wake(spe, true);
+            made
         }
         Step::Retire { spe, cmd } => {
             if spe as usize >= processors.len() {
                 return false;
             }
-            processors[spe as usize].retire_step(cmd)
+            let made = processors[spe as usize].retire_step(cmd);
+            blocked.wake(spe, true);
+            made
         }
-        Step::Atomic { spe } => act_atomic(processors, memory, spe),
-        Step::Host => act_host(processors, memory, host),
+        Step::Atomic { spe } => act_atomic(processors, memory, blocked, spe),
+        Step::Host => {
+            blocked.forget();
+            act_host(processors, memory, host)
+        }
     }
 }
 
@@ -267,6 +311,7 @@ fn is_quiet(processors: &[Processor]) -> bool
 }
 
 /// The allowed step of the actor at the place that is the choice's remainder.
+#[inline(always)]
 fn nth_step(processors: &[Processor], host: &Host, actor: Actor, choice: u64) -> Option<Step>
     requires { All (λ c. IsKept c.commands.queue) processors.now }
     ensures { (memory : SharedMemory) (M : State) → Shows processors.now memory host.now M → result ≡ picked M actor choice }
@@ -299,18 +344,21 @@ fn act_allowed(
     processors: &mut [Processor],
     memory: &mut SharedMemory,
     host: &mut Host,
+    blocked: &mut Blocked,
     s: Step,
 ) -> Option<Step>
     requires many { length processors.old ≤ 16 }
     requires fit { IsFit (length processors.old) memory.old host.old }
     requires can { CanGo processors.old memory.old }
+    requires blocked { AreBlocked blocked.old processors.old }
     ensures done { (M : State) → Shows processors.old memory.old host.old M → AreSettled M.spes → is_some (next M s) ≡ true → result ≡ Some s }
     ensures made { (M : State) → Shows processors.old memory.old host.old M → AreSettled M.spes → IfSome result (λ t. IsSomeAnd (act M t) (λ N. Shows processors.new memory.new host.new (closed_in M t N))) }
     ensures refused { IfNone result ((processors.new ≡ processors.old) × (memory.new ≡ memory.old) × (host.new ≡ host.old)) }
     ensures size { HasSameSize memory.old.locks memory.new.locks }
     ensures script { host.new.script ≡ host.old.script }
+    ensures blocked { AreBlocked blocked.new processors.new }
 {
-    if act(processors, memory, host, s) {
+    if act(processors, memory, host, blocked, s) {
         Some(s)
     } else {
         None
@@ -324,21 +372,24 @@ fn act_picked(
     processors: &mut [Processor],
     memory: &mut SharedMemory,
     host: &mut Host,
+    blocked: &mut Blocked,
     actor: Actor,
     choice: u64,
 ) -> Option<Step>
     requires many { length processors.old ≤ 16 }
     requires fit { IsFit (length processors.old) memory.old host.old }
     requires can { CanGo processors.old memory.old }
+    requires blocked { AreBlocked blocked.old processors.old }
     ensures picked { (M : State) → Shows processors.old memory.old host.old M → AreSettled M.spes → result ≡ picked M actor choice }
     ensures made { (M : State) → Shows processors.old memory.old host.old M → AreSettled M.spes → IfSome result (λ s. IsSomeAnd (act M s) (λ N. Shows processors.new memory.new host.new (closed_in M s N))) }
     ensures refused { IfNone result ((processors.new ≡ processors.old) × (memory.new ≡ memory.old) × (host.new ≡ host.old)) }
     ensures size { HasSameSize memory.old.locks memory.new.locks }
     ensures script { host.new.script ≡ host.old.script }
+    ensures blocked { AreBlocked blocked.new processors.new }
 {
     match actor {
         Actor::Spu(spe) => {
-            if act_exec(processors, memory, spe) {
+            if act_exec(processors, memory, blocked, spe) {
                 Some(Step::Exec { spe })
             } else {
                 None
@@ -346,22 +397,28 @@ fn act_picked(
         }
         _ => {
             let step = nth_step(processors, host, actor, choice)?;
-            act_allowed(processors, memory, host, step)
+            act_allowed(processors, memory, host, blocked, step)
         }
     }
 }
 
 /// Makes the first allowed instruction, and answers it, or leaves all as it is where none is allowed.
 #[inline(always)]
-fn act_first_of_spus(processors: &mut [Processor], memory: &SharedMemory) -> Option<Step>
+fn act_first_of_spus(
+    processors: &mut [Processor],
+    memory: &SharedMemory,
+    blocked: &mut Blocked,
+) -> Option<Step>
     requires many { length processors.old ≤ 16 }
     requires can { CanGo processors.old memory.now }
+    requires blocked { AreBlocked blocked.old processors.old }
     ensures first { (host : Progress) (M : State) → Shows processors.old memory.now host M → AreSettled M.spes → result ≡ slice_get (all_of_spus M) 0 }
     ensures made { (host : Progress) (M : State) → Shows processors.old memory.now host M → AreSettled M.spes → IfSome result (λ s. IsSomeAnd (act M s) (λ N. Shows processors.new memory.now host (closed_in M s N))) }
     ensures refused { IfNone result (processors.new ≡ processors.old) }
+    ensures blocked { AreBlocked blocked.new processors.new }
 {
     for spe in 0..processors.len() as u8 {
-        if act_exec(processors, memory, spe) {
+        if act_exec(processors, memory, blocked, spe) {
             return Some(Step::Exec { spe });
         }
     }
@@ -374,21 +431,24 @@ fn act_first(
     processors: &mut [Processor],
     memory: &mut SharedMemory,
     host: &mut Host,
+    blocked: &mut Blocked,
 ) -> Option<Step>
     requires many { length processors.old ≤ 16 }
     requires fit { IsFit (length processors.old) memory.old host.old }
     requires can { CanGo processors.old memory.old }
+    requires blocked { AreBlocked blocked.old processors.old }
     ensures first { (M : State) → Shows processors.old memory.old host.old M → AreSettled M.spes → result ≡ first_allowed M }
     ensures made { (M : State) → Shows processors.old memory.old host.old M → AreSettled M.spes → IfSome result (λ s. IsSomeAnd (act M s) (λ N. Shows processors.new memory.new host.new (closed_in M s N))) }
     ensures refused { IfNone result ((processors.new ≡ processors.old) × (memory.new ≡ memory.old) × (host.new ≡ host.old)) }
     ensures size { HasSameSize memory.old.locks memory.new.locks }
     ensures script { host.new.script ≡ host.old.script }
+    ensures blocked { AreBlocked blocked.new processors.new }
 {
-    match act_first_of_spus(processors, memory) {
+    match act_first_of_spus(processors, memory, blocked) {
         Some(step) => Some(step),
         None => {
             let step = first_of_others(processors, host)?;
-            act_allowed(processors, memory, host, step)
+            act_allowed(processors, memory, host, blocked, step)
         }
     }
 }
@@ -404,12 +464,14 @@ impl Machine {
         let memory = SharedMemory::new(alloc, setup.lines, spes, &setup.memory)?;
         let host = Host::new(alloc, &setup.actions)?;
         let steps = Vec::with_capacity(alloc, setup.budget as usize)?;
+        let blocked = Blocked::new();
         Ok(Machine {
             setup,
             processors,
             memory,
             host,
             steps,
+            blocked,
         })
     }
 
@@ -425,7 +487,13 @@ impl Machine {
         if at >= self.setup.budget() as usize {
             return Err(Refused::Spent);
         }
-        if !act(&mut self.processors, &mut self.memory, &mut self.host, s) {
+        if !act(
+            &mut self.processors,
+            &mut self.memory,
+            &mut self.host,
+            &mut self.blocked,
+            s,
+        ) {
             return Err(Refused::NotAllowed);
         }
         let _ = self.steps.push(s);
@@ -670,6 +738,7 @@ impl Machine {
             &mut self.processors,
             &mut self.memory,
             &mut self.host,
+            &mut self.blocked,
             actor,
             choice,
         )?;
@@ -689,7 +758,12 @@ impl Machine {
         if self.steps.len() >= self.setup.budget() as usize {
             return None;
         }
-        let step = act_first(&mut self.processors, &mut self.memory, &mut self.host)?;
+        let step = act_first(
+            &mut self.processors,
+            &mut self.memory,
+            &mut self.host,
+            &mut self.blocked,
+        )?;
         let _ = self.steps.push(step);
         Some(step)
     }

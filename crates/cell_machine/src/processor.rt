@@ -91,6 +91,7 @@ fn may_operate(row: Option<Row>) -> bool
 impl Processor {
     ghost use Rattle.cell_machine.specs.Opening.{Opening, opening_spe};
     ghost use Rattle.cell_machine.specs.Shows.{ShowsSpe, CanIssue};
+    ghost use Rattle.cell_machine.specs.Blocked.{IsBlocked};
     ghost use Rattle.cell_machine.specs.Run.{is_quiet_spe};
 
     /// A processor at its start.
@@ -181,6 +182,7 @@ impl Processor {
         requires lines { lines ≤ 524288 }
         ensures made { (P : Spe) → ShowsSpe self.old P → MatchBool result (IsSomeAnd (exec lines P) (λ Q. ShowsSpe self.new (with_freed P Q))) (exec lines P ≡ None) }
         ensures refused { OnFalse result (self.new ≡ self.old) }
+        ensures blocked { OnFalse result (IsBlocked self.new) }
     {
         if !self.is_running() {
             return false;
@@ -202,6 +204,7 @@ impl Processor {
         requires lines { lines ≤ 524288 }
         ensures made { (P : Spe) → ShowsSpe self.old P → MatchBool result (IsSomeAnd (exec lines P) (λ Q. ShowsSpe self.new (with_fixed (with_freed P Q)))) (exec lines P ≡ None) }
         ensures refused { OnFalse result (self.new ≡ self.old) }
+        ensures blocked { OnFalse result (IsBlocked self.new) }
     {
         if !self.exec(lines) {
             return false;

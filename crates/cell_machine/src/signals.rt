@@ -1,6 +1,6 @@
 //! What a step of a processor does to other processors.
 
-ghost use Rattle.std.specs.Prelude.{◌≡◌, ◌<◌, ◌≤◌, List, length, map};
+ghost use Rattle.std.specs.Prelude.{◌≡◌, ◌<◌, ◌≤◌, List, None, length, map, true};
 ghost use Rattle.std.specs.List.{enumerate_from};
 ghost use Rattle.cell_base.specs.Bits.{has_bit};
 ghost use Rattle.cell_machine.specs.Spe.{Spe};
@@ -23,10 +23,20 @@ pub(crate) struct Reach {
     pub(crate) losers: u16,
 }
 
+impl Reach {
+    /// Whether the step does nothing to other processors.
+    pub(crate) fn is_none(&self) -> bool
+        ensures { result ≡ true → (self.now.sent ≡ None) × (self.now.losers ≡ 0) }
+    {
+        self.sent.is_none() && self.losers == 0
+    }
+}
+
 /// Delivers what was sent, if something was; a register of a processor that isn't there takes nothing.
 fn deliver(processors: &mut [Processor], sent: Option<Delivery>)
     requires { IsDelivery sent }
-    ensures { (spes : List Spe) → AllTwo ShowsSpe processors.old spes → AllTwo ShowsSpe processors.new (informed_by spes sent) }
+    ensures informed { (spes : List Spe) → AllTwo ShowsSpe processors.old spes → AllTwo ShowsSpe processors.new (informed_by spes sent) }
+    ensures none { sent ≡ None → processors.new ≡ processors.old }
 {
     let Some(sent) = sent else {
         return;
@@ -48,7 +58,8 @@ fn is_loser(losers: u16, spe: usize) -> bool
 /// Raises at these processors that their reservation is lost.
 pub(crate) fn lose(processors: &mut [Processor], losers: u16)
     requires { length processors.old ≤ 16 }
-    ensures { (spes : List Spe) → AllTwo ShowsSpe processors.old spes → AllTwo ShowsSpe processors.new (map (lost_by losers) (enumerate_from 0 spes)) }
+    ensures lost { (spes : List Spe) → AllTwo ShowsSpe processors.old spes → AllTwo ShowsSpe processors.new (map (lost_by losers) (enumerate_from 0 spes)) }
+    ensures none { losers ≡ 0 → processors.new ≡ processors.old }
 {
     // nearly no store ends a reservation
     if losers == 0 {
@@ -66,7 +77,8 @@ pub(crate) fn lose(processors: &mut [Processor], losers: u16)
 pub(crate) fn spread(processors: &mut [Processor], reach: Reach)
     requires many { length processors.old ≤ 16 }
     requires sent { IsDelivery reach.sent }
-    ensures { (spes : List Spe) → AllTwo ShowsSpe processors.old spes → AllTwo ShowsSpe processors.new (map (lost_by reach.losers) (enumerate_from 0 (informed_by spes reach.sent))) }
+    ensures spread { (spes : List Spe) → AllTwo ShowsSpe processors.old spes → AllTwo ShowsSpe processors.new (map (lost_by reach.losers) (enumerate_from 0 (informed_by spes reach.sent))) }
+    ensures none { (reach.sent ≡ None) × (reach.losers ≡ 0) → processors.new ≡ processors.old }
 {
     deliver(processors, reach.sent);
     lose(processors, reach.losers);

@@ -147,6 +147,7 @@ impl Processor {
     }
 
     /// The allowed step at the place that is the choice's remainder.
+    #[inline(always)]
     pub(crate) fn pick_of_mfc(&self, spe: u8, choice: u64) -> Option<Step>
         requires { IsKept self.now.commands.queue }
         ensures { (P : Spe) → ShowsSpe self.now P → result ≡ slice_get (allowed_of_mfc spe P) (choice % length (allowed_of_mfc spe P)) }

@@ -21,7 +21,7 @@ returns-in-Await-clause-made c = λ host M shows all.
 
 pub returns-in-Store-clause-made : goal.returns-in-Store-clause-made
 returns-in-Store-clause-made c = λ host M shows all. rw c.in-Store.is
-    (store-leaves _ _ _ _ host M _ _ _ _ c.store-losers.result shows all c.requires.many (c.store-losers.ensures.shows M.memory (reservations M.spes) shows.memory_is) (c.store-losers.ensures.losers M.memory (reservations M.spes) shows.memory_is) c.lose.ensures refl)
+    (store-leaves _ _ _ _ host M _ _ _ _ c.store-losers.result shows all c.requires.many (c.store-losers.ensures.shows M.memory (reservations M.spes) shows.memory_is) (c.store-losers.ensures.losers M.memory (reservations M.spes) shows.memory_is) c.lose.ensures.lost refl)
 
 pub returns-in-Signal-clause-made : goal.returns-in-Signal-clause-made
 returns-in-Signal-clause-made c = λ host M shows all.

@@ -6,7 +6,7 @@ use Rattle.cell_machine.proofs.Choices.{none-left, none-before}
 use Rattle.cell_machine.proofs.machine.act_first_of_spus.Goals as goal
 
 pub loop-spe-init : goal.loop-spe-init
-loop-spe-init c = (refl, λ host M shows all. none-before M Spu _)
+loop-spe-init c = (refl, λ host M shows all. none-before M Spu _, c.requires.blocked)
 
 pub act_exec-requires-clause-can : goal.act_exec-requires-clause-can
 act_exec-requires-clause-can c = subst (λ ps. CanGo ps c.args.memory.now) (sym c.loop-spe.invariant.0) c.requires.can
@@ -30,6 +30,7 @@ loop-spe-preserved c =
       λ host M shows all.
           let before = subst (λ ps. Shows ps c.args.memory.now host M) same shows in
           tried-on _ M c.loop-spe.spe before (omega arith) (rw c.if-act_exec.false at (c.act_exec.ensures.made host M before all)) (c.loop-spe.invariant.1 host M before all),
+      c.act_exec.ensures.blocked,
     )
 
 pub returns-clause-first : goal.returns-clause-first
@@ -37,3 +38,9 @@ returns-clause-first c = λ host M shows all.
     let now = subst (λ ps. Shows ps c.args.memory.now host M) (sym c.loop-spe.invariant.0) shows in
     let long = ap length c.loop-spe.invariant.0 in
     none-left _ M Spu c.loop-spe.spe _ now (omega arith) (c.loop-spe.invariant.1 host M now all)
+
+pub act_exec-requires-clause-blocked : goal.act_exec-requires-clause-blocked
+act_exec-requires-clause-blocked c = c.loop-spe.invariant.2
+
+pub returns-clause-blocked : goal.returns-clause-blocked
+returns-clause-blocked c = c.loop-spe.invariant.2

@@ -7,6 +7,7 @@ use Rattle.cell_machine.proofs.AllTwo.{none-made}
 use Rattle.cell_machine.proofs.Steps.{act-absent}
 use Rattle.cell_machine.proofs.Controllers.{can-lines}
 use Rattle.cell_machine.proofs.Ending.{piece-acts, piece-refused}
+use Rattle.cell_machine.proofs.Marks.{same-but, kept-marks}
 use Rattle.cell_machine.proofs.machine.act_piece.Goals as goal
 
 pub returns-then-spe-processors-clause-made : goal.returns-then-spe-processors-clause-made
@@ -29,4 +30,12 @@ spread-requires-clause-sent c = rw c.in-Some.is at c.piece_step.ensures.register
 pub returns-clause-made : goal.returns-clause-made
 returns-clause-made c = λ host M shows all.
     (piece-acts c.piece_step.new.memory _ _ _ _ M c.args.spe c.args.cmd c.args.elem c.args.part c.in-Some.reach shows all c.requires.many (omega arith) (rw c.in-Some.is at c.piece_step.ensures.register) (λ P seen.
-    rw c.in-Some.is at (c.piece_step.ensures.made P M.memory (reservations M.spes) seen shows.memory_is)) c.spread.ensures)
+    rw c.in-Some.is at (c.piece_step.ensures.made P M.memory (reservations M.spes) seen shows.memory_is)) c.spread.ensures.spread)
+
+pub returns-in_default-clause-blocked : goal.returns-in_default-clause-blocked
+returns-in_default-clause-blocked c =
+    let same = rw c.in_default.is at c.piece_step.ensures.refused in
+    kept-marks _ _ c.args.spe _ _ same.0 c.requires.blocked
+
+pub returns-clause-blocked : goal.returns-clause-blocked
+returns-clause-blocked c = c.wake.ensures _ _ c.requires.blocked (λ is. same-but _ _ c.args.spe _ (c.spread.ensures.none (c.is_none.ensures is)))

@@ -6,15 +6,15 @@ use Rattle.cell_machine.proofs.machine.Machine.any_step.Goals as goal
 
 pub returns-clause-allowed : goal.returns-clause-allowed
 returns-clause-allowed c =
-    any-allowed _ c.args.self.now c.self.invariant.state (machine-replayed _ _ _ _ _ c.self.invariant c.self.view_is)
+    any-allowed _ c.args.self.now c.self.invariant.0.state (machine-replayed _ _ _ _ _ c.self.invariant.0 c.self.view_is)
     (let e = ap (λ (n : Ran). n.setup.budget) c.self.view_is in let l = ap (λ (n : Ran). length n.steps) c.self.view_is in omega arith)
-    (c.first_step.ensures c.self.inside.memory c.self.invariant.state (rw c.deref.ensures.value c.self.invariant.shown))
+    (c.first_step.ensures c.self.inside.memory c.self.invariant.0.state (rw c.deref.ensures.value c.self.invariant.0.shown))
 
 pub returns-clause-none : goal.returns-clause-none
 returns-clause-none c =
-    any-none _ _ c.args.self.now c.self.invariant.state c.self.invariant.shown (machine-replayed _ _ _ _ _ c.self.invariant c.self.view_is)
+    any-none _ _ c.args.self.now c.self.invariant.0.state c.self.invariant.0.shown (machine-replayed _ _ _ _ _ c.self.invariant.0 c.self.view_is)
     (let e = ap (λ (n : Ran). n.setup.budget) c.self.view_is in let l = ap (λ (n : Ran). length n.steps) c.self.view_is in omega arith)
-    (c.first_step.ensures c.self.inside.memory c.self.invariant.state (rw c.deref.ensures.value c.self.invariant.shown))
+    (c.first_step.ensures c.self.inside.memory c.self.invariant.0.state (rw c.deref.ensures.value c.self.invariant.0.shown))
 
 pub first_step-requires-clause-kept : goal.first_step-requires-clause-kept
-first_step-requires-clause-kept c = rw c.deref.ensures.value (machine-kept c.self.invariant)
+first_step-requires-clause-kept c = rw c.deref.ensures.value (machine-kept c.self.invariant.0)

@@ -31,19 +31,19 @@ pub returns-then-len-budget-clause-fixed : goal.returns-then-len-budget-clause-f
 returns-then-len-budget-clause-fixed c = fixes-once
 
 pub effect_of-requires : goal.effect_of-requires
-effect_of-requires c = rw c.deref.ensures.value (machine-can _ _ _ _ _ _ c.self.invariant (omega arith))
+effect_of-requires c = rw c.deref.ensures.value (machine-can _ _ _ _ _ _ c.self.invariant.0 (omega arith))
 
 pub returns-clause-effect : goal.returns-clause-effect
 returns-clause-effect c =
-    effect-within c.args.self.now c.self.invariant.state c.args.s _ (machine-replayed _ _ _ _ _ c.self.invariant c.self.view_is)
+    effect-within c.args.self.now c.self.invariant.0.state c.args.s _ (machine-replayed _ _ _ _ _ c.self.invariant.0 c.self.view_is)
     (let e = ap (λ (n : Ran). n.setup.budget) c.self.view_is in let l = ap (λ (n : Ran). length n.steps) c.self.view_is in omega arith)
-    (c.effect_of.ensures c.self.invariant.state (rw c.deref.ensures.value c.self.invariant.shown))
+    (c.effect_of.ensures c.self.invariant.0.state (rw c.deref.ensures.value c.self.invariant.0.shown))
 
 pub returns-clause-allowed : goal.returns-clause-allowed
 returns-clause-allowed c =
-    effect-allowed c.args.self.now c.args.s _ (effect-within c.args.self.now c.self.invariant.state c.args.s _ (machine-replayed _ _ _ _ _ c.self.invariant c.self.view_is)
+    effect-allowed c.args.self.now c.args.s _ (effect-within c.args.self.now c.self.invariant.0.state c.args.s _ (machine-replayed _ _ _ _ _ c.self.invariant.0 c.self.view_is)
     (let e = ap (λ (n : Ran). n.setup.budget) c.self.view_is in let l = ap (λ (n : Ran). length n.steps) c.self.view_is in omega arith)
-    (c.effect_of.ensures c.self.invariant.state (rw c.deref.ensures.value c.self.invariant.shown)))
+    (c.effect_of.ensures c.self.invariant.0.state (rw c.deref.ensures.value c.self.invariant.0.shown)))
 
 pub returns-clause-writes : goal.returns-clause-writes
 returns-clause-writes c = writes-alone

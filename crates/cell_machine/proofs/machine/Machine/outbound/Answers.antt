@@ -2,4 +2,4 @@ use Rattle.cell_machine.proofs.Replays.{machine-spe}
 use Rattle.cell_machine.proofs.machine.Machine.outbound.Goals as goal
 
 pub returns : goal.returns
-returns c = machine-spe _ _ _ _ _ c.args.spe _ _ c.self.invariant c.self.view_is c.requires c.index-processor.ensures (λ P shows. shows.outbound)
+returns c = machine-spe _ _ _ _ _ c.args.spe _ _ c.self.invariant.0 c.self.view_is c.requires c.index-processor.ensures (λ P shows. shows.outbound)

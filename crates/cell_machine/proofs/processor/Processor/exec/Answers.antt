@@ -8,6 +8,7 @@ use Rattle.cell_machine.specs.Shows.{ShowsSpe}
 use Rattle.cell_machine.proofs.AllTwo.{none_of}
 use Rattle.cell_machine.proofs.Freed.{kept-same}
 use Rattle.cell_machine.proofs.Execs.{exec-stopped, exec-bad_word, exec-follows, exec-refused, place-prop, none_there}
+use Rattle.cell_machine.proofs.Marks.{never-blocked}
 use Rattle.cell_machine.proofs.processor.Processor.exec.Goals as goal
 
 pub returns-then-not-is_running-clause-made : goal.returns-then-not-is_running-clause-made
@@ -35,3 +36,11 @@ pub returns-clause-refused : goal.returns-clause-refused
 returns-clause-refused c =
     exec-refused c.follow.result c.args.self.now _ c.follow.new.self c.exec-flow.result c.follow.ensures.refused c.follow.ensures.only
     (λ op is. let kept = c.exec-flow.ensures.channel op is in rw (kept.0, kept.1) (ap (λ here. record c.args.self.now { here = here }) (place-prop _ _ _)))
+
+pub returns-then-not-is_running-clause-blocked : goal.returns-then-not-is_running-clause-blocked
+returns-then-not-is_running-clause-blocked c = λ lines P shows. exec-stopped lines P (ap is_running shows.status ∙ sym c.is_running.ensures ∙ c.if-not-is_running.true)
+
+pub returns-clause-blocked : goal.returns-clause-blocked
+returns-clause-blocked c =
+    never-blocked c.follow.result c.args.lines c.args.self.now _ _ (returns-clause-refused c) (returns-clause-made c)
+    (λ P shows. sym (c.may_make.ensures c.args.lines P (record { status = shows.status; pc = shows.pc; registers = shows.registers; store = shows.store; inbound = shows.inbound; outbound = shows.outbound; interrupt = shows.interrupt; channels = shows.channels; tags = shows.tags; signals = shows.signals; events = shows.events; queue = shows.queue }) (sym c.is_running.ensures ∙ c.if-not-is_running.false) (ap instr_of (sym c.word.ensures) ∙ sym c.decode.ensures.means ∙ c.in-Some.is)) ∙ c.if-not-may_make.false)

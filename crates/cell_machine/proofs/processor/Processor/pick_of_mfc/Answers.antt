@@ -1,5 +1,5 @@
 use Rattle.std.proofs.Common.{ap, sym}
-use Rattle.std.specs.Prelude.{ℕ, ◌%◌, List, length, slice_get}
+use Rattle.std.specs.Prelude.{◌%◌, List, length, slice_get}
 use Rattle.cell_base.specs.declared.steps.Step.{Step}
 use Rattle.cell_machine.proofs.Places.{picked-at}
 use Rattle.cell_machine.proofs.processor.Processor.pick_of_mfc.Goals as goal
