@@ -3,6 +3,7 @@
 ghost use Rattle.std.specs.Prelude.{◌≡◌, ◌++◌, ◌<◌, ◌≤◌, length, OnOk, IfOk};
 ghost use Rattle.std.specs.List.{prefix_len};
 ghost use Rattle.cell_base.specs.declared.format.Format.TheVariants.{One, Two};
+ghost use Rattle.cell_base.specs.declared.steps.Step.TheVariants.{Exec};
 ghost use Rattle.cell_base.specs.Records.{field, step_line, stretch_line, are_of_one, count_line, spelling};
 
 use crate::error::TextError;
@@ -59,12 +60,24 @@ pub fn put_step(out: &mut Vec<u8>, step: Step) -> Result<(), AllocError>
     Ok(())
 }
 
+/// The line of a stretch of which both numbers have one digit, as most lines have where several processors take turns.
+fn short_line(spe: u8, count: u32) -> [u8; 6]
+    requires spe { spe < 10 }
+    requires count { count < 10 }
+    ensures { result ≡ stretch_line (Exec spe) count }
+{
+    [b'x', b' ', b'0' + spe, b' ', b'0' + count as u8, b'\n']
+}
+
 /// Writes the line of a stretch at the end, which in format 2 stands for a step so many times.
 fn put_stretch(out: &mut Vec<u8>, step: Step, count: u32) -> Result<(), AllocError>
     ensures { OnOk result (out.new.items ≡ out.old.items ++ stretch_line step count) }
 {
     match step {
         Step::Exec { spe } => {
+            if spe < 10 && count < 10 {
+                return out.extend_from_slice(&short_line(spe, count));
+            }
             out.push(b'x')?;
             put_field(out, u32::from(spe))?;
             put_field(out, count)?;
