@@ -25,12 +25,6 @@ get-there [] i h = absurd (omega (arith, h))
 get-there (x ∷ xs) zero h = (x, refl)
 get-there (x ∷ xs) (suc i) h = get-there xs i (omega (arith, h))
 
--- a set that took something of its own twice, where it is to take both
-pub takes_both : (old own x y t : Bool) → t ≡ true → ((old || (own && x)) || (own && y)) ≡ (old || (t && (own && (x || y))))
-takes_both true own x y t h = refl
-takes_both false true x y t h = rw h refl
-takes_both false false x y t h = rw h refl
-
 -- a set that took something, and then something more of the same
 pub took_more : (old x y k : Bool) → ((old || (x && k)) || (y && k)) ≡ (old || ((x || y) && k))
 took_more true x y k = refl

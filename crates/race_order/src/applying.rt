@@ -41,63 +41,8 @@ fn pass_issue(sets: &mut Sets, spare: &mut Known, step: Step, note: Note) -> Res
     }
 }
 
-/// Puts the only command forward that the step touches, and answers whether it is complete then.
-fn put_one_on(
-    sets: &mut Sets,
-    spare: &mut Known,
-    lives: &mut [Live],
-    i: usize,
-    brought: &Brought,
-) -> Result<bool, OrderError>
-    requires sole { IsSole (λ l. is_touched l brought.now.step brought.now.effect.now.note) lives.old i }
-    requires room { HaveRoom lives.old }
-    requires live { AreOutstanding lives.old }
-    requires within { AreWithin brought.now.spes lives.old }
-    requires brought { IsOfChains brought.now }
-    requires sets { AreOf (3 * brought.now.spes + 1) sets.old }
-    requires spare { spare.old.chains ≡ 3 * brought.now.spes + 1 }
-    ensures put { OnOk result (ArePutOn brought.now.spes brought.now.step brought.now.effect.now.note (has_brought brought.now) lives.old (sets_have sets.old) (sets_have sets.new)) }
-    ensures next { OnOk result (lives.new ≡ nexts brought.now.step brought.now.effect.now lives.old) }
-    ensures done { IfOk result (λ done. done ≡ list_any (λ l. l.progress.done) lives.new) }
-    ensures chains { OnOk result (AreOf (spare.old.chains) sets.new) }
-    ensures spare { spare.new.chains ≡ spare.old.chains }
-{
-    let (step, note) = (brought.step, brought.effect.note);
-    let live = lives[i];
-    let next = after_step(&live, step, note);
-    enter(sets, &live, &next, brought)?;
-    pass_issue(sets, spare, step, note)?;
-    pass_stall(sets, spare, &live, &next)?;
-    lives[i] = next;
-    Ok(next.progress.done)
-}
-
-/// Puts all commands forward that the step touches, and answers whether one is complete then.
-fn put_all_on(
-    sets: &mut Sets,
-    spare: &mut Known,
-    lives: &mut [Live],
-    brought: &Brought,
-) -> Result<bool, OrderError>
-    requires room { HaveRoom lives.old }
-    requires live { AreOutstanding lives.old }
-    requires within { AreWithin brought.now.spes lives.old }
-    requires brought { IsOfChains brought.now }
-    requires sets { AreOf (3 * brought.now.spes + 1) sets.old }
-    requires spare { spare.old.chains ≡ 3 * brought.now.spes + 1 }
-    ensures put { OnOk result (ArePutOn brought.now.spes brought.now.step brought.now.effect.now.note (has_brought brought.now) lives.old (sets_have sets.old) (sets_have sets.new)) }
-    ensures next { OnOk result (lives.new ≡ nexts brought.now.step brought.now.effect.now lives.old) }
-    ensures done { IfOk result (λ done. done ≡ list_any (λ l. l.progress.done) lives.new) }
-    ensures chains { OnOk result (AreOf (spare.old.chains) sets.new) }
-    ensures spare { spare.new.chains ≡ spare.old.chains }
-{
-    touch_all(sets, lives, brought)?;
-    pass_issue(sets, spare, brought.step, brought.effect.note)?;
-    let done = go_on_all(sets, spare, lives, brought)?;
-    Ok(done)
-}
-
-/// Puts the commands forward that the step touches, and answers whether one is complete then.
+/// Puts the commands forward that the step touches, and answers whether one is complete then. One command is put forward by itself: then its next
+/// state is made once.
 fn put_on(
     sets: &mut Sets,
     spare: &mut Known,
@@ -116,11 +61,19 @@ fn put_on(
     ensures chains { OnOk result (AreOf (spare.old.chains) sets.new) }
     ensures spare { spare.new.chains ≡ spare.old.chains }
 {
-    // One command is put forward by itself: then its next state is made once.
-    match only_touched(lives, target_of(brought.step, brought.effect.note)) {
-        Some(i) => put_one_on(sets, spare, lives, i, brought),
-        None => put_all_on(sets, spare, lives, brought),
-    }
+    let (step, note) = (brought.step, brought.effect.note);
+    let Some(i) = only_touched(lives, target_of(step, note)) else {
+        touch_all(sets, lives, brought)?;
+        pass_issue(sets, spare, step, note)?;
+        return go_on_all(sets, spare, lives, brought);
+    };
+    let live = lives[i];
+    let next = after_step(&live, step, note);
+    enter(sets, &live, &next, brought)?;
+    pass_issue(sets, spare, step, note)?;
+    pass_stall(sets, spare, &live, &next)?;
+    lives[i] = next;
+    Ok(next.progress.done)
 }
 
 /// The step and its moves, one after the other. The commands are then as after it, also complete ones; answers whether there is one of these.

@@ -98,7 +98,8 @@ pub(crate) fn is_class(a: Class, b: Class) -> bool
     }
 }
 
-/// Whether the two are one role.
+/// Whether the two are one role. It is compiled into the search for a set, which asks it at each place.
+#[inline(always)]
 pub(crate) fn is_role(a: &QueueRole, b: &QueueRole) -> bool
     ensures { result ≡ same_role a.now b.now }
 {

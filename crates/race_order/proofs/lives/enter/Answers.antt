@@ -1,4 +1,4 @@
-use Rattle.std.proofs.Common.{◌≡◌, arith, ap}
+use Rattle.std.proofs.Common.{arith, ap}
 use Rattle.race_order.specs.declared.lives.Live.{Live}
 use Rattle.race_order.specs.Status.{elements_done}
 use Rattle.race_order.proofs.Statuses.{done_after}

@@ -1,4 +1,4 @@
-use Rattle.std.proofs.Common.{◌≡◌, ◌&&◌, ◌||◌, true, false, sym, ap, ◌∙◌}
+use Rattle.std.proofs.Common.{◌≡◌, ◌||◌, true, false, sym, ap, ◌∙◌}
 use Rattle.race_order.specs.Lives.{is_touched}
 use Rattle.race_order.specs.Tables.{sets_have}
 use Rattle.race_order.specs.Bringing.{has_brought}
