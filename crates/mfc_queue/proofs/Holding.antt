@@ -10,7 +10,7 @@ use Rattle.mfc_command.specs.declared.command.Command.{Command}
 use Rattle.mfc_command.specs.Order.{goes_before, outstanding as outstanding_of}
 use Rattle.mfc_queue.specs.declared.Held.{Held}
 use Rattle.mfc_queue.specs.declared.Queue.{Queue}
-use Rattle.mfc_queue.specs.Sets.{has_part}
+use Rattle.mfc_queue.specs.Sets.{has_part, set_of}
 use Rattle.mfc_queue.specs.Calls.{Call, Issue, SetParts, Mark, Retire, issued, is_retired, is_outstanding, outstanding, parts, is_marked, left, all_marked, may_begin, is_of_tag}
 use Rattle.mfc_queue.specs.Stands.{StandsFor, place_in, Holds, IsUnknown, IsOneOf, HasPart, Entry, entry, KnowsBefore}
 use Rattle.std.proofs.lemmas.List.{get_or-set_same, get_or-set_other, length-set}
@@ -324,15 +324,7 @@ all-agree : (p r : ℕ → Bool) (a n : ℕ) → ((k : ℕ) → k < a + n → p 
 all-agree p r a zero h = refl
 all-agree p r a (suc n) h = rw (h a (omega arith)) (ap (λ b. r a && b) (all-agree p r (a + 1) n (λ k l. h k (omega arith))))
 
-pub all-marked : (q : Queue) (calls : List Call) (cmd i : ℕ) (h : Held) → StandsFor q calls → i < length q.held.items → h ≡ slice_index_or q.held.items i h → ((d : Held) → (slice_index_or q.held.items i d).cmd ≡ cmd)
-    → h.parts ≤ 129 → list_all (λ k. has_part h.done.words k) (range_with_len 0 h.parts) ≡ all_marked calls cmd
-all-marked q calls cmd i h stands within at same few =
-    let e : h.cmd ≡ cmd = ap (λ (x : Held). x.cmd) at ∙ same h in
-    let holds : Holds calls h = held-at q calls i h stands within at in
-    all-agree (λ k. has_part h.done.words k) (is_marked calls cmd) 0 h.parts (λ k l. subst (λ j. has_part h.done.words k ≡ is_marked calls j k) e (sym (holds.done k (omega arith))))
-    ∙ ap (λ n. list_all (is_marked calls cmd) (range_with_len 0 n)) (sym holds.parts ∙ ap (parts calls) e)
-
--- whether they would be with one more
+-- whether all parts are done with one more
 pub marked-all : (q : Queue) (calls : List Call) (cmd part i : ℕ) (old h : Held) → StandsFor q calls → i < length q.held.items → old ≡ slice_index_or q.held.items i old → ((d : Held) → (slice_index_or q.held.items i d).cmd ≡ cmd)
     → h.parts ≡ old.parts → ((k : ℕ) → has_part h.done.words k ≡ (has_part old.done.words k || part == k)) → h.parts ≤ 129
     → list_all (λ k. has_part h.done.words k) (range_with_len 0 h.parts) ≡ all_marked (calls ++ Mark cmd part ∷ []) cmd
@@ -511,6 +503,27 @@ pub busy-is : (q : Queue) (calls : List Call) → StandsFor q calls → busy_gro
 unfolding busy_groups
 busy-is q calls stands = ap (fold (with_group (issued calls)) 0) stands.numbers
 
+-- they are the groups of what is held
+groups-from : (calls : List Call) (bits : ℕ) (held : List Held) → All (Holds calls) held
+    → fold (λ b k. bit_or b (2 ^ k)) bits (map (λ h. h.command.tag) held) ≡ fold (with_group (issued calls)) bits (map (λ h. h.cmd) held)
+groups-from calls bits [] all = refl
+groups-from calls bits (h ∷ held) all =
+    ap (λ b. fold (λ b k. bit_or b (2 ^ k)) b (map (λ (x : Held). x.command.tag) held)) (sym (group-held calls h bits (all 0 h (omega arith))))
+    ∙ groups-from calls (with_group (issued calls) bits h.cmd) held (λ k d l. all (suc k) d (omega arith))
+
+pub busy-held : (q : Queue) (calls : List Call) → StandsFor q calls → set_of (map (λ h. h.command.tag) q.held.items) ≡ busy_groups (is_retired calls) (issued calls)
+busy-held q calls stands = groups-from calls 0 q.held.items stands.each ∙ sym (busy-is q calls stands)
+
+-- and stay, where one of these is rewritten, and one more has its own
+pub groups-set : (held new : List Held) (bits i : ℕ) (old h : Held) → bits ≡ set_of (map (λ h. h.command.tag) held) → new ≡ slice_set held i h → old ≡ slice_index_or held i old → h.command ≡ old.command
+    → bits ≡ set_of (map (λ h. h.command.tag) new)
+groups-set held new bits i old h is items at same =
+    is ∙ ap set_of (sym (map-set_same (λ (x : Held). x.command.tag) held i h old (ap (λ (d : Command). d.tag) same ∙ ap (λ (x : Held). x.command.tag) at)) ∙ ap (map (λ (x : Held). x.command.tag)) (sym items))
+
+fold-snoc : (bits k : ℕ) (ks : List ℕ) → fold (λ b k. bit_or b (2 ^ k)) bits (ks ++ k ∷ []) ≡ bit_or (fold (λ b k. bit_or b (2 ^ k)) bits ks) (2 ^ k)
+fold-snoc bits k [] = refl
+fold-snoc bits k (j ∷ ks) = fold-snoc (bit_or bits (2 ^ j)) k ks
+
 -- the groups that are busy without one of them
 pub busy-retired : (q : Queue) (calls : List Call) (cmd : ℕ) → StandsFor q calls
     → busy_groups (is_retired (calls ++ Retire cmd ∷ [])) (issued (calls ++ Retire cmd ∷ [])) ≡ fold (with_group (issued calls)) 0 (filter (λ k. not (cmd == k)) (map (λ h. h.cmd) q.held.items))
@@ -533,3 +546,9 @@ pub parts-at : (q : Queue) (calls : List Call) (i cmd : ℕ) (h : Held) → Stan
 parts-at q calls i cmd h stands within at same =
     let e : h.cmd ≡ cmd = ap (λ (x : Held). x.cmd) at ∙ same h in
     sym (held-at q calls i h stands within at).parts ∙ ap (parts calls) e
+
+pub groups-issued : (held new : List Held) (bits tag : ℕ) (h : Held) → bits ≡ set_of (map (λ h. h.command.tag) held) → new ≡ held ++ h ∷ [] → h.command.tag ≡ tag → tag < 32
+    → bit_or bits ((1 * 2 ^ tag) % 4294967296) ≡ set_of (map (λ h. h.command.tag) new)
+groups-issued held new bits tag h is items own small =
+    ap (bit_or bits) (shifted tag small ∙ ap (λ k. 2 ^ k) (sym own)) ∙ ap (λ b. bit_or b (2 ^ h.command.tag)) is
+    ∙ sym (ap set_of (ap (map (λ (x : Held). x.command.tag)) items ∙ map-snoc (λ (x : Held). x.command.tag) held h) ∙ fold-snoc 0 h.command.tag (map (λ (x : Held). x.command.tag) held))

@@ -1,13 +1,13 @@
 -- Sets of numbers, as bits.
-use Rattle.std.proofs.Common.{◌≡◌, ◌≢◌, ℕ, zero, suc, ◌+◌, ◌-◌, ◌*◌, ◌/◌, ◌%◌, ◌^◌, ◌<◌, ◌≤◌, ◌==◌, Bool, true, false, ◌||◌, ◌&&◌, List, [], ◌∷◌, length, slice_index_or, slice_set, bit_or, w16, w64, arith, refl, sym, ◌∙◌, ap, subst}
-use Rattle.std.specs.Prelude.{nat_le, nat_lt, not}
-use Rattle.std.specs.Int.{bit_at, trailing_zeros}
-use Rattle.std.specs.List.{list_all, list_any, range_with_len}
+use Rattle.std.proofs.Common.{◌≡◌, ◌≢◌, ℕ, zero, suc, ◌+◌, ◌*◌, ◌/◌, ◌%◌, ◌^◌, ◌<◌, ◌≤◌, ◌==◌, Bool, true, false, ◌||◌, List, [], ◌∷◌, length, slice_index_or, slice_set, bit_or, w16, w64, arith, refl, sym, ◌∙◌, ap, subst}
+use Rattle.std.specs.Prelude.{not}
+use Rattle.std.specs.Int.{trailing_zeros}
+use Rattle.std.specs.List.{list_any, range_with_len}
 use Rattle.std.proofs.lemmas.List.{get_or-set_same, get_or-set_other}
 use Rattle.std.proofs.lemmas.Bool.Decides.{nat_tests}
 use Rattle.std.proofs.lemmas.Nat.Bits.{bit_at-trailing_zeros}
 use Rattle.cell_base.specs.Bits.{has_bit}
-use Rattle.cell_base.proofs.BitLaws.{or_true, or_false, and_false, bit-none, bit-set}
+use Rattle.cell_base.proofs.BitLaws.{or_true, or_false, bit-none, bit-set}
 use Rattle.mfc_queue.specs.Sets.{has_part}
 
 pub part-none : (k : ℕ) → has_part (0 ∷ 0 ∷ 0 ∷ []) k ≡ false
@@ -43,51 +43,6 @@ part-set words part k whole within = on (part / 64 == k / 64) refl
         let apart : k / 64 ≢ part / 64 = grind (arith, nat_tests) in
         let other : (part == k) ≡ false = grind (arith, nat_tests) in
         ap (λ w. has_bit w (k % 64)) (get_or-set_other words (part / 64) (k / 64) _ 0 apart) ∙ sym (or_false _) ∙ ap (λ b. has_bit (slice_index_or words (k / 64) 0) (k % 64) || b) (sym other)
-
--- the part of a word's bit
-part-at : (words : List ℕ) (i j : ℕ) → j < 64 → has_part words (64 * i + j) ≡ has_bit (slice_index_or words i 0) j
-unfolding has_part
-part-at words i j within =
-    let quotient : (64 * i + j) / 64 ≡ i = omega arith in
-    let rest : (64 * i + j) % 64 ≡ j = omega arith in
-    rw (quotient, rest) refl
-
--- the first part that a word hasn't, and those before it
-pub part-missing : (words : List ℕ) (i first t : ℕ) → first ≡ 64 * i → t < 64 → bit_at (slice_index_or words i 0) t ≡ 0 → has_part words (first + t) ≡ false
-unfolding has_bit
-part-missing words i first t is within clear = ap (λ n. has_part words (n + t)) is ∙ part-at words i t within ∙ ap (λ b. b == 1) clear
-
-pub parts-before : (words : List ℕ) (i first t : ℕ) → first ≡ 64 * i → t ≤ 64 → ((j : ℕ) → j < t → bit_at (slice_index_or words i 0) j ≡ 1) → ((k : ℕ) → k < first → has_part words k ≡ true)
-    → (k : ℕ) → k < first + t → has_part words k ≡ true
-unfolding has_bit
-parts-before words i first t is most ones before k below = on (nat_lt k first) refl
-  where
-    on : (b : Bool) → nat_lt k first ≡ b → has_part words k ≡ true
-    on true e = before k (grind (arith, nat_tests))
-    on false e =
-        let past : first ≤ k = grind (arith, nat_tests) in
-        let sum : 64 * i + (k - first) ≡ k = omega arith in
-        subst (λ n. has_part words n ≡ true) sum (part-at words i (k - first) (omega arith) ∙ ap (λ b. b == 1) (ones (k - first) (omega arith)))
-
-all-in : (p : ℕ → Bool) (a n : ℕ) → ((k : ℕ) → k < a + n → p k ≡ true) → list_all p (range_with_len a n) ≡ true
-all-in p a zero h = refl
-all-in p a (suc n) h = rw (h a (omega arith)) (all-in p (a + 1) n (λ k l. h k (omega arith)))
-
-one-out : (p : ℕ → Bool) (a n k : ℕ) → a ≤ k → k < a + n → p k ≡ false → list_all p (range_with_len a n) ≡ false
-one-out p a zero k low high off = absurd (omega arith)
-one-out p a (suc n) k low high off = on (a == k) refl (λ l. one-out p (a + 1) n k l (omega arith) off)
-  where
-    on : (b : Bool) → (a == k) ≡ b → (a + 1 ≤ k → list_all p (range_with_len (a + 1) n) ≡ false) → list_all p (range_with_len a (suc n)) ≡ false
-    on true e rest = let same : k ≡ a = grind (arith, nat_tests) in rw (subst (λ j. p j ≡ false) same off) refl
-    on false e rest = let apart : a ≢ k = grind (arith, nat_tests) in ap (λ b. p a && b) (rest (grind (arith, apart))) ∙ and_false (p a)
-
--- whether all below n are in the set, by the first that isn't
-pub all-below : (p : ℕ → Bool) (n first : ℕ) → n ≤ 192 → (first < 192 → p first ≡ false) → ((k : ℕ) → k < first → p k ≡ true) → nat_le n first ≡ list_all p (range_with_len 0 n)
-all-below p n first most missing before = on (nat_le n first) refl
-  where
-    on : (b : Bool) → nat_le n first ≡ b → b ≡ list_all p (range_with_len 0 n)
-    on true e = let fits : n ≤ first = grind (arith, nat_tests) in sym (all-in p 0 n (λ k l. before k (omega arith)))
-    on false e = let past : first < n = grind (arith, nat_tests) in sym (one-out p 0 n first (omega arith) (omega arith) (missing (omega arith)))
 
 -- tests of a range
 pub any-none : (p : ℕ → Bool) (a n : ℕ) → ((k : ℕ) → k < a + n → p k ≡ false) → list_any p (range_with_len a n) ≡ false

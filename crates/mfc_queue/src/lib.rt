@@ -1,14 +1,14 @@
 //! The queue of one processor's commands: sixteen places, the parts done of each command, and which may start.
 #![tactic(auto)]
 
-ghost use Rattle.std.specs.Prelude.{◌≡◌, ℕ, ◌+◌, ◌-◌, ◌<◌, ◌≤◌, ◌↔◌, List, [], ◌∷◌, ◌++◌, length, IfOk, OnOk, OnErr, IsOk, IfSome, IfNone, Some, slice_get, slice_index_or, slice_set, find, nat_le, ◌==◌, ◌&&◌, ◌||◌, not, false, filter, map, is_some};
+ghost use Rattle.std.specs.Prelude.{◌≡◌, ℕ, ◌+◌, ◌-◌, ◌<◌, ◌≤◌, ◌↔◌, List, [], ◌∷◌, ◌++◌, length, IfOk, OnOk, OnErr, IsOk, IfSome, IfNone, Some, slice_get, slice_index_or, slice_set, find, nat_le, nat_lt, ◌==◌, ◌&&◌, ◌||◌, not, false, filter, map, is_some};
 ghost use Rattle.std.specs.List.{list_any, range_with_len};
 ghost use Rattle.std.specs.Option.{option_and_then, option_map};
 ghost use Rattle.mfc_command.specs.Order.{precedes};
 ghost use Rattle.mfc_queue.specs.Places.{ArePlaces};
 ghost use Rattle.mfc_queue.specs.At.{IsAt};
 ghost use Rattle.cell_base.specs.Bits.{has_bit};
-ghost use Rattle.mfc_queue.specs.Sets.{has_part};
+ghost use Rattle.mfc_queue.specs.Sets.{has_part, set_of};
 ghost use Rattle.mfc_queue.specs.Calls.{Call, Issue, SetParts, Mark, Retire, issued, is_outstanding, outstanding, parts, is_marked, left, all_marked, may_begin, busy, has_outstanding};
 
 mod part_set;
@@ -62,28 +62,29 @@ impl Default for Held {
 }
 
 impl Held {
-    /// The same with the part done.
-    fn marked(&self, part: u32) -> Held
-        requires { part < self.now.parts }
-        ensures cmd { result.cmd ≡ self.now.cmd }
-        ensures place { result.place ≡ self.now.place }
-        ensures command { result.command ≡ self.now.command }
-        ensures parts { result.parts ≡ self.now.parts }
-        ensures done { (k : ℕ) → has_part result.done.words k ≡ (has_part self.now.done.words k || part == k) }
+    /// Whether the part is one of its own, and isn't done.
+    fn has_left(&self, part: u32) -> bool
+        ensures { result ≡ (nat_lt part self.now.parts && not (has_part self.now.done.words part)) }
+    {
+        part < self.parts && !self.done.has(part)
+    }
+
+    /// Marks the part as done, and answers whether all are done now.
+    fn mark(&mut self, part: u32) -> bool
+        requires { part < self.old.parts }
+        ensures cmd { self.new.cmd ≡ self.old.cmd }
+        ensures place { self.new.place ≡ self.old.place }
+        ensures command { self.new.command ≡ self.old.command }
+        ensures parts { self.new.parts ≡ self.old.parts }
+        ensures done { (k : ℕ) → has_part self.new.done.words k ≡ (has_part self.old.done.words k || part == k) }
+        ensures all { result ≡ (self.new.left == 0) }
     {
         if self.done.has(part) {
-            return *self;
+            return self.left == 0;
         }
-        let mut done = self.done;
-        done.insert(part);
-        Held {
-            cmd: self.cmd,
-            place: self.place,
-            command: self.command,
-            parts: self.parts,
-            done,
-            left: self.left - 1,
-        }
+        self.done.insert(part);
+        self.left -= 1;
+        self.left == 0
     }
 }
 
@@ -99,7 +100,8 @@ pub struct Waiting {
     pub left: u32,
 }
 
-/// The outstanding commands in the order of their numbers, the places that none of them has, and how many commands were issued.
+/// The outstanding commands in the order of their numbers, the places that none of them has, how many commands were issued, and the tag
+/// groups with a command outstanding.
 ///
 /// For a command at place p, `before[p]` has the places of the earlier outstanding commands that go before it.
 #[derive(Drop)]
@@ -108,8 +110,10 @@ pub struct Queue {
     held: ArrayVec<Held, 16>,
     vacant: ArrayVec<u8, 16>,
     before: [PlaceSet; 16],
+    busy: u32,
     ghost places: { ArePlaces (map (λ h. h.place) held.items) vacant.items },
     ghost sets: { length before ≡ 16 },
+    ghost groups: { busy ≡ set_of (map (λ h. h.command.tag) held.items) },
 }
 
 impl Queue {
@@ -125,6 +129,7 @@ impl Queue {
             held: ArrayVec::new(),
             vacant: ArrayVec::from_array_in((), vacant),
             before: [PlaceSet::new(); PLACES],
+            busy: 0,
         }
     }
 
@@ -141,6 +146,7 @@ impl Queue {
             held,
             vacant,
             before: self.before,
+            busy: self.busy,
         }
     }
 
@@ -177,6 +183,7 @@ impl Queue {
         self.before[usize::from(place)] = before;
         let cmd = self.issued;
         self.issued = cmd + 1;
+        self.busy |= 1 << c.tag;
         self.held.push(Held {
             cmd,
             place,
@@ -210,8 +217,28 @@ impl Queue {
         &self.held[i]
     }
 
-    /// Where the command is held.
+    /// How far a command is behind the first one by its number. There it is held, where none between them was retired.
+    fn distance(&self, cmd: u32) -> usize {
+        if self.held.is_empty() {
+            return 0;
+        }
+        cmd.saturating_sub(self.held_at(0).cmd) as usize
+    }
+
+    /// Where the command is held. Mostly that is found at once.
     fn index_of(&self, cmd: u32) -> Option<usize>
+        ensures found { IfSome result (λ i. (i < length self.now.held.items) × ((d : _) → (slice_index_or self.now.held.items i d).cmd ≡ cmd)) }
+        ensures none { IfNone result (list_any (λ n. n == cmd) (map (λ h. h.cmd) self.now.held.items) ≡ false) }
+    {
+        let i = self.distance(cmd);
+        if i < self.held.len() && self.held_at(i).cmd == cmd {
+            return Some(i);
+        }
+        self.search(cmd)
+    }
+
+    /// Where the command is held.
+    fn search(&self, cmd: u32) -> Option<usize>
         ensures found { IfSome result (λ i. (i < length self.now.held.items) × ((d : _) → (slice_index_or self.now.held.items i d).cmd ≡ cmd)) }
         ensures none { IfNone result (list_any (λ n. n == cmd) (map (λ h. h.cmd) self.now.held.items) ≡ false) }
         ensures first { option_and_then (λ i. slice_get self.now.held.items i) result ≡ find (λ h. h.cmd == cmd) self.now.held.items }
@@ -262,6 +289,18 @@ impl Queue {
         }
     }
 
+    /// The same, and whether the command has the part left, which is one of its parts that wasn't marked since its latest `set_parts`.
+    pub fn look_part(&self, cmd: u32, part: u32) -> Option<(Waiting, bool)>
+        ensures outstanding { (calls : List Call) → StandsFor self.now calls → is_some result ≡ is_outstanding calls cmd }
+        ensures seen { IfSome result (λ x. IsSeen self.now cmd x.0) }
+        ensures left { (calls : List Call) → StandsFor self.now calls → IfSome result (λ x. x.1 ≡ (nat_lt part (parts calls cmd) && not (is_marked calls cmd part))) }
+    {
+        match self.index_of(cmd) {
+            Some(i) => Some((self.seen_at(i), self.held_at(i).has_left(part))),
+            None => None,
+        }
+    }
+
     /// The place of a command, below 16, or None exactly where the command isn't outstanding.
     ///
     /// A command keeps its place until it is retired, and no other outstanding command has it.
@@ -271,7 +310,7 @@ impl Queue {
         ensures small { IfSome result (λ p. p < 16) }
         ensures own { IfSome result (λ p. (other : ℕ) → place_in self.now other ≡ Some p → other ≡ cmd) }
     {
-        match self.index_of(cmd) {
+        match self.search(cmd) {
             Some(i) => Some(u32::from(self.held_at(i).place)),
             None => None,
         }
@@ -348,21 +387,6 @@ impl Queue {
         }
     }
 
-    /// Marks the part as done.
-    fn set_done(&mut self, cmd: u32, part: u32)
-        requires { HasPart self.old cmd part }
-        ensures stands { (calls : List Call) → StandsFor self.old calls → StandsFor self.new (calls ++ Mark cmd part ∷ []) }
-        ensures places { KeepsPlaces self.old self.new }
-    {
-        match self.index_of(cmd) {
-            Some(i) => {
-                let h = self.held_at(i).marked(part);
-                put(&mut self.held, i, h);
-            }
-            None => unreachable!(),
-        }
-    }
-
     /// How many parts an outstanding command has.
     pub fn parts(&self, cmd: u32) -> u32
         requires { IsOneOf self.now cmd }
@@ -390,20 +414,6 @@ impl Queue {
         }
     }
 
-    /// Whether all parts of a command are done.
-    fn all_done(&self, cmd: u32) -> bool
-        requires { IsOneOf self.now cmd }
-        ensures { (calls : List Call) → StandsFor self.now calls → result ≡ all_marked calls cmd }
-    {
-        match self.index_of(cmd) {
-            Some(i) => {
-                let h = self.held_at(i);
-                h.done.has_all_below(h.parts)
-            }
-            None => unreachable!(),
-        }
-    }
-
     /// Marks the part, which is below the command's number of parts, as done, and answers whether all are done now.
     pub fn mark(&mut self, cmd: u32, part: u32) -> bool
         requires { HasPart self.old cmd part }
@@ -411,8 +421,15 @@ impl Queue {
         ensures places { KeepsPlaces self.old self.new }
         ensures all { (calls : List Call) → StandsFor self.old calls → result ≡ all_marked (calls ++ Mark cmd part ∷ []) cmd }
     {
-        self.set_done(cmd, part);
-        self.all_done(cmd)
+        match self.index_of(cmd) {
+            Some(i) => {
+                let mut h = *self.held_at(i);
+                let all = h.mark(part);
+                put(&mut self.held, i, h);
+                all
+            }
+            None => unreachable!(),
+        }
     }
 
     /// Whether all parts of a command would be done with this one, which is below the command's number of parts.
@@ -422,8 +439,8 @@ impl Queue {
     {
         match self.index_of(cmd) {
             Some(i) => {
-                let h = self.held_at(i).marked(part);
-                h.left == 0
+                let mut h = *self.held_at(i);
+                h.mark(part)
             }
             None => unreachable!(),
         }
@@ -439,6 +456,7 @@ impl Queue {
             Some(i) => {
                 let h = self.held.remove(i);
                 self.vacant.push(h.place);
+                self.busy = groups_of(&self.held);
                 remove_from_all(&mut self.before, h.place);
             }
             None => unreachable!(),
@@ -464,12 +482,7 @@ impl Queue {
         ensures bits { (calls : List Call) → StandsFor self.now calls → result ≡ busy calls }
         ensures groups { (calls : List Call) (tag : ℕ) → StandsFor self.now calls → has_bit result tag ≡ has_outstanding calls tag }
     {
-        let mut bits = 0;
-        for i in 0..self.held.len() {
-            let tag = self.held_at(i).command.tag;
-            bits |= 1 << tag;
-        }
-        bits
+        self.busy
     }
 
     /// The tag groups that are busy once an outstanding command is retired.
@@ -494,6 +507,18 @@ fn put(held: &mut ArrayVec<Held, 16>, i: usize, h: Held)
     ensures { held.new.items ≡ slice_set held.old.items i h }
 {
     held[i] = h;
+}
+
+/// The tag groups of what is held, as bits.
+fn groups_of(held: &ArrayVec<Held, 16>) -> u32
+    ensures { result ≡ set_of (map (λ h. h.command.tag) held.now.items) }
+{
+    let mut bits = 0;
+    for i in 0..held.len() {
+        let tag = held[i].command.tag;
+        bits |= 1 << tag;
+    }
+    bits
 }
 
 /// Takes the place out of all sets.

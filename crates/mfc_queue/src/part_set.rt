@@ -42,30 +42,6 @@ impl PartSet {
         self.words[(part / WORD_BITS) as usize] |= 1 << (part % WORD_BITS);
     }
 
-    /// The least part that isn't in the set, or 192 where all are.
-    fn first_missing(&self) -> u32
-        ensures missing { result < 192 → has_part self.now.words result ≡ false }
-        ensures before { (k : ℕ) → k < result → has_part self.now.words k ≡ true }
-    {
-        let mut first = 0;
-        for i in 0..WORDS {
-            let word = self.words[i];
-            if word != u64::MAX {
-                return first + word.trailing_ones();
-            }
-            first += WORD_BITS;
-        }
-        first
-    }
-
-    /// Whether all parts below n, which is at most 192, are in the set.
-    pub(crate) fn has_all_below(&self, n: u32) -> bool
-        requires { n ≤ 192 }
-        ensures { result ≡ list_all (has_part self.now.words) (range_with_len 0 n) }
-    {
-        n <= self.first_missing()
-    }
-
     /// The part at place `n` of those below `below` that aren't in the set, or how far `n` is behind the last one.
     pub(crate) fn missing_at(&self, below: u32, n: u64) -> Result<u32, u64>
         requires { below ≤ 192 }

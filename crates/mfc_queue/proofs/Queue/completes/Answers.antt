@@ -9,6 +9,7 @@ unreachable-requires c = held-none _ c.args.cmd (one_of _ _ _ c.requires) c.in-N
 
 pub returns : goal.returns
 returns c = λ calls stands.
-    let h = c.marked-h.result in
-    none-missing (has_part h.done.words) h.parts h.left h.counted
-    ∙ marked-all _ calls c.args.cmd c.args.part c.in-Some.i c.held_at.result.now h stands c.in-Some.ensures.found.0 c.held_at.ensures c.in-Some.ensures.found.1 c.marked-h.ensures.parts c.marked-h.ensures.done h.few
+    let h = c.mark.new.self in
+    c.mark.ensures.all
+    ∙ none-missing (has_part h.done.words) h.parts h.left h.counted
+    ∙ marked-all _ calls c.args.cmd c.args.part c.in-Some.i c.held_at.result.now h stands c.in-Some.ensures.found.0 c.held_at.ensures c.in-Some.ensures.found.1 c.mark.ensures.parts c.mark.ensures.done h.few

@@ -3,7 +3,7 @@ use Rattle.std.proofs.lemmas.List.{length-set}
 use Rattle.std.specs.Prelude.{find, ◌==◌}
 use Rattle.std.specs.Option.{option_map}
 use Rattle.mfc_queue.specs.declared.Held.{Held}
-use Rattle.mfc_queue.proofs.Holding.{stands-issue}
+use Rattle.mfc_queue.proofs.Holding.{stands-issue, groups-issued}
 use Rattle.mfc_queue.proofs.PlaceLemmas.{places-issued, append-found, not-taken, room}
 use Rattle.mfc_queue.proofs.Before.{issued-before}
 use Rattle.mfc_queue.proofs.Queue.issue.Goals as goal
@@ -19,7 +19,7 @@ returns-clause-issued c = λ calls stands.
     (ap (λ p. slice_set c.args.self.now.before p c.places_before-before.result) c.from.ensures))
 
 pub invariant_of-self-2 : goal.invariant_of-self-2
-invariant_of-self-2 c = record { places = places-issued _ _ _ _ _ c.args.self.now.places c.push.ensures.items c.in-Some.ensures.items; sets = length-set c.args.self.now.before c.from.result c.places_before-before.result ∙ c.args.self.now.sets }
+invariant_of-self-2 c = record { places = places-issued _ _ _ _ _ c.args.self.now.places c.push.ensures.items c.in-Some.ensures.items; sets = length-set c.args.self.now.before c.from.result c.places_before-before.result ∙ c.args.self.now.sets; groups = groups-issued _ _ _ c.args.c.tag _ c.args.self.now.groups c.push.ensures.items refl c.requires.tag }
 
 pub returns-clause-places : goal.returns-clause-places
 returns-clause-places c = λ other differs.

@@ -10,7 +10,7 @@ pub returns-in-Some-clause-small : goal.returns-in-Some-clause-small
 returns-in-Some-clause-small c = subst (λ p. p < 16) (sym c.from.ensures) (place-small _ _ c.in-Some.i c.held_at.result.now c.args.self.now.places c.in-Some.ensures.found.0 c.held_at.ensures)
 
 pub returns-in-Some-clause-outstanding : goal.returns-in-Some-clause-outstanding
-returns-in-Some-clause-outstanding c = λ calls stands. sym (ap is_some c.in-Some.is) ∙ held-is _ calls c.args.cmd c.index_of.result stands c.index_of.ensures.found c.index_of.ensures.none
+returns-in-Some-clause-outstanding c = λ calls stands. sym (ap is_some c.in-Some.is) ∙ held-is _ calls c.args.cmd c.search.result stands c.search.ensures.found c.search.ensures.none
 
 pub returns-in-Some-clause-place : goal.returns-in-Some-clause-place
 returns-in-Some-clause-place c =
@@ -24,4 +24,4 @@ returns-in-Some-clause-own c = λ other is.
     (is ∙ ap Some c.from.ensures)
 
 pub returns-in-None-clause-outstanding : goal.returns-in-None-clause-outstanding
-returns-in-None-clause-outstanding c = λ calls stands. sym (ap is_some c.in-None.is) ∙ held-is _ calls c.args.cmd c.index_of.result stands c.index_of.ensures.found c.index_of.ensures.none
+returns-in-None-clause-outstanding c = λ calls stands. sym (ap is_some c.in-None.is) ∙ held-is _ calls c.args.cmd c.search.result stands c.search.ensures.found c.search.ensures.none

@@ -28,6 +28,7 @@ invariant_of-self c = record {
   places = subst (λ xs. ArePlaces (map (λ (h : Held). h.place) xs) c.push.new.self.items) (sym c.remove-h.ensures.items)
       (places-left _ _ _ c.in-Some.i c.remove-h.result c.args.self.now.places c.in-Some.ensures.found.0 c.remove-h.ensures.value c.push.ensures.items);
   sets = c.remove_from_all.ensures.many;
+  groups = c.groups_of-self.ensures;
 }
 
 pub returns-clause-places : goal.returns-clause-places

@@ -1,6 +1,6 @@
 use Rattle.std.proofs.Common.{refl, sym, ◌∙◌, ap}
 use Rattle.mfc_queue.specs.declared.Held.{Held}
-use Rattle.mfc_queue.proofs.Holding.{held-none, stands-parts}
+use Rattle.mfc_queue.proofs.Holding.{held-none, stands-parts, groups-set}
 use Rattle.mfc_queue.specs.Sets.{has_part}
 use Rattle.mfc_queue.proofs.Counting.{count-none}
 use Rattle.mfc_queue.proofs.PlaceLemmas.{places-rewritten, found-rewritten}
@@ -15,7 +15,7 @@ returns-clause-stands c = λ calls stands.
     c.in-Some.ensures.found.0 c.in-Some.ensures.found.1 c.held_at-h.ensures refl refl refl c.new.ensures refl refl
 
 pub invariant_of-self : goal.invariant_of-self
-invariant_of-self c = record { places = places-rewritten _ _ _ c.in-Some.i c.held_at-h.result.now _ c.args.self.now.places c.in-Some.ensures.found.0 c.held_at-h.ensures refl c.put.ensures; sets = c.args.self.now.sets }
+invariant_of-self c = record { places = places-rewritten _ _ _ c.in-Some.i c.held_at-h.result.now _ c.args.self.now.places c.in-Some.ensures.found.0 c.held_at-h.ensures refl c.put.ensures; sets = c.args.self.now.sets; groups = groups-set _ _ _ c.in-Some.i c.held_at-h.result.now _ c.args.self.now.groups c.put.ensures c.held_at-h.ensures refl }
 
 pub returns-clause-places : goal.returns-clause-places
 returns-clause-places c = λ other.

@@ -2,7 +2,7 @@ use Rattle.std.proofs.Common.{◌≡◌, ◌==◌, true, sym, ◌∙◌, arith}
 use Rattle.std.proofs.lemmas.Bool.Decides.{nat_tests}
 use Rattle.mfc_queue.specs.declared.Held.{Held}
 use Rattle.mfc_queue.proofs.Walks.{find-found, held-on, get-at}
-use Rattle.mfc_queue.proofs.Queue.index_of.Goals as goal
+use Rattle.mfc_queue.proofs.Queue.search.Goals as goal
 
 pub returns-then-h-cmd-clause-first : goal.returns-then-h-cmd-clause-first
 returns-then-h-cmd-clause-first c =

@@ -2,7 +2,7 @@ use Rattle.std.proofs.Common.{◌≡◌, ◌==◌, map, drop}
 use Rattle.std.specs.Prelude.{find}
 use Rattle.std.specs.List.{list_any}
 use Rattle.mfc_queue.proofs.Walks.{numbers_from}
-use Rattle.mfc_queue.proofs.Queue.index_of.Given as goal
+use Rattle.mfc_queue.proofs.Queue.search.Given as goal
 
 abbrev pub invariant-loop-i : goal.invariant-loop-i
 invariant-loop-i l = record {
