@@ -19,6 +19,7 @@ use Rattle.std.proofs.Math.Seq.{map-set_same}
 use Rattle.std.proofs.Math.ListN.{get_or-map, length-map}
 use Rattle.mfc_command.specs.Order.{with_group, may_start, busy_groups, precedes}
 use Rattle.mfc_queue.proofs.AtLemmas.{pass-agree}
+use Rattle.mfc_queue.proofs.PlaceLemmas.{own-other}
 use Rattle.mfc_queue.proofs.CallLaws.{issued-more, retired-more, parts-more, marked-more}
 
 -- a number of a range that passes the test is among those that do
@@ -90,6 +91,14 @@ no-place q calls cmd stands closed = ap (option_map (λ (h : Held). h.place)) (n
             → cond b (Some x) (find (λ (h : Held). h.cmd == cmd) xs) ≡ None
         on true g k = absurd (true≢false g)
         on false g k = k g
+
+-- no two commands have one place
+pub places-own : (q : Queue) (cmd other place : ℕ) → place_in q cmd ≡ Some place → place_in q other ≡ Some place → other ≡ cmd
+places-own q cmd other place at also = on (find (λ (h : Held). h.cmd == cmd) q.held.items) refl at
+  where
+    on : (o : Option Held) → find (λ (h : Held). h.cmd == cmd) q.held.items ≡ o → option_map (λ (h : Held). h.place) o ≡ Some place → other ≡ cmd
+    on None e h = cc
+    on (Some g) e h = own-other q.held.items q.vacant.items cmd other g q.places e (also ∙ sym h)
 
 pub any-at : (held : List Held) (i cmd : ℕ) → i < length held → ((d : Held) → (slice_index_or held i d).cmd ≡ cmd) → list_any (λ n. n == cmd) (map (λ h. h.cmd) held) ≡ true
 any-at [] i cmd within at = absurd (omega arith)

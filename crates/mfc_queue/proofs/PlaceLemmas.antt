@@ -6,8 +6,6 @@ use Rattle.std.specs.Option.{option_map}
 use Rattle.std.proofs.lemmas.Bool.Decides.{nat_tests}
 use Rattle.std.proofs.Math.Seq.{map-set_same}
 use Rattle.mfc_queue.specs.declared.Held.{Held}
-use Rattle.mfc_queue.specs.declared.Queue.{Queue}
-use Rattle.mfc_queue.specs.Stands.{place_in}
 use Rattle.mfc_queue.proofs.Walks.{get-at}
 use Rattle.mfc_queue.specs.Places.{one_if, times, ArePlaces}
 
@@ -187,13 +185,6 @@ own-other held vacant cmd other h are found is = on (find (λ x. x.cmd == other)
     on : (o : Option Held) → find (λ x. x.cmd == other) held ≡ o → option_map (λ x. x.place) o ≡ Some h.place → other ≡ cmd
     on None e p = cc
     on (Some g) e p = own-place held other cmd g h (at-most-once held vacant are) e found (is-found g.place h.place p)
-
-pub places-own : (q : Queue) (cmd other place : ℕ) → place_in q cmd ≡ Some place → place_in q other ≡ Some place → other ≡ cmd
-places-own q cmd other place at also = on (find (λ h. h.cmd == cmd) q.held.items) refl at
-  where
-    on : (o : Option Held) → find (λ h. h.cmd == cmd) q.held.items ≡ o → option_map (λ h. h.place) o ≡ Some place → other ≡ cmd
-    on None e h = cc
-    on (Some g) e h = own-other q.held.items q.vacant.items cmd other g q.places e (also ∙ sym h)
 
 -- where a command is found after a change
 pub set-found : (xs : List Held) (i : ℕ) (h : Held) (cmd : ℕ) → i < length xs → ((d : Held) → (slice_index_or xs i d).cmd ≡ h.cmd) → ((d : Held) → (slice_index_or xs i d).place ≡ h.place)
