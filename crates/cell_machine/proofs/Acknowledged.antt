@@ -6,9 +6,9 @@ use Rattle.std.proofs.lemmas.Bool.Decides.{nat_tests}
 use Rattle.std.proofs.lemmas.List.Elements.{filter_map-append}
 use Rattle.mfc_command.specs.declared.command.Command.{Command}
 use Rattle.mfc_command.specs.Order.{is_list, outstanding as outstanding_of}
-use Rattle.mfc_lists.specs.declared.ListState.{ListState}
 use Rattle.mfc_queue.specs.declared.Queue.{Queue}
 use Rattle.mfc_queue.specs.Calls.{is_retired, outstanding as outstanding_calls}
+use Rattle.cell_machine.specs.declared.progress.Progress.{Progress}
 use Rattle.cell_machine.specs.Spe.{Moves, Stall}
 use Rattle.cell_machine.specs.Moves.{elements_in, elements_of, is_moved, is_finished, is_stalled, stall_of, stall_of_tag, stalls_of_tag, is_complete, is_at_rest, are_all_there}
 use Rattle.cell_machine.specs.Channels.{with_resumed}
@@ -22,10 +22,10 @@ use Rattle.cell_machine.proofs.CommandsShown.{others-stay, plain-unstalled}
 
 -- ---- one command
 
-pub resume-none : (q : Queue) (lists : List (Option ListState)) (m : Moves) (tag c : ℕ) → ShowsQueue q lists m → stall_of_tag m tag c ≡ None → ShowsQueue q lists (with_resumed m (filter_map (stall_of_tag m tag) (c ∷ [])))
-resume-none q lists m tag c shows none =
+pub resume-none : (q : Queue) (kept : List Progress) (m : Moves) (tag c : ℕ) → ShowsQueue q kept m → stall_of_tag m tag c ≡ None → ShowsQueue q kept (with_resumed m (filter_map (stall_of_tag m tag) (c ∷ [])))
+resume-none q kept m tag c shows none =
     let same : m.resumed ≡ m.resumed ++ filter_map (stall_of_tag m tag) (c ∷ []) = sym (ap (λ o. m.resumed ++ cons_option o []) none ∙ append-nil m.resumed) in
-    subst (λ xs. ShowsQueue q lists (record m { resumed = xs })) same shows
+    subst (λ xs. ShowsQueue q kept (record m { resumed = xs })) same shows
 
 pub stall-none : (m : Moves) (tag c : ℕ) (d : Command) → slice_get m.issued c ≡ Some d → ((d.tag == tag) ≡ false) ⊎ (is_stalled m c d ≡ false) → stall_of_tag m tag c ≡ None
 stall-none m tag c d at (inl off) = rw at (rw off refl)
@@ -43,16 +43,16 @@ stall-some m tag c d at same stalled = on (stall_of m c d) refl stalled
     on None e h = absurd (true≢false (sym h))
     on (Some s) e h = (s, e, rw at (rw (same, e) refl))
 
-pub resume-one : (q : Queue) (lists : List (Option ListState)) (m : Moves) (c : ℕ) (d : Command) (s : Stall) (shows : ShowsQueue q lists m) → slice_get m.issued c ≡ Some d → stall_of m c d ≡ Some s
-    → ShowsQueueBut q lists (with_resumed m (s ∷ [])) c
-resume-one q lists m c d s shows at stalls =
+pub resume-one : (q : Queue) (kept : List Progress) (m : Moves) (c : ℕ) (d : Command) (s : Stall) (shows : ShowsQueue q kept m) → slice_get m.issued c ≡ Some d → stall_of m c d ≡ Some s
+    → ShowsQueueBut q kept (with_resumed m (s ∷ [])) c
+resume-one q kept m c d s shows at stalls =
     let own : s.cmd ≡ c = (stall-is m c d s stalls).cmd in
     record {
       calls = shows.calls;
       stands = shows.stands;
       moves = others-resume shows.calls m c d s shows.moves at stalls;
-      kept = others-stay q q lists m (with_resumed m (s ∷ [])) c shows.kept (λ o differs. refl)
-          (λ o x differs at_o list. (at_o, resumed-other m (s ∷ []) o x (let off : (s.cmd == o) ≡ false = eq_off s.cmd o (λ e. differs (sym e ∙ own)) in rw off refl)));
+      kept = others-stay q q kept m (with_resumed m (s ∷ [])) c shows.kept (λ o differs. refl)
+          (λ o x differs at_o. (at_o, λ list. resumed-other m (s ∷ []) o x (let off : (s.cmd == o) ≡ false = eq_off s.cmd o (λ e. differs (sym e ∙ own)) in rw off refl)));
     }
 
 -- a stalled list has a size: an element was read of it
@@ -181,38 +181,38 @@ tag-other m tag k c low = on (slice_get m.issued c)
     on None = refl
     on (Some d) = ap (λ s. if d.tag == tag then s else None) (stall-other m (filter_map (stall_of_tag m tag) (range_with_len 0 k)) c d (stalls-lower m tag k c low))
 
-skipped : (m : Moves) (tag k c : ℕ) (q : Queue) (lists : List (Option ListState)) → ShowsQueue q lists (acknowledged_below m tag k) → k ≤ c → not (is_complete (acknowledged_below m tag k) c) ≡ false → stall_of_tag m tag c ≡ None
-skipped m tag k c q lists shows low off =
+skipped : (m : Moves) (tag k c : ℕ) (q : Queue) (kept : List Progress) → ShowsQueue q kept (acknowledged_below m tag k) → k ≤ c → not (is_complete (acknowledged_below m tag k) c) ≡ false → stall_of_tag m tag c ≡ None
+skipped m tag k c q kept shows low off =
     sym (tag-other m tag k c low)
     ∙ complete-no_stall (acknowledged_below m tag k) tag c (λ d at. shows.moves.done.elements c d at) (complete_or (is_complete (acknowledged_below m tag k) c) _ (λ h. h) (λ h. absurd (true≢false (sym (ap not h) ∙ off))))
 
-pub ack-none : (q : Queue) (lists : List (Option ListState)) (m : Moves) (tag : ℕ) → ShowsQueue q lists m → ShowsQueue q lists (acknowledged_below m tag 0)
-ack-none q lists m tag shows = subst (λ xs. ShowsQueue q lists (record m { resumed = xs })) (sym (append-nil m.resumed)) shows
+pub ack-none : (q : Queue) (kept : List Progress) (m : Moves) (tag : ℕ) → ShowsQueue q kept m → ShowsQueue q kept (acknowledged_below m tag 0)
+ack-none q kept m tag shows = subst (λ xs. ShowsQueue q kept (record m { resumed = xs })) (sym (append-nil m.resumed)) shows
 
 -- the next outstanding command
-pub ack-next : (q q2 : Queue) (lists lists2 : List (Option ListState)) (m : Moves) (tag k c : ℕ) (shows : ShowsQueue q lists (acknowledged_below m tag k)) → find (nat_le k) (outstanding_calls shows.calls) ≡ Some c → k ≤ c
-    → ShowsQueue q2 lists2 (with_resumed (acknowledged_below m tag k) (filter_map (stall_of_tag (acknowledged_below m tag k) tag) (c ∷ []))) → ShowsQueue q2 lists2 (acknowledged_below m tag (c + 1))
+pub ack-next : (q q2 : Queue) (kept kept2 : List Progress) (m : Moves) (tag k c : ℕ) (shows : ShowsQueue q kept (acknowledged_below m tag k)) → find (nat_le k) (outstanding_calls shows.calls) ≡ Some c → k ≤ c
+    → ShowsQueue q2 kept2 (with_resumed (acknowledged_below m tag k) (filter_map (stall_of_tag (acknowledged_below m tag k) tag) (c ∷ []))) → ShowsQueue q2 kept2 (acknowledged_below m tag (c + 1))
 unfolding outstanding_of
-ack-next q q2 lists lists2 m tag k c shows found low after =
+ack-next q q2 kept kept2 m tag k c shows found low after =
     let f : find (nat_le k) (outstanding_of (is_complete (acknowledged_below m tag k)) m.issued) ≡ Some c =
     ap (λ g. find (nat_le k) (outstanding_of g m.issued)) (sym shows.moves.complete) ∙ ap (λ cs. find (nat_le k) (outstanding_of (is_retired shows.calls) cs)) (sym shows.moves.done.issued) ∙ found in
-    let more = stalls-more (stall_of_tag m tag) k c low (λ j l less. skipped m tag k j q lists shows l (find-skips (λ i. not (is_complete (acknowledged_below m tag k) i)) k 0 (length m.issued) c j f (omega arith) l less)) in
+    let more = stalls-more (stall_of_tag m tag) k c low (λ j l less. skipped m tag k j q kept shows l (find-skips (λ i. not (is_complete (acknowledged_below m tag k) i)) k 0 (length m.issued) c j f (omega arith) l less)) in
     let own : filter_map (stall_of_tag (acknowledged_below m tag k) tag) (c ∷ []) ≡ filter_map (stall_of_tag m tag) (c ∷ []) = ap (λ o. cons_option o []) (tag-other m tag k c low) in
     let all : (m.resumed ++ filter_map (stall_of_tag m tag) (range_with_len 0 k)) ++ filter_map (stall_of_tag (acknowledged_below m tag k) tag) (c ∷ []) ≡ m.resumed ++ filter_map (stall_of_tag m tag) (range_with_len 0 (c + 1)) =
     ap (λ xs. (m.resumed ++ filter_map (stall_of_tag m tag) (range_with_len 0 k)) ++ xs) own ∙ append_assoc m.resumed (filter_map (stall_of_tag m tag) (range_with_len 0 k)) (filter_map (stall_of_tag m tag) (c ∷ [])) ∙ ap (λ xs. m.resumed ++ xs) (sym more) in
-    subst (λ xs. ShowsQueue q2 lists2 (record m { resumed = xs })) all after
+    subst (λ xs. ShowsQueue q2 kept2 (record m { resumed = xs })) all after
 
 -- no outstanding command is left
-pub ack-end : (q : Queue) (lists : List (Option ListState)) (m : Moves) (tag k : ℕ) (shows : ShowsQueue q lists (acknowledged_below m tag k)) → find (nat_le k) (outstanding_calls shows.calls) ≡ None
-    → ShowsQueue q lists (with_resumed m (stalls_of_tag m tag))
+pub ack-end : (q : Queue) (kept : List Progress) (m : Moves) (tag k : ℕ) (shows : ShowsQueue q kept (acknowledged_below m tag k)) → find (nat_le k) (outstanding_calls shows.calls) ≡ None
+    → ShowsQueue q kept (with_resumed m (stalls_of_tag m tag))
 unfolding outstanding_of stalls_of_tag
-ack-end q lists m tag k shows found =
+ack-end q kept m tag k shows found =
     let f : find (nat_le k) (outstanding_of (is_complete (acknowledged_below m tag k)) m.issued) ≡ None =
     ap (λ g. find (nat_le k) (outstanding_of g m.issued)) (sym shows.moves.complete) ∙ ap (λ cs. find (nat_le k) (outstanding_of (is_retired shows.calls) cs)) (sym shows.moves.done.issued) ∙ found in
-    subst (λ xs. ShowsQueue q lists (with_resumed m xs))
+    subst (λ xs. ShowsQueue q kept (with_resumed m xs))
     (same-below (stall_of_tag m tag) 0 k (length m.issued)
     (λ c low. complete_or (nat_lt c (length m.issued)) (stall_of_tag m tag c ≡ None)
-    (λ l. skipped m tag k c q lists shows (omega arith) (find-none (λ i. not (is_complete (acknowledged_below m tag k) i)) k 0 (length m.issued) c f (omega arith) (let less = below c (length m.issued) l in omega arith) (omega arith)))
+    (λ l. skipped m tag k c q kept shows (omega arith) (find-none (λ i. not (is_complete (acknowledged_below m tag k) i)) k 0 (length m.issued) c f (omega arith) (let less = below c (length m.issued) l in omega arith) (omega arith)))
     (λ l. past c (grind (arith, nat_tests))))
     (λ c low. past c (omega arith))) shows
   where

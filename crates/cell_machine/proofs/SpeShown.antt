@@ -17,12 +17,12 @@ use Rattle.mfc_lists.specs.Readings.{StandsFor as StandsForReading}
 use Rattle.mfc_queue.specs.declared.Queue.{Queue}
 use Rattle.mfc_queue.specs.Calls.{Call, issued, is_retired, is_outstanding, outstanding as outstanding_calls, parts, is_marked, may_begin as may_begin_calls, busy as busy_calls}
 use Rattle.mfc_queue.specs.Stands.{StandsFor, place_in}
+use Rattle.cell_machine.specs.declared.progress.Progress.{Progress}
 use Rattle.cell_machine.specs.Spe.{Spe, Moves}
 use Rattle.cell_machine.specs.Moves.{read_of, elements_in, elements_of, are_all_there, present, parts_in, whole, is_done, is_finished, is_moved, is_at_rest, was_retired, is_complete, is_complete_as, may_begin, outstanding, busy}
 use Rattle.cell_machine.specs.Transfers.{begins, is_part_left, has_part, has_element, is_left}
 use Rattle.cell_machine.specs.Channels.{read_status}
-use Rattle.cell_machine.specs.MovesShown.{ShowsMoves, ShowsLists, AreElements, parts_now, reading}
-use Rattle.cell_machine.specs.Shows.{IsListOf}
+use Rattle.cell_machine.specs.MovesShown.{ShowsMoves, ShowsProgress, IsProgressOf, IsListOf, AreElements, parts_now, reading}
 use Rattle.cell_machine.proofs.MovesShown.{get-within, eq_is, eq_off}
 
 pub first_of_both : (a b : Bool) → (a && b) ≡ true → a ≡ true
@@ -226,12 +226,11 @@ get-index [] i d x h = absurd (cc)
 get-index (y ∷ xs) zero d x h = cc
 get-index (y ∷ xs) (suc i) d x h = get-index xs i d x h
 
-pub list-there : (q : Queue) (lists : List (Option ListState)) (m : Moves) (c place : ℕ) (d : Command) (o : Option ListState) → ShowsLists q lists m → slice_get m.issued c ≡ Some d → is_list d.kind ≡ true
-    → place_in q c ≡ Some place → IsListOf (slice_index_or lists place o) m c d
-list-there q lists m c place d o shows at list placed =
-    let s = shows c place d at list placed in
-    let e : slice_index_or lists place o ≡ Some s.state = get-index lists place o (Some s.state) s.there in
-    (λ h. rw e s.stands, λ h. absurd (true≢false (sym list ∙ h)))
+pub progress-there : (q : Queue) (kept : List Progress) (m : Moves) (c place : ℕ) (d : Command) (new : Progress) → ShowsProgress q kept m → slice_get m.issued c ≡ Some d
+    → place_in q c ≡ Some place → IsProgressOf (slice_index_or kept place new) m c d
+progress-there q kept m c place d new shows at placed =
+    let s = shows c place d at placed in
+    subst (λ p. IsProgressOf p m c d) (sym (get-index kept place new s.progress s.there)) s.stands
 
 -- a command with a state is a list, and one without is none
 pub list-kind : (m : Moves) (c : ℕ) (d : Command) (o : Option ListState) (s : ListState) → IsListOf o m c d → o ≡ Some s → (is_list d.kind ≡ true) × StandsForReading s (reading m c d)

@@ -1,5 +1,5 @@
--- What the queue and the states of lists stand for, of the commands of a processor.
-use Rattle.std.specs.Prelude.{◌≡◌, ◌≢◌, ℕ, ◌<◌, ◌≤◌, true, false, not, if◌then◌else◌, List, length, Option, Some, slice_get}
+-- What the queue and what is kept at its places stand for, of the commands of a processor.
+use Rattle.std.specs.Prelude.{◌≡◌, ◌≢◌, ℕ, ◌+◌, ◌<◌, ◌≤◌, true, false, not, if◌then◌else◌, List, length, Option, Some, None, IsSomeAnd, slice_get}
 use Rattle.std.specs.List.{list_all}
 use Rattle.std.specs.Option.{option_map_or}
 use Rattle.mfc_command.specs.declared.command.Command.{Command}
@@ -10,8 +10,10 @@ use Rattle.mfc_lists.specs.Readings.{Reading, StandsFor as StandsForReading}
 use Rattle.mfc_queue.specs.declared.Queue.{Queue}
 use Rattle.mfc_queue.specs.Calls.{Call, issued, is_retired, parts, is_marked}
 use Rattle.mfc_queue.specs.Stands.{StandsFor, place_in}
+use Rattle.cell_machine.specs.declared.progress.Progress.{Progress}
 use Rattle.cell_machine.specs.Spe.{Moves, ElementRead}
 use Rattle.cell_machine.specs.Moves.{read_of, elements_in, elements_of, present, parts_in, is_moved, is_done, is_finished, is_stalled, is_resumed, was_retired, is_complete}
+use Rattle.cell_machine.specs.Transfers.{has_element}
 
 -- ---- the calls made on a queue
 
@@ -55,7 +57,7 @@ pub record ShowsOthers (calls : List Call) (m : Moves) (c : ℕ) : Type 0 where
   pub complete : (other : ℕ) → other ≢ c → is_retired calls other ≡ is_complete m other
   pub waits : is_retired calls c ≡ false
 
--- ---- the states of lists
+-- ---- how far commands have come
 
 -- how far the list c, which is d, has come
 abbrev pub reading : Moves → ℕ → Command → Reading
@@ -66,32 +68,42 @@ reading m c d = record {
   is_stalled = is_stalled m c d;
 }
 
--- at a place of the queue stands how far the list c, which is d, has come
-pub record ShowsList (lists : List (Option ListState)) (place : ℕ) (m : Moves) (c : ℕ) (d : Command) : Type 0 where
-  pub state : ListState
-  pub there : slice_get lists place ≡ Some (Some state)
-  pub stands : StandsForReading state (reading m c d)
+-- how far command c, which is d, has come, if it is a list
+abbrev pub IsListOf : Option ListState → Moves → ℕ → Command → Type 0
+IsListOf o m c d = (is_list d.kind ≡ true → IsSomeAnd o (λ s. StandsForReading s (reading m c d))) × (is_list d.kind ≡ false → o ≡ None)
 
--- so it is of each outstanding list, or of each but one
-abbrev pub ShowsLists : Queue → List (Option ListState) → Moves → Type 0
-ShowsLists q lists m =
-    (c place : ℕ) (d : Command) → slice_get m.issued c ≡ Some d → is_list d.kind ≡ true → place_in q c ≡ Some place → ShowsList lists place m c d
+-- how many steps beside its pieces it can make once it may begin: the reading of its next element, or its retirement
+abbrev pub other_steps : Moves → ℕ → Command → ℕ
+other_steps m c d = (if has_element m c d then 1 else 0) + (if not (is_moved d) then 1 else 0)
 
-abbrev pub ShowsOtherLists : Queue → List (Option ListState) → Moves → ℕ → Type 0
-ShowsOtherLists q lists m but =
-    (c place : ℕ) (d : Command) → c ≢ but → slice_get m.issued c ≡ Some d → is_list d.kind ≡ true → place_in q c ≡ Some place → ShowsList lists place m c d
+pub record IsProgressOf (progress : Progress) (m : Moves) (c : ℕ) (d : Command) : Type 0 where
+  pub list : IsListOf progress.list m c d
+  pub others : progress.others ≡ other_steps m c d
+
+-- at a place of the queue stands how far command c, which is d, has come
+pub record ShowsCommand (kept : List Progress) (place : ℕ) (m : Moves) (c : ℕ) (d : Command) : Type 0 where
+  pub progress : Progress
+  pub there : slice_get kept place ≡ Some progress
+  pub stands : IsProgressOf progress m c d
+
+-- so it is of each outstanding command, or of each but one
+abbrev pub ShowsProgress : Queue → List Progress → Moves → Type 0
+ShowsProgress q kept m = (c place : ℕ) (d : Command) → slice_get m.issued c ≡ Some d → place_in q c ≡ Some place → ShowsCommand kept place m c d
+
+abbrev pub ShowsOtherProgress : Queue → List Progress → Moves → ℕ → Type 0
+ShowsOtherProgress q kept m but = (c place : ℕ) (d : Command) → c ≢ but → slice_get m.issued c ≡ Some d → place_in q c ≡ Some place → ShowsCommand kept place m c d
 
 -- ---- both
 
-pub record ShowsQueue (q : Queue) (lists : List (Option ListState)) (m : Moves) : Type 0 where
+pub record ShowsQueue (q : Queue) (progress : List Progress) (m : Moves) : Type 0 where
   pub calls : List Call
   pub stands : StandsFor q calls
   pub moves : ShowsMoves calls m
-  pub kept : ShowsLists q lists m
+  pub kept : ShowsProgress q progress m
 
--- all but what is kept of list c, and whether it is complete
-pub record ShowsQueueBut (q : Queue) (lists : List (Option ListState)) (m : Moves) (c : ℕ) : Type 0 where
+-- all but what is kept of command c, and whether it is complete
+pub record ShowsQueueBut (q : Queue) (progress : List Progress) (m : Moves) (c : ℕ) : Type 0 where
   pub calls : List Call
   pub stands : StandsFor q calls
   pub moves : ShowsOthers calls m c
-  pub kept : ShowsOtherLists q lists m c
+  pub kept : ShowsOtherProgress q progress m c

@@ -1,5 +1,5 @@
 -- What the code's parts stand for.
-use Rattle.std.specs.Prelude.{◌≡◌, ℕ, ◌+◌, ◌%◌, ◌≤◌, ◌<◌, ◌==◌, ◌&&◌, not, if◌then◌else◌, Bool, true, false, IsSomeAnd, IfSome, map, List, [], ◌∷◌, length, Option, Some, None, All, slice_get, slice_set}
+use Rattle.std.specs.Prelude.{◌≡◌, ℕ, ◌+◌, ◌%◌, ◌≤◌, ◌<◌, ◌==◌, ◌&&◌, not, if◌then◌else◌, Bool, true, false, IfSome, map, List, [], ◌∷◌, length, Option, Some, None, All, slice_get, slice_set}
 use Rattle.std.specs.Option.{option_map_or}
 use Rattle.cell_base.specs.Bits.{has_bit}
 use Rattle.cell_base.specs.declared.steps.Step.{Step}
@@ -12,7 +12,6 @@ use Rattle.lock_lines.specs.Stands.{StandsForVersions, line_count}
 use Rattle.mfc_command.specs.declared.command.Command.{Command}
 use Rattle.mfc_command.specs.declared.command.Order.TheVariants.{Atomic}
 use Rattle.mfc_command.specs.Check.{OrderFits}
-use Rattle.mfc_command.specs.Order.{is_list}
 use Rattle.mfc_lists.specs.declared.Element.{Element}
 use Rattle.mfc_lists.specs.declared.ListState.{ListState}
 use Rattle.mfc_lists.specs.Elements.{ElementFits}
@@ -41,13 +40,9 @@ use Rattle.cell_host.specs.declared.HostAction.TheVariants.{Send, Take, TakeIntr
 use Rattle.cell_machine.specs.declared.hosts.Taken.{Taken}
 use Rattle.cell_machine.specs.Hosts.{Given, Acted}
 
--- the queue and the states of lists are what the written machine has of its commands
+-- the queue and how far its commands have come are what the written machine has of its commands
 abbrev pub ShowsCommands : Commands → Moves → Type 0
-ShowsCommands c m = ShowsQueue c.queue c.lists m
-
--- how far command c, which is d, has come, if it is a list
-abbrev pub IsListOf : Option ListState → Moves → ℕ → Command → Type 0
-IsListOf o m c d = (is_list d.kind ≡ true → IsSomeAnd o (λ s. StandsForReading s (reading m c d))) × (is_list d.kind ≡ false → o ≡ None)
+ShowsCommands c m = ShowsQueue c.queue c.progress m
 
 -- one more command may be issued
 pub record CanIssue (commands : Commands) : Type 0 where

@@ -1,4 +1,4 @@
-//! The queued commands of a processor, and how far its lists have come.
+//! The queued commands of a processor, and how far they have come.
 
 ghost use Rattle.std.specs.Prelude.{◌≡◌, ◌≢◌, ℕ, ◌+◌, ◌++◌, ◌<◌, ◌≤◌, [], ◌∷◌, length, is_some, true, false, None, Some, List, IfSome, IfNone, IsSome, slice_get, filter_map, if◌then◌else◌};
 ghost use Rattle.std.specs.Bool.{OnTrue};
@@ -20,17 +20,18 @@ ghost use Rattle.cell_machine.specs.Kept.{IsKept};
 ghost use Rattle.cell_machine.specs.Shown.{parts_left, shown};
 
 use crate::outstanding::Outstanding;
+use crate::progress::{Progress, has_next};
 use mfc_command::{Command, Kind, parts};
 use mfc_lists::{Element, ListState};
 use mfc_queue::{Queue, Waiting};
 
-/// The queue, and how far each list in it has come.
+/// The queue, and how far each command in it has come.
 #[derive(Drop)]
 pub(crate) struct Commands {
     pub(crate) queue: Queue,
-    /// By the place of the list in the queue; what stands at another place means nothing.
-    pub(crate) lists: [Option<ListState>; 16],
-    ghost places: { length lists ≡ 16 },
+    /// By the place of the command in the queue; what stands at another place means nothing.
+    pub(crate) progress: [Progress; 16],
+    ghost places: { length progress ≡ 16 },
 }
 
 /// Whether a command of this kind is a list.
@@ -106,8 +107,8 @@ fn ends(list: ListState) -> bool
 
 impl Commands {
     ghost use Rattle.cell_machine.specs.Opening.{no_moves};
-    ghost use Rattle.cell_machine.specs.MovesShown.{ShowsLists, ShowsOtherLists, ShowsQueueBut};
-    ghost use Rattle.cell_machine.specs.Shows.{ShowsCommands, CanIssue, IsListOf, CanMark, HasRead};
+    ghost use Rattle.cell_machine.specs.MovesShown.{ShowsProgress, ShowsOtherProgress, ShowsQueueBut, IsProgressOf, IsListOf, other_steps};
+    ghost use Rattle.cell_machine.specs.Shows.{ShowsCommands, CanIssue, CanMark, HasRead};
 
     /// No commands.
     pub(crate) fn new() -> Commands
@@ -115,7 +116,7 @@ impl Commands {
     {
         Commands {
             queue: Queue::new(),
-            lists: [None; 16],
+            progress: [Progress::new(None, true); 16],
         }
     }
 
@@ -125,7 +126,7 @@ impl Commands {
     {
         Commands {
             queue: self.queue.copy(),
-            lists: self.lists,
+            progress: self.progress,
         }
     }
 
@@ -141,8 +142,12 @@ impl Commands {
         match self.queue.issue(command) {
             Ok(cmd) => {
                 self.queue.set_parts(cmd, parts);
+                let moves = is_moved(&command);
                 if is_list(command.kind) {
-                    self.set_list(cmd, ListState::new(command));
+                    let list = ListState::new(command);
+                    self.set_progress(cmd, Progress::new(Some(list), moves));
+                } else {
+                    self.set_progress(cmd, Progress::new(None, moves));
                 }
             }
             Err(_) => unreachable!(),
@@ -156,11 +161,7 @@ impl Commands {
         requires { IsSeen self.now.queue cmd w }
         ensures { (m : Moves) (d : Command) → ShowsCommands self.now m → slice_get m.issued cmd ≡ Some d → IsListOf result m cmd d }
     {
-        if is_list(w.command.kind) {
-            self.lists[w.place as usize]
-        } else {
-            None
-        }
+        self.progress[w.place as usize].list
     }
 
     /// The same by its number.
@@ -191,10 +192,15 @@ impl Commands {
         requires { IsSeen self.now.queue cmd w }
         ensures { (m : Moves) (d : Command) → ShowsCommands self.now m → slice_get m.issued cmd ≡ Some d → result ≡ has_element m cmd d }
     {
-        match self.list(cmd, w) {
-            Some(list) => list.next_at().is_some(),
-            None => false,
-        }
+        has_next(self.list(cmd, w))
+    }
+
+    /// How many steps beside pieces an outstanding command can make once it may start.
+    pub(crate) fn others(&self, cmd: u32, w: Waiting) -> u8
+        requires { IsSeen self.now.queue cmd w }
+        ensures { (m : Moves) (d : Command) → ShowsCommands self.now m → slice_get m.issued cmd ≡ Some d → result ≡ other_steps m cmd d }
+    {
+        self.progress[w.place as usize].others
     }
 
     /// The element that part `k` of element `elem` of a command is of, where that part may be copied.
@@ -204,17 +210,14 @@ impl Commands {
         ensures some { IfSome result (λ x. (m : Moves) (d : Command) → ShowsCommands self.now m → slice_get m.issued cmd ≡ Some d → present m.read cmd d ≡ Some x) }
         ensures there { IfSome result (λ x. IsOneOf self.now.queue cmd) }
     {
-        let Some(w) = self.queue.look(cmd) else {
+        let Some((w, is_left)) = self.queue.look_part(cmd, k) else {
             return None;
         };
         let x = self.element(cmd, w)?;
         if x.number != elem {
             return None;
         }
-        if k >= self.queue.parts(cmd) {
-            return None;
-        }
-        if self.queue.done(cmd, k) {
+        if !is_left {
             return None;
         }
         if !w.may_start {
@@ -349,14 +352,14 @@ impl Commands {
 
     // ---- what is done
 
-    /// Keeps how far a list has come.
-    fn set_list(&mut self, cmd: u32, list: ListState)
+    /// Keeps how far a command has come.
+    fn set_progress(&mut self, cmd: u32, progress: Progress)
         requires { IsOneOf self.old.queue cmd }
         ensures queue { self.new.queue ≡ self.old.queue }
-        ensures lists { (m : Moves) (d : Command) → ShowsOtherLists self.old.queue self.old.lists m cmd → slice_get m.issued cmd ≡ Some d → StandsForReading list (reading m cmd d) → ShowsLists self.old.queue self.new.lists m }
+        ensures progress { (m : Moves) (d : Command) → ShowsOtherProgress self.old.queue self.old.progress m cmd → slice_get m.issued cmd ≡ Some d → IsProgressOf progress m cmd d → ShowsProgress self.old.queue self.new.progress m }
     {
-        match self.queue.place(cmd) {
-            Some(place) => self.lists[place as usize] = Some(list),
+        match self.queue.look(cmd) {
+            Some(w) => self.progress[w.place as usize] = progress,
             None => unreachable!(),
         }
     }
@@ -364,9 +367,9 @@ impl Commands {
     /// Keeps how far a list has come, and ends its command where it is complete.
     fn keep(&mut self, cmd: u32, list: ListState)
         requires { IsOneOf self.old.queue cmd }
-        ensures { (m : Moves) (d : Command) → ShowsQueueBut self.old.queue self.old.lists m cmd → slice_get m.issued cmd ≡ Some d → is_list d.kind ≡ true → d.size ≢ 0 → StandsForReading list (reading m cmd d) → ShowsCommands self.new m }
+        ensures { (m : Moves) (d : Command) → ShowsQueueBut self.old.queue self.old.progress m cmd → slice_get m.issued cmd ≡ Some d → is_list d.kind ≡ true → d.size ≢ 0 → StandsForReading list (reading m cmd d) → ShowsCommands self.new m }
     {
-        self.set_list(cmd, list);
+        self.set_progress(cmd, Progress::new(Some(list), true));
         if list.complete() {
             self.queue.retire(cmd);
         }
@@ -376,7 +379,7 @@ impl Commands {
     fn finish(&mut self, cmd: u32, list: ListState) -> bool
         requires one { IsOneOf self.old.queue cmd }
         requires progress { IsSome (current_of list) }
-        ensures { (m : Moves) (d : Command) (r : Reading) (x : Element) → ShowsQueueBut self.old.queue self.old.lists m cmd → slice_get m.issued cmd ≡ Some d → is_list d.kind ≡ true → d.size ≢ 0 → StandsForReading list r → current r ≡ Some x → reading m cmd d ≡ finished r x → ShowsCommands self.new m × (result ≡ is_stalled m cmd d) }
+        ensures { (m : Moves) (d : Command) (r : Reading) (x : Element) → ShowsQueueBut self.old.queue self.old.progress m cmd → slice_get m.issued cmd ≡ Some d → is_list d.kind ≡ true → d.size ≢ 0 → StandsForReading list r → current r ≡ Some x → reading m cmd d ≡ finished r x → ShowsCommands self.new m × (result ≡ is_stalled m cmd d) }
     {
         let mut ended = list;
         let stalls = ended.finish();

@@ -16,6 +16,7 @@ mod machine;
 mod memory;
 mod outstanding;
 mod processor;
+mod progress;
 mod setup;
 mod signals;
 mod status;

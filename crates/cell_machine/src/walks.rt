@@ -29,13 +29,6 @@ fn alone(step: Step, allowed: bool, n: u64) -> Result<Step, u64>
     Ok(step)
 }
 
-/// How many steps a step is that is allowed or not.
-fn one_if(allowed: bool) -> u64
-    ensures { result ≡ (if allowed then 1 else 0) }
-{
-    if allowed { 1 } else { 0 }
-}
-
 impl Processor {
     ghost use Rattle.cell_machine.specs.Shows.{ShowsSpe};
 
@@ -47,9 +40,7 @@ impl Processor {
         if !w.may_start {
             return 0;
         }
-        let element = one_if(self.commands.has_element(cmd, w));
-        let retirement = one_if(!is_moved(&w.command));
-        element + retirement + u64::from(w.left)
+        u64::from(self.commands.others(cmd, w)) + u64::from(w.left)
     }
 
     /// The allowed piece of a command that may start, at place `n`, or how far `n` is behind the last one.

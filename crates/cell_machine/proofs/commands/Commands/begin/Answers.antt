@@ -24,7 +24,7 @@ pub returns-then-parts-eq0 : goal.returns-then-parts-eq0
 returns-then-parts-eq0 c = λ m d shows at has number stands.
     let reads = element-reads m c.args.cmd d c.args.x (shows.moves.done.elements c.args.cmd d at) has number in
     c.finish.ensures _ d (with_element (reading m c.args.cmd d) c.args.x) c.args.x
-    (read-list c.args.self.now.queue _ c.args.self.now.lists m c.args.cmd c.parts-parts.result d c.args.x shows at has number c.parts-parts.ensures.count (c.set_parts.ensures.stands shows.calls shows.stands) c.set_parts.ensures.places)
+    (read-list c.args.self.now.queue _ c.args.self.now.progress m c.args.cmd c.parts-parts.result d c.args.x shows at has number c.parts-parts.ensures.count (c.set_parts.ensures.stands shows.calls shows.stands) c.set_parts.ensures.places)
     at reads.list reads.size stands (element-current (reading m c.args.cmd d) c.args.x) (reads.empty (sym c.parts-parts.ensures.count ∙ c.if-parts-eq0.true))
 
 pub keep-requires : goal.keep-requires
@@ -42,7 +42,7 @@ returns c = λ m d shows at has number stands.
     let some : parts_in c.args.x ≢ 0 = (let n = c.parts-parts.ensures.count in let e = c.if-parts-eq0.false in omega arith) in
     let goes = reads.moved some in (
       c.keep.ensures _ d
-          (read-list c.args.self.now.queue _ c.args.self.now.lists m c.args.cmd c.parts-parts.result d c.args.x shows at has number c.parts-parts.ensures.count (c.set_parts.ensures.stands shows.calls shows.stands) c.set_parts.ensures.places)
+          (read-list c.args.self.now.queue _ c.args.self.now.progress m c.args.cmd c.parts-parts.result d c.args.x shows at has number c.parts-parts.ensures.count (c.set_parts.ensures.stands shows.calls shows.stands) c.set_parts.ensures.places)
           at reads.list reads.size (subst (StandsForReading c.args.list) (sym goes.0) stands),
       goes.1,
     )

@@ -23,7 +23,7 @@ mark-requires c =
 
 pub returns-then-not-mark : goal.returns-then-not-mark
 returns-then-not-mark c = λ m d e shows at has.
-    mark-left c.args.self.now.queue _ c.args.self.now.lists m c.args.cmd e c.args.k d shows at has
+    mark-left c.args.self.now.queue _ c.args.self.now.progress m c.args.cmd e c.args.k d shows at has
     (sym (c.mark.ensures.all shows.calls shows.stands) ∙ c.if-not-mark.true) (c.mark.ensures.stands shows.calls shows.stands) c.mark.ensures.places
 
 pub finish-requires-clause-one : goal.finish-requires-clause-one
@@ -55,11 +55,11 @@ pub returns-in-Some : goal.returns-in-Some
 returns-in-Some c = λ m d e shows at has.
     let l = list-kind m c.args.cmd d c.list_of-list.result c.in-Some.list (c.list_of-list.ensures m d shows at) c.in-Some.is in
     let f = part-facts m c.args.cmd e c.args.k d has in
-    c.finish.ensures _ d _ f.element (mark-list c.args.self.now.queue _ c.args.self.now.lists m c.args.cmd e c.args.k d shows at l.0 has (c.mark.ensures.stands shows.calls shows.stands) c.mark.ensures.places)
+    c.finish.ensures _ d _ f.element (mark-list c.args.self.now.queue _ c.args.self.now.progress m c.args.cmd e c.args.k d shows at l.0 has (c.mark.ensures.stands shows.calls shows.stands) c.mark.ensures.places)
     at l.0 (moved-size d f.moved) l.1 (part-current m c.args.cmd e c.args.k d l.0 f)
     (part-ended shows.calls m c.args.cmd e c.args.k d shows.moves at l.0 has f (sym (c.mark.ensures.all shows.calls shows.stands) ∙ c.if-not-mark.false))
 
 pub returns-in-None : goal.returns-in-None
 returns-in-None c = λ m d e shows at has.
-    mark-plain c.args.self.now.queue c.mark.new.self _ c.args.self.now.lists m c.args.cmd e c.args.k d shows at (plain-kind m c.args.cmd d c.list_of-list.result (c.list_of-list.ensures m d shows at) c.in-None.is) has
+    mark-plain c.args.self.now.queue c.mark.new.self _ c.args.self.now.progress m c.args.cmd e c.args.k d shows at (plain-kind m c.args.cmd d c.list_of-list.result (c.list_of-list.ensures m d shows at) c.in-None.is) has
     (sym (c.mark.ensures.all shows.calls shows.stands) ∙ c.if-not-mark.false) (c.retire.ensures.stands _ (c.mark.ensures.stands shows.calls shows.stands)) c.mark.ensures.places c.retire.ensures.places
