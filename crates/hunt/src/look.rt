@@ -6,16 +6,16 @@ use std::fs;
 use std::io::IsTerminal;
 use std::time::Instant;
 
-/// How long the threads are to be busy at most before the next look, and how long a line stands at least, in milliseconds. At a look all wait for
-/// the thread that is the last, and the runs of a hunt take from one time to a hundred times as long.
+/// How long the threads are to be busy at most before the next look, and how long a line stands at least, in milliseconds. At a look all threads
+/// end, and one joins what they tell.
 const BUSY: u128 = 2000;
 
 const STANDS: u128 = 100;
 
-/// How many runs a thread makes before the first look: one of each way of a hunt, so that all threads have as much to do.
+/// How many runs a thread makes in the mean before the first look: one of each way of a hunt, which tells how long the others take.
 const FIRST_SHARE: u32 = 4;
 
-/// How many runs a thread makes at most before the next look, and how many times as many as before the last one.
+/// How many runs a thread makes in the mean at most before the next look, and how many times as many as before the last one.
 const MOST_SHARE: u32 = 65_536;
 
 const MOST_TIMES: u128 = 64;
@@ -33,7 +33,7 @@ pub struct Look<'a> {
     /// When the hunt began, and since when the line stands.
     began: Option<Instant>,
     stands: Option<Instant>,
-    /// How many runs each thread makes, and since when.
+    /// How many runs each thread makes in the mean, and since when.
     share: u32,
     busy: Option<Instant>,
 }
@@ -49,7 +49,8 @@ fn since(rt: &HostRuntime, then: Option<Instant>) -> u128 {
     }
 }
 
-/// How many runs a thread makes next, when so many took so many milliseconds: those that keep it busy until the next look, so that there are few.
+/// How many runs a thread makes next in the mean, when so many took so many milliseconds: those that keep it busy until the next look, so that there
+/// are few.
 fn next_share(share: u32, took: u128) -> u32 {
     let share = u128::from(share);
     let fitting = share * BUSY / took.max(1);

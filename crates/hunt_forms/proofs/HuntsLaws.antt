@@ -1,6 +1,6 @@
 -- What runs tell, while they are made.
-use Rattle.std.proofs.Common.{◌≡◌, ℕ, zero, suc, ◌+◌, ◌*◌, ◌<◌, ◌≤◌, ◌^◌, Bool, true, false, List, [], ◌∷◌, ◌++◌, length, refl, sym, ap, subst, ◌∙◌, arith, length-append}
-use Rattle.std.specs.Prelude.{◌||◌, slice_index_or, Result, Ok, Err, IfOk, OnOk}
+use Rattle.std.proofs.Common.{◌≡◌, ℕ, ◌+◌, ◌≤◌, Bool, true, false, List, [], ◌∷◌, ◌++◌, length, refl, sym, ap, subst, ◌∙◌, arith, length-append}
+use Rattle.std.specs.Prelude.{◌||◌, Result, Ok, IfOk}
 use Rattle.std.specs.List.{flat_map, list_any}
 use Rattle.std.proofs.lemmas.List.{append-nil, length_push}
 use Rattle.std.proofs.lemmas.List.Folds.{list_any-append}
@@ -9,8 +9,9 @@ use Rattle.cell_machine.specs.Opening.{Opening}
 use Rattle.hunt_tally.specs.Reports.{Reported, Sums, hunted, is_flawed}
 use Rattle.hunt_forms.specs.declared.each.Told.{Told}
 use Rattle.hunt_forms.specs.declared.input.Quarry.{Quarry}
+use Rattle.hunt_forms.specs.declared.parts.Part.{Part}
 use Rattle.hunt_forms.specs.Words.{Asked}
-use Rattle.hunt_forms.specs.Hunts.{status_of, text_by, AreMade, TellsHunt, TellsEach, HasTaken, HasMade, IsReportOfSeed, IsTold, TellsRuns, told_line, is_racy}
+use Rattle.hunt_forms.specs.Hunts.{status_of, text_by, AreMade, TellsHunt, TellsEach, HasTaken, HasMade, IsReportOfSeed, IsPart, IsTold, TellsRuns, told_line, is_racy}
 use Rattle.hunt_forms.proofs.Eaches.{each-none, each-append, each-snoc}
 
 pub runs_of : (reports : List Reported) → (hunted reports).runs ≡ length reports
@@ -40,7 +41,7 @@ told_more setup seed from runs old new was is t told text racy so_far = record {
   found = ap (λ b. b || is) so_far.found ∙ ap (λ b. list_any is_racy so_far.all || b) racy ∙ sym (any_more so_far.all t);
 }
 
--- ---- shares
+-- ---- what is taken in
 
 -- one more report
 pub has_next : (q : Quarry) (seed from made : ℕ) (old new : Sums) (r : Reported) → HasTaken q seed from made old → IsReportOfSeed q.setup q.asked seed (from + made) r
@@ -54,10 +55,10 @@ has_next q seed from made old new r taken is goes =
       told = goes taken.reports taken.told;
     }
 
--- the reports of one more share
-pub has_more : (q : Quarry) (seed from made share : ℕ) (old behind new : Sums) → HasTaken q seed from made old → HasTaken q seed (from + made) share behind
-    → ((before after : List Reported) → old ≡ hunted before → behind ≡ hunted after → new ≡ hunted (before ++ after)) → HasTaken q seed from (made + share) new
-has_more q seed from made share old behind new taken more goes =
+-- the reports of the runs behind these
+pub has_more : (q : Quarry) (seed from made runs : ℕ) (old behind new : Sums) → HasTaken q seed from made old → HasTaken q seed (from + made) runs behind
+    → ((before after : List Reported) → old ≡ hunted before → behind ≡ hunted after → new ≡ hunted (before ++ after)) → HasTaken q seed from (made + runs) new
+has_more q seed from made runs old behind new taken more goes =
     let both = length-append taken.reports more.reports in
     let count = taken.count in
     let all = more.count in
@@ -68,42 +69,26 @@ has_more q seed from made share old behind new taken more goes =
       told = goes taken.reports more.reports taken.told more.told;
     }
 
--- a share has no more runs than all of them
-pub share_within : (jobs share job : ℕ) → job < jobs → share ≤ jobs * share
-share_within zero share job less = omega (arith, less)
-share_within (suc jobs) share job less = omega arith
-
 pub has_none : (q : Quarry) (seed from : ℕ) (h : Sums) → h ≡ hunted [] → HasTaken q seed from 0 h
 has_none q seed from h is = record { reports = []; count = refl; each = each-none (IsReportOfSeed q.setup q.asked seed) from; told = is }
 
--- the next share of those that are left
-pub next_is : {X : Type 0} (all before rest : List X) (x : X) → before ++ x ∷ rest ≡ all → x ≡ slice_index_or all (length before) x
-next_is {X = X} all before rest x same = sym (ap (λ xs. slice_index_or xs (length before) x) (sym same) ∙ at before)
-  where
-    at : (xs : List X) → slice_index_or (xs ++ x ∷ rest) (length xs) x ≡ x
-    at [] = refl
-    at (y ∷ xs) = at xs
-
-pub next_inside : {X : Type 0} (all before rest : List X) (x : X) → before ++ x ∷ rest ≡ all → length before < length all
-next_inside all before rest x same = let n = ap length same in let parts = length-append before (x ∷ rest) in omega (arith, n, parts)
-
 pub taken_runs : (q : Quarry) (seed from made : ℕ) (h : Sums) → HasTaken q seed from made h → h.runs ≡ made
 taken_runs q seed from made h taken = ap (λ s. s.runs) taken.told ∙ runs_of taken.reports ∙ taken.count
+
+-- runs that follow one another are a part
+pub part_of : (q : Quarry) (seed from count : ℕ) (part : Part) → HasTaken q seed (from + part.first) count part.sums → IsPart q seed from (part.first + count) part
+part_of q seed from count part taken =
+    let runs = taken_runs q seed (from + part.first) count part.sums taken in
+    record { taken = subst (λ n. HasTaken q seed (from + part.first) n part.sums) (sym runs) taken; within = omega (arith, runs) }
+
+pub part_before : (q : Quarry) (seed from end later : ℕ) (part : Part) → end ≤ later → IsPart q seed from end part → IsPart q seed from later part
+part_before q seed from end later part less is = record { taken = is.taken; within = let within = is.within in omega (arith, within, less) }
 
 pub each_tells : (setup : Opening) (seed from runs : ℕ) (text : List ℕ) (racy : Bool) → TellsRuns setup seed from runs text racy → TellsEach setup from runs seed (status_of racy) text
 each_tells setup seed from runs text racy t = record { all = t.all; count = t.count; each = t.each; says = t.says; found = ap status_of t.found }
 
 pub of_ok : {A E : Type 0} (P : A → Type 0) (r : Result A E) (x : A) → r ≡ Ok x → IfOk r P → P x
 of_ok P r x is holds = subst (λ o. IfOk o P) is holds
-
-pub if_ok : {A E : Type 0} (P Q : A → Type 0) (r : Result A E) → ((x : A) → P x → Q x) → IfOk r P → IfOk r Q
-if_ok P Q (Ok x) f p = f x p
-if_ok P Q (Err e) f p = tt
-
--- what holds where it was taken in, of what holds there
-pub on_ok : {A E P Q : Type 0} (r : Result A E) → (P → Q) → OnOk r P → OnOk r Q
-on_ok (Ok x) f p = f p
-on_ok (Err e) f p = tt
 
 -- ---- a hunt
 

@@ -1,6 +1,7 @@
 -- The runs of a hunt, and what is written of them.
-use Rattle.std.specs.Prelude.{◌≡◌, ℕ, ◌+◌, Bool, true, false, List, ◌++◌, length, codes, Option, Some, None, ◌<◌, ◌≤◌, [], ◌∷◌, slice_index_or, is_some, IsTrue, ◌↔◌, ◌*◌, ◌^◌, if◌then◌else◌, Result, IfOk, OnOk}
+use Rattle.std.specs.Prelude.{◌≡◌, ℕ, ◌+◌, Bool, true, false, List, ◌++◌, length, codes, Option, Some, None, ◌<◌, ◌≤◌, [], ◌∷◌, is_some, IsTrue, ◌↔◌, ◌^◌, if◌then◌else◌, Result, IfOk, OnOk, All, Vec}
 use Rattle.std.specs.declared.alloc.AllocError.{AllocError}
+use Rattle.std.specs.declared.alloc.Global.{Global}
 use Rattle.hunt_forms.specs.declared.input.Quarry.{Quarry}
 use Rattle.std.specs.Borrow.{Bor, MutBor}
 use Rattle.std.specs.List.{flat_map, list_any}
@@ -22,6 +23,7 @@ use Rattle.hunt_reports.specs.Reports.{IsReport}
 use Rattle.hunt_forms.specs.declared.fault.Status.{Status}
 use Rattle.hunt_forms.specs.declared.fault.Status.TheVariants.{Clean, Found}
 use Rattle.hunt_forms.specs.declared.each.Told.{Told}
+use Rattle.hunt_forms.specs.declared.parts.Part.{Part}
 use Rattle.hunt_forms.specs.declared.team.Round.{Round}
 use Rattle.hunt_forms.specs.declared.words.Hunt.{Hunt}
 use Rattle.hunt_forms.specs.Words.{Asked}
@@ -124,15 +126,11 @@ pub record HasMade (q : Quarry) (seed from runs : ℕ) (stopped : Bool) (h : Sum
   pub taken : HasTaken q seed from made h
   pub count : AreMade stopped runs made
 
--- the runs of a round
-abbrev pub runs_in : Round → ℕ
-runs_in round = round.jobs * round.share
-
 -- so many runs were made and taken in, and those of a round can be made behind them
 pub record IsNext (q : Quarry) (hunt : Hunt) (made : ℕ) (round : Round) (h : Sums) : Type 0 where
   pub some : 0 < length q.setup.entries
-  pub numbered : hunt.from + (made + runs_in round) < 2 ^ 32
-  pub room : made + runs_in round + 2 < 2 ^ 32
+  pub numbered : hunt.from + (made + round.runs) < 2 ^ 32
+  pub room : made + round.runs + 2 < 2 ^ 32
   pub taken : HasTaken q hunt.seed hunt.from made h
 
 -- A call makes the runs of any next round and takes their reports in: `pre` and `post` are what it requires and ensures.
@@ -142,18 +140,19 @@ pub record MakesRounds (pre : Bor Quarry → Bor Hunt → ℕ → Round → MutB
       → IsNext q.now hunt.now made round sums.now → pre q hunt made round sums
   pub makes : (q : Bor Quarry) (hunt : Bor Hunt) (made : ℕ) (round : Round) (sums after : MutBor Sums) (result : Result (Unit {0}) AllocError)
       → IsNext q.now hunt.now made round sums.now → post q hunt made round sums result after
-      → OnOk result (HasTaken q.now hunt.now.seed hunt.now.from (made + runs_in round) after.now)
+      → OnOk result (HasTaken q.now hunt.now.seed hunt.now.from (made + round.runs) after.now)
 
--- what a thread gave
-abbrev pub Given : Type 0
-Given = Result Sums AllocError
+-- this was taken in of runs of the hunt that follow one another, none of them behind the first `end`
+pub record IsPart (q : Quarry) (seed from end : ℕ) (part : Part) : Type 0 where
+  pub taken : HasTaken q seed (from + part.first) part.sums.runs part.sums
+  pub within : part.first + part.sums.runs ≤ end
 
--- each thread took in a share, one behind the other
-abbrev pub AreShares : Quarry → ℕ → ℕ → ℕ → List Given → Type 0
-AreShares q seed from share shares = (job : ℕ) (told : Given) → job < length shares → told ≡ slice_index_or shares job told → IfOk told (HasTaken q seed (from + job * share) share)
+abbrev pub AreParts : Quarry → ℕ → ℕ → ℕ → List Part → Type 0
+AreParts q seed from end parts = All (IsPart q seed from end) parts
 
-abbrev pub HaveRuns : ℕ → List Given → Type 0
-HaveRuns share shares = (job : ℕ) (told : Given) → job < length shares → told ≡ slice_index_or shares job told → IfOk told (λ h. h.runs ≡ share)
+-- each thread that had memory gave such parts
+abbrev pub GaveParts : Quarry → ℕ → ℕ → ℕ → List (Result (Vec Part Global) AllocError) → Type 0
+GaveParts q seed from end told = All (λ gave. IfOk gave (λ parts. AreParts q seed from end parts.items)) told
 
 -- these are the lines of so many runs, and whether one has a race
 pub record TellsRuns (setup : Opening) (seed from runs : ℕ) (text : List ℕ) (racy : Bool) : Type 0 where

@@ -1,6 +1,6 @@
 //! The runs of a hunt, round by round.
 
-ghost use Rattle.std.specs.Prelude.{[], ◌≡◌, ◌≤◌, ◌<◌, ◌*◌, length, OnOk, IsTrue, IsFalse};
+ghost use Rattle.std.specs.Prelude.{[], ◌≡◌, ◌≤◌, ◌<◌, length, OnOk, IsTrue, IsFalse};
 ghost use Rattle.hunt_tally.specs.Reports.{hunted};
 ghost use Rattle.hunt_forms.specs.Words.{AreRuns};
 ghost use Rattle.hunt_forms.specs.Hunts.{AreMade, HasMade, MakesRounds};
@@ -15,16 +15,18 @@ use std::alloc::AllocError;
 /// On how many threads a hunt runs at most.
 const MOST_JOBS: u32 = 256;
 
-/// What is made next of the runs that are left, on at most so many threads.
+/// What is made next of the runs that are left, on at most so many threads, of which each wants to make so many.
 fn next_round(left: u32, most: u32, wanted: u32) -> Round
     requires left { 0 < left }
     requires most { 0 < most }
-    ensures some { 0 < result.jobs * result.share }
-    ensures within { result.jobs * result.share ≤ left }
+    ensures some { 0 < result.runs }
+    ensures within { result.runs ≤ left }
 {
-    let share = wanted.clamp(1, (left / most).max(1));
-    let jobs = most.min(left / share);
-    Round { share, jobs }
+    let runs = wanted.max(1).saturating_mul(most).min(left);
+    Round {
+        runs,
+        jobs: most.min(runs),
+    }
 }
 
 /// Whether more runs are made: the first ones always, and then while some are left and nobody ends the hunt.
@@ -59,7 +61,7 @@ where
     while goes_on(made, hunt.runs, progress) {
         let round = next_round(hunt.runs - made, most, progress.share());
         (team.make)(quarry, hunt, made, round, sums)?;
-        made += round.jobs * round.share;
+        made += round.runs;
         progress.show(sums, hunt.runs);
     }
     progress.end();

@@ -10,6 +10,7 @@ mod hunting;
 mod input;
 mod lines;
 mod numbers;
+mod parts;
 mod passes;
 mod program;
 mod progress;

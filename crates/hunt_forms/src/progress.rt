@@ -9,7 +9,7 @@ pub trait Progress {
     /// Whether it has said that the hunt is to end.
     ghost stopped: { Self → Bool };
 
-    /// How many runs each thread makes next, before this is asked again.
+    /// How many runs each thread makes next, in the mean, before this is asked again.
     fn share(&mut self) -> u32
         ensures { stopped self.new ≡ stopped self.old };
 

@@ -1,7 +1,7 @@
 //! Who makes the runs of a hunt.
 
 ghost use Rattle.std.specs.Prelude.{◌+◌, OnOk};
-ghost use Rattle.hunt_forms.specs.Hunts.{IsNext, HasTaken, runs_in};
+ghost use Rattle.hunt_forms.specs.Hunts.{IsNext, HasTaken};
 
 use crate::input::Quarry;
 use crate::runs::take_runs;
@@ -9,10 +9,10 @@ use crate::words::Hunt;
 use hunt_tally::Hunted;
 use std::alloc::{AllocError, Global};
 
-/// The runs that are made next: how many threads make runs, and how many each of them makes.
+/// How many runs are made next, and on how many threads.
 #[derive(Clone, Copy)]
 pub struct Round {
-    pub share: u32,
+    pub runs: u32,
     pub jobs: u32,
 }
 
@@ -33,8 +33,7 @@ pub fn make_alone(
     sums: &mut Hunted,
 ) -> Result<(), AllocError>
     requires { IsNext quarry.now hunt.now made round sums.old }
-    ensures { OnOk result (HasTaken quarry.now hunt.now.seed hunt.now.from (made + runs_in round) sums.new) }
+    ensures { OnOk result (HasTaken quarry.now hunt.now.seed hunt.now.from (made + round.runs) sums.new) }
 {
-    let count = round.jobs * round.share;
-    take_runs(sums, alloc, quarry, hunt.seed, hunt.from, made, count)
+    take_runs(sums, alloc, quarry, hunt.seed, hunt.from, made, round.runs)
 }
