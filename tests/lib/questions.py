@@ -53,7 +53,7 @@ def of_machine(machine: str) -> Iterator[Question]:
     """Questions about a machine file alone."""
     files = files_of(machine)
     for words in (["run", machine], ["hunt", machine, RUNS, "3"], ["hunt", machine, "--runs", FEW, "--from", RUN, "--json"],
-                  ["hunt", machine, "record", RUN, SEED], ["hunt", machine, "each", FEW]):
+                  ["hunt", machine, "record", RUN, SEED], ["hunt", machine, "each", FEW], ["trace", "plan", machine]):
         yield Question(tuple(words), files)
     name, text = EXPECTED
     yield Question(("hunt", machine, FEW, "--expect", name), {**files, name: text})
@@ -82,6 +82,7 @@ def of_nothing() -> Iterator[Question]:
         yield Question(tuple(words), {})
     for words in (("asm", "faulty.s"), ("trace", "lines", "faulty.s")):
         yield Question(words, {"faulty.s": b"_start: il $3\n"})
+    yield Question(("trace", "plan", "faulty.cell"), {"faulty.cell": b"cell-machine 1\nlines 1\nspe\n"})
 
 
 def questions() -> List[Question]:

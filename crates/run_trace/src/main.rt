@@ -8,8 +8,8 @@
 //! places that are ordered before it, of which there are as many as pairs of steps. `states MACHINE RECORD` prints the states after all steps of a record.
 //! `go MACHINE RECORD STEPS CHOICES` makes the first so many steps of a record, and then those that the numbers of a file choose; it prints the effects of
 //! these, then what `states` would print behind them, and then what may be done next. `lines SOURCE` prints a line for each line of a source, with its number,
-//! `text` or `data`, its address and the address behind it, and then one for each label, with the number of its line. Nothing is printed where something is
-//! refused.
+//! `text` or `data`, its address and the address behind it, and then one for each label, with the number of its line. `plan MACHINE` prints a line for each
+//! line of a machine file that has words: its number, the processor that it is of or a dash, and the words. Nothing is printed where something is refused.
 //! `time MACHINE RECORD` prints how long it takes to follow a record, alone, with an orderer, and with questions put to it, and to search it for races.
 #![tactic(auto)]
 

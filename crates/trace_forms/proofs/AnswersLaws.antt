@@ -9,7 +9,7 @@ use Rattle.trace_forms.specs.declared.fault.Fault.{Fault}
 use Rattle.trace_forms.specs.declared.fault.Fault.TheVariants.{Usage, WriteFault}
 use Rattle.trace_forms.specs.declared.fault.Status.{Status}
 use Rattle.trace_forms.specs.declared.fault.Status.TheVariants.{Done, Refused}
-use Rattle.trace_forms.specs.Words.{Spoken, alone, choose, asked, go, lined, no_form}
+use Rattle.trace_forms.specs.Words.{Spoken, alone, choose, asked, go, lined, planned, no_form}
 use Rattle.trace_forms.specs.Files.{IsOfFiles}
 use Rattle.trace_forms.specs.Answers.{Writes, Refuses, FailsBy, Answers, ReadFails, IsQuiet, Promises, Ends, TellsUsage}
 
@@ -27,6 +27,7 @@ not_write (choose machine choices) h = h
 not_write (asked machine record_file ask) h = h
 not_write (go machine record_file count choices) h = h
 not_write (lined source) h = h
+not_write (planned machine) h = h
 not_write no_form h = absurd (cc)
 
 usage_form : (spoken : Spoken) (fault : Fault) → TellsUsage spoken fault → fault ≡ Usage → spoken ≡ no_form
@@ -35,6 +36,7 @@ usage_form (choose machine choices) fault h is = absurd (no_file_usage fault h i
 usage_form (asked machine record_file ask) fault h is = absurd (no_file_usage fault h is)
 usage_form (go machine record_file count choices) fault h is = absurd (no_file_usage fault h is)
 usage_form (lined source) fault h is = absurd (no_file_usage fault h is)
+usage_form (planned machine) fault h is = absurd (no_file_usage fault h is)
 usage_form no_form fault h is = refl
 
 form_usage : (spoken : Spoken) (fault : Fault) → TellsUsage spoken fault → spoken ≡ no_form → Refused fault ≡ Refused Usage

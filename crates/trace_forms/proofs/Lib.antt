@@ -1,5 +1,6 @@
 pub mod FilesLaws
 pub mod ListingLaws
+pub mod PlanLaws
 pub mod StepsLaws
 pub mod TellLaws
 pub mod RangesLaws

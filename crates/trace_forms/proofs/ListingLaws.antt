@@ -12,6 +12,7 @@ use Rattle.spu_asm.specs.Listings.{Listing, named_lines}
 use Rattle.cell_report.specs.Images.{image_lines}
 use Rattle.cell_forms.specs.declared.fault.Fault.{Fault as InputFault}
 use Rattle.cell_forms.specs.declared.fault.Fault.TheVariants as input
+use Rattle.cell_forms.specs.declared.fault.FileId.{FileId}
 use Rattle.cell_forms.specs.declared.fault.FileId.TheVariants.{Source}
 use Rattle.cell_forms.specs.Task.{Task, text_of, ready, read}
 use Rattle.cell_forms.specs.Course.{Given, nothing, too_long, whole, given, WithGiven, Settles}
@@ -22,7 +23,7 @@ use Rattle.trace_forms.specs.declared.fault.Fault.TheVariants.{Input, ReadFault,
 use Rattle.trace_forms.specs.Words.{Word, lined}
 use Rattle.trace_forms.specs.Code.{told_as}
 use Rattle.trace_forms.specs.Answers.{Comes}
-use Rattle.trace_forms.specs.Files.{SourceRefuses, FailsAtSource}
+use Rattle.trace_forms.specs.Files.{SourceRefuses, FailsAtFile}
 use Rattle.trace_forms.specs.Listings.{ListsText, label_text, listed_text, listing_text}
 
 -- what `cell asm` does with the text of a source
@@ -37,10 +38,10 @@ pub source_refuses : (files : List File) (source : Word) (old new : Ledger) (fau
 source_refuses files source old new input.Memory r = tt
 source_refuses files source old new fault r = r
 
-pub source_cause : (source : Word) (old new : Ledger) (fault : InputFault) → InputFailsBy {V = List ℕ} (AtFile (Source 0) source) old new (Err fault) → FailsAtSource source old new (told_as fault)
-source_cause source old new input.Memory c = tt
-source_cause source old new (input.ReadFault file) c = c
-source_cause source old new fault c = tt
+pub file_cause : (file : FileId) (name : Word) (old new : Ledger) (fault : InputFault) → InputFailsBy {V = List ℕ} (AtFile file name) old new (Err fault) → FailsAtFile file name old new (told_as fault)
+file_cause file name old new input.Memory c = tt
+file_cause file name old new (input.ReadFault failed) c = c
+file_cause file name old new fault c = tt
 
 whole_of : (g : Given) (bytes : List ℕ) → WithGiven (Source 0) g (Ok (text_of bytes)) (λ b. Settles [] (to_source b) (Ok (text_of bytes))) → g ≡ whole bytes
 whole_of nothing bytes h = absurd (cc)
@@ -58,7 +59,7 @@ listing_comes files source old new text (Err (Input (input.Source file line kind
 listing_comes files source old new text (Err Memory) is leads h = tt
 listing_comes files source old new text (Err other) is leads h = absurd h
 
-pub listing_reads_on : (source : Word) (old new : Ledger) (text : List ℕ) (result : Result (Vec ℕ Global) Fault) → ListsText text result → (fault : Fault) → result ≡ Err fault → FailsAtSource source old new fault
+pub listing_reads_on : (source : Word) (old new : Ledger) (text : List ℕ) (result : Result (Vec ℕ Global) Fault) → ListsText text result → (fault : Fault) → result ≡ Err fault → FailsAtFile (Source 0) source old new fault
 listing_reads_on source old new text result h (Input (input.ReadFault file)) is = absurd (subst (ListsText text) is h)
 listing_reads_on source old new text result h ReadFault is = absurd (subst (ListsText text) is h)
 listing_reads_on source old new text result h fault is = tt

@@ -7,6 +7,7 @@ use Rattle.cell_io.specs.Files.{File}
 use Rattle.cell_io.specs.Store.{Ledger, NoneFell, Rose}
 use Rattle.cell_machine.specs.Opening.{Opening}
 use Rattle.cell_machine.specs.Run.{Ran}
+use Rattle.cell_forms.specs.declared.fault.FileId.TheVariants.{Machine, Source}
 use Rattle.cell_forms.specs.Answer.{Sinks}
 use Rattle.cell_forms.specs.Output.{Took, TookPart}
 use Rattle.cell_forms.specs.Promises.{Stores}
@@ -16,11 +17,12 @@ use Rattle.trace_forms.specs.declared.fault.Fault.TheVariants.{Usage, WriteFault
 use Rattle.trace_forms.specs.declared.fault.Status.{Status}
 use Rattle.trace_forms.specs.declared.fault.Status.TheVariants.{Done, Refused}
 use Rattle.spu_asm.specs.Listings.{Listing}
-use Rattle.trace_forms.specs.Words.{Spoken, alone, choose, asked, go, lined, no_form}
+use Rattle.trace_forms.specs.Words.{Spoken, alone, choose, asked, go, lined, planned, no_form}
 use Rattle.trace_forms.specs.Choices.{start, with_choices, TakesTurns}
 use Rattle.trace_forms.specs.Told.{first_run, Tells, TellsRecord, Goes}
-use Rattle.trace_forms.specs.Files.{StandsFor, HasRecord, HasChoices, MachineRefuses, RecordRefuses, ChoicesRefuse, RecordedRefuse, SourceRefuses, count_of, FailsAtMachine, FailsAtRecord, FailsAtChoices, FailsAtSource, IsOfFiles}
+use Rattle.trace_forms.specs.Files.{StandsFor, HasRecord, HasChoices, MachineRefuses, RecordRefuses, ChoicesRefuse, RecordedRefuse, SourceRefuses, PlanRefuses, count_of, FailsAtMachine, FailsAtRecord, FailsAtChoices, FailsAtFile, IsOfFiles}
 use Rattle.trace_forms.specs.Listings.{HasListing, listing_text}
+use Rattle.trace_forms.specs.Plans.{HasPlan}
 
 -- ---- what may be written
 
@@ -35,6 +37,7 @@ Writes files (go machine record_file count choices) text =
     (setup : Opening) × (steps : List Step) × (numbers : List ℕ) × StandsFor files machine setup × HasRecord files record_file steps × HasChoices files choices numbers
     × (count ≤ length steps) × Goes numbers (first_run setup steps count) text
 Writes files (lined source) text = (l : Listing) × HasListing files source l × (text ≡ listing_text l)
+Writes files (planned machine) text = HasPlan files machine text
 Writes files no_form text = ⊥
 
 -- why nothing is written
@@ -46,6 +49,7 @@ Refuses files (asked machine record_file ask) old new fault =
 Refuses files (go machine record_file count choices) old new fault =
     MachineRefuses files machine old new fault ⊎ RecordRefuses files record_file old new fault ⊎ ChoicesRefuse files choices old new fault ⊎ RecordedRefuse files machine record_file (Some count) fault
 Refuses files (lined source) old new fault = SourceRefuses files source old new fault
+Refuses files (planned machine) old new fault = PlanRefuses files machine old new fault
 Refuses files no_form old new fault = fault ≡ Usage
 
 -- the text of a form, or why there is none
@@ -60,7 +64,8 @@ FailsBy (choose machine choices) old new fault = FailsAtMachine machine old new 
 FailsBy (asked machine record_file ask) old new fault = FailsAtMachine machine old new fault ⊎ FailsAtRecord record_file old new fault
 FailsBy (go machine record_file count choices) old new fault =
     FailsAtMachine machine old new fault ⊎ FailsAtRecord record_file old new fault ⊎ FailsAtChoices choices old new fault
-FailsBy (lined source) old new fault = FailsAtSource source old new fault
+FailsBy (lined source) old new fault = FailsAtFile (Source 0) source old new fault
+FailsBy (planned machine) old new fault = FailsAtFile Machine machine old new fault
 FailsBy no_form old new fault = fault ≡ Usage
 
 -- ---- answers

@@ -4,15 +4,17 @@ use Rattle.std.specs.declared.alloc.Global.{Global}
 use Rattle.cell_base.specs.declared.steps.Step.{Step}
 use Rattle.cell_io.specs.Files.{File}
 use Rattle.cell_io.specs.Store.{Ledger, FailedAt}
+use Rattle.cell_load.specs.Entries.{Entry}
 use Rattle.cell_machine.specs.Opening.{Opening}
 use Rattle.cell_machine.specs.Run.{Ran}
 use Rattle.run_record.specs.Form.{Reading, BeginsWith, IsFault}
 use Rattle.run_record.specs.Replayed.{IsRefusedAt}
 use Rattle.cell_forms.specs.declared.fault.Fault.TheVariants.{ReadFault as InputReadFault, TooLong as InputTooLong, BadRecord, NotARun}
-use Rattle.cell_forms.specs.declared.fault.FileId.TheVariants.{Rec, Source}
-use Rattle.cell_forms.specs.Task.{run_of}
+use Rattle.cell_forms.specs.declared.fault.FileId.{FileId}
+use Rattle.cell_forms.specs.declared.fault.FileId.TheVariants.{Rec}
+use Rattle.cell_forms.specs.Task.{Task, run_of}
 use Rattle.cell_forms.specs.Course.{too_long, whole, given, Settles}
-use Rattle.cell_forms.specs.Forms.{asm_task, record_limit, run_task}
+use Rattle.cell_forms.specs.Forms.{asm_task, plan_task, record_limit, run_task}
 use Rattle.cell_forms.specs.Answer.{RefusesIn, AtFile, AtMachine}
 use Rattle.trace_forms.specs.declared.fault.Fault.{Fault}
 use Rattle.trace_forms.specs.declared.fault.Fault.TheVariants.{Usage, Input, TooShort, ReadFault, TooLong, Choices, WriteFault, Memory}
@@ -49,6 +51,12 @@ abbrev pub SourceRefuses : List File → Word → Ledger → Ledger → Fault �
 SourceRefuses files source old new (Input fault) = RefusesIn files (asm_task source) old new fault
 SourceRefuses files source old new Memory = Unit {0}
 SourceRefuses files source old new other = ⊥
+
+-- a machine file is refused as `cell check` refuses it, whatever were done with what its lines say
+abbrev pub PlanRefuses : List File → Word → Ledger → Ledger → Fault → Type 0
+PlanRefuses files machine old new (Input fault) = (next : List Entry → Task) → RefusesIn files (plan_task machine next) old new fault
+PlanRefuses files machine old new Memory = Unit {0}
+PlanRefuses files machine old new other = ⊥
 
 -- this line of the record file is the first that is outside the form of a record
 abbrev pub IsBadLine : List File → Word → ℕ → Type 0
@@ -118,11 +126,11 @@ FailsAtMachine machine old new (Input (InputReadFault file)) = AtMachine machine
 FailsAtMachine machine old new ReadFault = ⊥
 FailsAtMachine machine old new other = Unit {0}
 
--- the reading of the source failed
-abbrev pub FailsAtSource : Word → Ledger → Ledger → Fault → Type 0
-FailsAtSource source old new (Input (InputReadFault file)) = AtFile (Source 0) source file old new
-FailsAtSource source old new ReadFault = ⊥
-FailsAtSource source old new other = Unit {0}
+-- the reading of this file failed, under this name
+abbrev pub FailsAtFile : FileId → Word → Ledger → Ledger → Fault → Type 0
+FailsAtFile file name old new (Input (InputReadFault failed)) = AtFile file name failed old new
+FailsAtFile file name old new ReadFault = ⊥
+FailsAtFile file name old new other = Unit {0}
 
 -- the reading of the record file failed
 abbrev pub FailsAtRecord : Word → Ledger → Ledger → Fault → Type 0

@@ -6,4 +6,5 @@ pub mod Told
 pub mod Numbers
 pub mod Files
 pub mod Listings
+pub mod Plans
 pub mod Answers

@@ -17,6 +17,7 @@ pub data Spoken : Type 0 where
   asked : Word → Word → Ask → Spoken
   go : Word → Word → ℕ → Word → Spoken
   lined : Word → Spoken
+  planned : Word → Spoken
   no_form : Spoken
 
 -- what is asked of the run of a record by a word alone
@@ -49,6 +50,7 @@ abbrev pub one_said : Word → Word → Spoken
 one_said word file =
     if is_word word (codes "alone") then alone file
     else if is_word word (codes "lines") then lined file
+    else if is_word word (codes "plan") then planned file
     else no_form
 
 -- a word with the machine file and another file
@@ -77,4 +79,5 @@ said (form.Choose machine choices) = choose machine.now choices.now
 said (form.Ask machine record_file ask) = asked machine.now record_file.now ask
 said (form.Go machine record_file steps choices) = go machine.now record_file.now steps choices.now
 said (form.Lines source) = lined source.now
+said (form.Plan machine) = planned machine.now
 said form.NoForm = no_form

@@ -8,6 +8,7 @@ mod choosing;
 mod fault;
 mod following;
 mod listing;
+mod plan;
 mod program;
 mod ranges;
 mod reading;

@@ -11,6 +11,7 @@ use crate::choices::read_choices;
 use crate::choosing::{run_alone, run_chosen};
 use crate::fault::{Fault, Status};
 use crate::listing::lines_text;
+use crate::plan::planned_text;
 use crate::reading::{read_recorded, read_start};
 use crate::telling::{go_on, run_record, run_text, tell};
 use crate::words::{Ask, Form, form_of};
@@ -125,6 +126,7 @@ fn text_of<T: Store>(alloc: Global, files: &mut T, form: Form<'_>) -> Result<Vec
             choices,
         } => going_text(alloc, files, machine, record_file, steps, choices),
         Form::Lines { source } => lines_text(alloc, files, source),
+        Form::Plan { machine } => planned_text(alloc, files, machine),
         Form::NoForm => Err(Fault::Usage),
     }
 }

@@ -49,6 +49,10 @@ pub enum Form<'a> {
     Lines {
         source: &'a str,
     },
+    /// The lines of a machine file that have words.
+    Plan {
+        machine: &'a str,
+    },
     NoForm,
 }
 
@@ -122,6 +126,7 @@ fn one_form<'a>(form: &str, file: &'a str) -> Form<'a>
     match form {
         "alone" => Form::Alone { machine: file },
         "lines" => Form::Lines { source: file },
+        "plan" => Form::Plan { machine: file },
         _ => Form::NoForm,
     }
 }

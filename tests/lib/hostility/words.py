@@ -62,6 +62,8 @@ ENDLESS = [
             {"zero.cell": b"cell-machine 1\nlines 1\nbudget 1\nspe\nsource /dev/zero\n"}),
     refused("a machine file of hunt without an end", [HUNT, "/dev/zero", "1"], 5, "^hunt: machine file is too long"),
     refused("a missing machine file of run_trace", [TRACER, "alone", "missing.cell"], 3, "^run_trace: cannot read machine file"),
+    refused("a machine file without an end, of which the plan is asked", [TRACER, "plan", "/dev/zero"], 5, "^run_trace: machine file is too long"),
+    refused("a missing machine file, of which the plan is asked", [TRACER, "plan", "missing.cell"], 3, "^run_trace: cannot read machine file"),
 ]
 
 ROWS = [*NAMES, *NO_FORMS, *NUMBERS, *ENDLESS]
