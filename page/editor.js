@@ -6,7 +6,7 @@ import { asTabs, byId, make, markTab, withCode } from './dom.js';
 const SOURCE = /^[ \t]*source[ \t]+([^ \t#\n\r]+)/gm, INDENT = /^[ \t]*/;
 const base = name => name.slice(name.lastIndexOf('/') + 1);
 
-/** The sources that a machine file names, each once. @param {string} text */
+/** The sources that a machine file names, each once, also while it has a faulty line and so no plan. @param {string} text */
 export const sourcesOf = text => [...new Set([...text.matchAll(SOURCE)].map(found => found[1]))];
 
 export class Editor {

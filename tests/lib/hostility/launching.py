@@ -19,6 +19,7 @@ PATH_WITHOUT_KIT = "/usr/bin:/bin"
 MACHINE = b"cell-machine 1\nlines 1\nbudget 1\nspe\n"
 PROGRAM = """#!/bin/sh
 [ "$1 $3" = "check /dev/null" ] && { echo "cell: record file, line 1" >&2; exit 5; }
+[ "$1" = plan ] && exit
 echo "ran ${0##*/} ${*%% --until *}"
 """
 # What `rt all check` and `rt run` print and leave, as far as the launcher looks at it. With the file `slow` it never ends, and says where it is.

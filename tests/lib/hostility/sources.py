@@ -181,6 +181,8 @@ OF_PLACES = [
     Row("site_lines: a carriage return in a comment", ["tools/site_lines", "a.cell"], 0, printed=r"^race \| x 0 at 0x00000 reuse_race.s:5$",
         standard_input=b"race | x 0 at 0x00000\n", files={"a.cell": f"# a comment\r spe\n{MACHINE}source reuse_race.s\n".encode()},
         examples=["races/reuse_race.s"]),
+    Row("site_lines: a faulty machine file", ["tools/site_lines", "a.cell"], 2, said=r"^site_lines: a\.cell:5: no line of a machine file\n    tools/explain a\.cell says",
+        files={"a.cell": MACHINE.encode() + b"source\n"}, standard_input=b"race\n"),
     Row("site_lines: a number of 5,000 digits", ["tools/site_lines", "a.cell"], 2, said="is no site of a.cell",
         standard_input=f"race | h {DIGITS}\n".encode(), files={"a.cell": MACHINE.encode()}),
 ]

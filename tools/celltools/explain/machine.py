@@ -8,6 +8,7 @@ from typing import DefaultDict, Dict, Iterable, Iterator, List, Mapping, NamedTu
 from celltools.common.texts import MOST_BYTES, bytes_of, number_of
 from celltools.explain.report import MOST, Report, cell, cell_of, in_latin, short
 from celltools.explain.source import explain_source
+from celltools.run.plans import PlanLine, plan_of
 from celltools.run.runs import Refused
 from celltools.source.language import STORE
 from celltools.source.names import name_in, named_by_labels
@@ -38,26 +39,18 @@ class Placed(NamedTuple):
 
 
 class Seen:
-    """What the accepted lines of a machine file said."""
+    """What the accepted lines of a machine file said, as far as the next one hangs on it. A file with a faulty line has no plan that would say it."""
 
     def __init__(self) -> None:
         self.heads, self.memory = 0, 0
         self.counts = dict.fromkeys(MOST_LINES, 0)
-        self.begun: List[int] = []  # the line of each `spe`
         self.entries: Set[int] = set()  # the processors that have one
-        self.placed: List[Placed] = []
-        self.sources: List[Tuple[int, int, str]] = []  # line, processor, name
 
     @property
     def spe(self) -> int:
         return self.counts["spe"] - 1
 
-    def place(self, number: int, address: int) -> str:
-        """An address that the line of a number has placed, with its name, if it has one."""
-        name = "".join(label_at(source, address) for line, _, source in self.sources if line == number)
-        return f"0x{address:05x}" + (f" ({name})" if name else "")
-
-    def take(self, number: int, words: Sequence[str]) -> None:
+    def take(self, words: Sequence[str]) -> None:
         """Takes an accepted line."""
         name = words[0]
         if name in HEADS:
@@ -66,14 +59,31 @@ class Seen:
                 self.memory = int(words[1], 0) * LINE
         if name in self.counts:
             self.counts[name] += 1
-        if name == "spe":
-            self.begun.append(number)
-        elif name in ("code", "bytes"):
-            self.placed.append(Placed(number, self.spe, int(words[1], 0), len(words[2]) // 2, name))
-        elif name == "source":
-            self.sources.append((number, self.spe, words[1]))
-        elif name == "entry":
+        if name == "entry":
             self.entries.add(self.spe)
+
+
+class Placing:
+    """What the lines of a machine file put into the stores, by its plan."""
+
+    def __init__(self, plan: Sequence[PlanLine]) -> None:
+        self.begun = [line.number for line in plan if line.words[0] == "spe"]
+        self.placed: List[Placed] = []
+        self.sources: List[Tuple[int, int, str]] = []  # line, processor, name
+        for line in plan:
+            if line.spe is not None:
+                self.take(line.number, line.spe, line.words)
+
+    def take(self, number: int, spe: int, words: Sequence[str]) -> None:
+        if words[0] in ("code", "bytes"):
+            self.placed.append(Placed(number, spe, int(words[1], 0), len(words[2]) // 2, words[0]))
+        elif words[0] == "source":
+            self.sources.append((number, spe, words[1]))
+
+    def place(self, number: int, address: int) -> str:
+        """An address that the line of a number has placed, with its name, if it has one."""
+        name = "".join(label_at(source, address) for line, _, source in self.sources if line == number)
+        return f"0x{address:05x}" + (f" ({name})" if name else "")
 
 
 def label_at(source: str, address: int) -> str:
@@ -204,7 +214,7 @@ class MachineFile:
     def take(self, end: int) -> None:
         for at in range(self.taken, end):
             if words := words_of(self.lines[at]):
-                self.seen.take(at + 1, words)
+                self.seen.take(words)
         self.taken = max(self.taken, end)
 
     def mended(self, at: int) -> str:
@@ -227,6 +237,13 @@ class MachineFile:
         self.lines[at] = b"spe" if is_spe else b""
         return why
 
+    def plan(self) -> Sequence[PlanLine]:
+        """What the lines say, now that the faulty ones are mended; nothing where they aren't all."""
+        try:
+            return plan_of(b"\n".join(self.lines))
+        except Refused:
+            return ()
+
     def whole(self) -> str:
         """What the program says of the file when all its lines and sources are in order."""
         at = [at for at, line in enumerate(self.lines) if words_of(line)][2]
@@ -241,10 +258,10 @@ def image_ranges(name: str) -> Iterator[Tuple[int, int]]:
             yield int(words[1], 16), len(words[2]) // 2
 
 
-def source_places(seen: Seen, explained: Mapping[str, bool]) -> List[Placed]:
+def source_places(placing: Placing, explained: Mapping[str, bool]) -> List[Placed]:
     """What the lines of a machine file place, those of sources with their images, in the order of the lines."""
-    places = list(seen.placed)
-    for number, spe, name in seen.sources:
+    places = list(placing.placed)
+    for number, spe, name in placing.sources:
         if explained.get(name):
             places += [Placed(number, spe, start, size, "source") for start, size in image_ranges(name)]
     return sorted(places, key=lambda place: place.line)
@@ -266,7 +283,7 @@ class Stores:
         return (first, start + there.index(first)) if first < number else None
 
 
-def machine_warnings(seen: Seen, places: Iterable[Placed]) -> Iterator[Tuple[int, str]]:
+def machine_warnings(placing: Placing, places: Iterable[Placed]) -> Iterator[Tuple[int, str]]:
     stores = Stores()
     told: Set[int] = set()
     for place in places:
@@ -274,9 +291,9 @@ def machine_warnings(seen: Seen, places: Iterable[Placed]) -> Iterator[Tuple[int
         if covered and place.kind != "bytes" and place.line not in told:
             told.add(place.line)
             linker = " (each source begins at 0, and nothing is linked)" if place.kind == "source" else ""
-            yield place.line, f"covers {seen.place(*covered)}, which line {covered[0]} has placed: the later stays{linker}"
-    filled = {place.spe for place in places} | {spe for _, spe, _ in seen.sources}
-    for spe, number in enumerate(seen.begun):
+            yield place.line, f"covers {placing.place(*covered)}, which line {covered[0]} has placed: the later stays{linker}"
+    filled = {place.spe for place in places} | {spe for _, spe, _ in placing.sources}
+    for spe, number in enumerate(placing.begun):
         if spe not in filled:
             yield number, f"nothing is placed in the store of processor {spe}, which stops at once with 0"
 
@@ -291,11 +308,11 @@ def placed_at(said: str, places: Iterable[Placed]) -> Optional[int]:
     return lines[-1] if lines else None
 
 
-def refusal_of(said: str, seen: Seen, places: Iterable[Placed]) -> Tuple[Optional[int], str]:
+def refusal_of(said: str, placing: Placing, places: Iterable[Placed]) -> Tuple[Optional[int], str]:
     """What the program says of a whole machine file, in words, and the number of the line that it means, if it means one."""
     found = re.search(r"source (\d+)", said)
-    if found and int(found[1]) < len(seen.sources):
-        number, _, source = seen.sources[int(found[1])]
+    if found and int(found[1]) < len(placing.sources):
+        number, _, source = placing.sources[int(found[1])]
         return number, f"{said}: it is `{source}`"
     line = placed_at(said, places)
     return line, f"{said}: the word spells no instruction" if line else said
@@ -314,10 +331,10 @@ def source_text(source: str) -> bytes:
         raise Refused(f"`{source}`: {why.strerror}") from None
 
 
-def explain_sources(name: str, seen: Seen, report: Report) -> Dict[str, bool]:
+def explain_sources(name: str, placing: Placing, report: Report) -> Dict[str, bool]:
     """Explains each source that a machine file names; for each whether it has an image."""
     explained: Dict[str, bool] = {}
-    for number, _, source in seen.sources:
+    for number, _, source in placing.sources:
         if source in explained:
             continue
         explained[source] = False
@@ -340,11 +357,12 @@ def explain_machine(name: str, data: bytes, report: Report) -> None:
         if count == MOST:
             report.fault(name, f"only the first {MOST} faulty lines are told")
             break
-    explained = explain_sources(name, file.seen, report)
-    places = source_places(file.seen, explained)
+    placing = Placing(file.plan())
+    explained = explain_sources(name, placing, report)
+    places = source_places(placing, explained)
     said = file.whole() if report.refusals == before else ""
     if said:
-        number, words = refusal_of(said, file.seen, places)
+        number, words = refusal_of(said, placing, places)
         report.fault(f"{name}:{number}" if number else name, words)
-    for number, words in machine_warnings(file.seen, places):
+    for number, words in machine_warnings(placing, places):
         report.warning(f"{name}:{number}", words)

@@ -4,9 +4,10 @@ import hashlib
 import re
 from typing import Iterator, List, Optional
 
-from celltools.common.texts import MOST_BYTES, bytes_of
+from celltools.common.texts import bytes_of
 from celltools.hunt.outputs import Explained, Json, has_fault
 from celltools.run.hunted import record_of_hunt
+from celltools.run.plans import sources_of
 from celltools.run.runs import Refused
 from celltools.run.snapshots import Snapshot
 from celltools.source.sites import Sites
@@ -15,7 +16,6 @@ from celltools.telling.waiting import waiting_of
 
 SITE = re.compile(r"\b(?:[xpear] (\d+) at 0x([0-9a-f]+)|(\d+) running at 0x([0-9a-f]+)|h (\d+))\b", re.A)
 FINE = "AllStopped"
-SOURCE = re.compile(rb"^[ \t]*source[ \t]+([^ \t#\n\r]+)", re.M)
 
 
 def place_of(sites: Sites, part: str) -> Optional[str]:
@@ -61,11 +61,9 @@ class Explainer:
 
 def sum_of_files(machine: str, others: List[str]) -> str:
     """A checksum of a machine file, its sources, and other files, by their bytes and in this order."""
-    text = bytes_of(machine, MOST_BYTES)
-    sources = [name.decode("utf-8", "surrogateescape") for name in SOURCE.findall(text)]
     whole = hashlib.sha256()
-    for name in [machine, *sources, *others]:
-        whole.update(hashlib.sha256(bytes_of(name, MOST_BYTES)).digest())
+    for name in [machine, *sources_of(machine), *others]:
+        whole.update(hashlib.sha256(bytes_of(name)).digest())
     return whole.hexdigest()
 
 

@@ -4,6 +4,7 @@ from typing import Any, Dict, Iterator, List, Optional
 
 from celltools.common.repository import ROOT
 from celltools.page.bundle import Unmade
+from celltools.run.plans import sources_in
 
 Entry = Dict[str, Any]  # an example or a group of them, as the page has it
 
@@ -11,7 +12,6 @@ GROUP, LESSON = re.compile(r"## (.+)"), re.compile(r"### (\d+\. .+)")
 RECORD = re.compile(r"    tools/picture (?:--run \d+ )?examples/races/(\w+)\.cell ")
 MENDS = re.compile(r"\*\*What mends it\*\* \(`(\w+)`\): (.+)")
 LINK = re.compile(r"\[([^\]]+)\]\([^)]*\)")
-SOURCE = re.compile(r"^[ \t]*source[ \t]+([^ \t#\n\r]+)", re.M)
 ROW = re.compile(r"^\| (`[^|]+`) \| ([^|]+) \|$", re.M)
 OWN_WORDS = "A sum by a loop: write your own in its place. A `source` line of the machine file brings a tab for it."
 MOST_SAID = 240  # characters of what is said of an example
@@ -65,8 +65,7 @@ def lesson_of(title: str, text: str) -> Entry:
 def head_of(name: str) -> List[str]:
     """What the comments at the front of a machine file say, or of its first source where it has none."""
     text = (ROOT / machine_of(name)).read_text(encoding="utf-8")
-    source = SOURCE.search(text)
-    found = HEAD.match(text) or source and HEAD.match((ROOT / source[1]).read_text(encoding="utf-8"))
+    found = HEAD.match(text) or next((HEAD.match((ROOT / name).read_text(encoding="utf-8")) for name in sources_in(text.encode())), None)
     return [beginning(re.sub(r"\s*#\s*", " ", re.split(r":\n", found[0])[0]).strip())] if found else []
 
 
@@ -109,7 +108,7 @@ def files_of(machines: List[str], own: Dict[str, str]) -> Dict[str, str]:
     for machine in machines:
         if machine not in found:
             found[machine] = (ROOT / machine).read_text(encoding="utf-8")
-            found.update({name: (ROOT / name).read_text(encoding="utf-8") for name in SOURCE.findall(found[machine])})
+            found.update({name: (ROOT / name).read_text(encoding="utf-8") for name in sources_in(found[machine].encode())})
     return dict(sorted(found.items()))
 
 

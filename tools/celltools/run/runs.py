@@ -8,7 +8,7 @@ import sys
 from typing import TYPE_CHECKING, Iterable, List, Sequence, Union
 
 from celltools.common.repository import LAUNCH, built
-from celltools.common.texts import bytes_of, decoded
+from celltools.common.texts import bytes_of
 
 Path = Union[str, "os.PathLike[str]"]
 if TYPE_CHECKING:
@@ -38,7 +38,6 @@ MISPLACED = {
     (RECORD, SOURCE): "{record} is a source: name a record, which `./cell run {machine} > FILE` makes",
 }
 FAULTY = {MACHINE: "machine file, line", RECORD: "record file, line"}
-SOURCE_LINE = re.compile(r"^[ \t]*source[ \t]+([^\s#]+)", re.M)
 
 
 class Refused(Exception):
@@ -77,12 +76,13 @@ def misplaced(said: str, machine: Path, record: Path) -> str:
 
 
 def source_named(machine: Path, number: str) -> str:
-    """The source of a number, as a machine file names it."""
+    """The source of a number, as a machine file names it; no name where the file is refused, which has no plan."""
+    from celltools.run import plans  # asks by this module
     try:
-        names = SOURCE_LINE.findall(decoded(bytes_of(machine)))
-    except OSError:
+        names = plans.sources_of(machine) if number.isdecimal() else []
+    except (OSError, Refused):
         names = []
-    return str(names[int(number)]) if number.isdecimal() and int(number) < len(names) else "a source"
+    return names[int(number)] if int(number or 0) < len(names) else "a source"
 
 
 def next_step(said: str, machine: Path, record: Path) -> str:

@@ -3,8 +3,9 @@ import functools
 import re
 from typing import Dict, Iterable, Iterator, List, Optional, Sequence, Set, Tuple
 
-from celltools.common.texts import lines_of
+from celltools.common.texts import bytes_of, lines_in
 from celltools.run.effects import Trace
+from celltools.run.plans import PlanLine, plan_of
 from celltools.run.runs import Path, Refused
 from celltools.source.language import without_comments
 from celltools.source.names import Named, Names, named_by_labels, named_range
@@ -14,7 +15,7 @@ ORIGIN = re.compile(r"\s*(\S+:\d+)(?:\s|$)")  # what from_gas puts at the front 
 LINE_OF = re.compile(r"(\S+?:\d+)(?::\d+)?")  # of an origin, which may have a column behind it
 # The opcodes of branches that set a link, and of the bits of a word that they are.
 CALLS = {(23, 0x66), (23, 0x62), (21, 0x1A9)}
-WORD = re.compile(r"[^ \t]+")  # of a machine file
+FAULTY_LINE = re.compile(r"machine file, line (\d+)$")
 MOST_CALLS = 64  # nested calls that are kept in mind
 
 
@@ -97,12 +98,22 @@ def code_sites(name: object, number: int, address: int, digits: str) -> Dict[int
     return {address + at: Site(name, number, f"the word 0x{word}", int(word, 16), is_source=False) for at, word in words.items()}
 
 
-def machine_lines(machine: Path, name: object) -> List[str]:
-    """The lines of a machine file, which has a name."""
+def machine_text(machine: Path, name: object) -> bytes:
+    """The text of a machine file, which has a name."""
     try:
-        return lines_of(machine)
+        return bytes_of(machine)
     except OSError as why:
         raise Refused(f"{name}: {why.strerror}") from None
+
+
+def plan_lines(text: bytes, name: object) -> Sequence[PlanLine]:
+    """The lines of a machine file that have words, by the name of the file."""
+    try:
+        return plan_of(text)
+    except Refused as why:
+        found = FAULTY_LINE.search(str(why))
+        said = f"{name}:{found[1]}: no line of a machine file\n    tools/explain {name} says it in words" if found else f"{name}: {why}"
+        raise Refused(said) from None
 
 
 class Sites:
@@ -121,30 +132,36 @@ class Sites:
         self.stores: List[List[Named]] = []  # the ranges that have names, of each processor's store
         self.memory: List[Named] = []  # and of main memory
         self.sources: Dict[str, Tuple[Dict[int, Site], Dict[str, Place]]] = {}  # by their names the sites and the labels of each
-        for number, line in enumerate(machine_lines(machine, self.machine), 1):
-            self.memory += filter(None, [named_range(line)])
-            try:
-                self.read(number, WORD.findall(line.partition("#")[0]))
-            except (IndexError, ValueError):
-                raise Refused(f"{self.machine}:{number}: no line of a machine file\n    tools/explain {self.machine} says it in words") from None
+        text = machine_text(machine, self.machine)
+        self.memory += filter(None, map(named_range, lines_in(text)))  # comments, which the plan hasn't
+        for line in plan_lines(text, self.machine):
+            if line.spe is None:
+                self.read_shared(line)
+            else:
+                self.read_placed(line, line.spe)
 
-    def read(self, number: int, words: Sequence[str]) -> None:
-        """Takes in a line of the machine file."""
-        if words[:1] == ["spe"]:
+    def read_placed(self, line: PlanLine, spe: int) -> None:
+        """Takes in a line of the machine file that is of a processor."""
+        word, *words = line.words
+        if word == "spe":
             self.of_processor.append({})
             self.labels.append({})
             self.stores.append([])
-        elif words[:1] == ["source"]:
-            sites, labels = self.of_source(words[1])
-            self.of_processor[-1].update(sites)
-            self.labels[-1].update(labels)
-            self.stores[-1] += named_by_labels(labels)
-        elif words[:1] in (["code"], ["bytes"]):
-            self.of_processor[-1].update(code_sites(self.machine, number, int(words[1], 0), words[2]))
-        elif words[:1] == ["host"]:
-            self.script.append((number, " ".join(words)))
-        elif words[:1] == ["ormode"]:
-            self.or_modes.add((int(words[1], 0), int(words[2], 0)))
+        elif word == "source":
+            sites, labels = self.of_source(words[0])
+            self.of_processor[spe].update(sites)
+            self.labels[spe].update(labels)
+            self.stores[spe] += named_by_labels(labels)
+        elif word in ("code", "bytes"):
+            self.of_processor[spe].update(code_sites(self.machine, line.number, int(words[0], 0), words[1]))
+
+    def read_shared(self, line: PlanLine) -> None:
+        """Takes in a line that is of no processor."""
+        word, *words = line.words
+        if word == "host":
+            self.script.append((line.number, " ".join(line.words)))
+        elif word == "ormode":
+            self.or_modes.add((int(words[0], 0), int(words[1], 0)))
 
     def of_source(self, name: str) -> Tuple[Dict[int, Site], Dict[str, Place]]:
         """The sites and the labels of a source, which is read once."""

@@ -1,14 +1,13 @@
 """Says why a record is no run of a machine file any more: which step it was and how the machine stands there now, and which files are newer than the record."""
 import os
-import re
 import stat
 import tempfile
 from typing import Iterator, List, Optional
 
 from celltools.common.texts import MOST_RECORD_BYTES, bytes_of, decoded
+from celltools.run.plans import sources_of
 from celltools.run.records import steps_in
 from celltools.run.runs import Path, Refused
-from celltools.source.sites import machine_lines
 from celltools.telling.not_allowed import reason
 
 STEPS = {
@@ -16,7 +15,6 @@ STEPS = {
     "r": "the end of command {1} of processor {0}", "a": "the atomic command of processor {0}", "h": "an action of the host",
 }  # fmt: skip
 NO_NAMES = ("/dev/", "/proc/")  # what is there stands for an open file
-SOURCE = re.compile(r"[ \t]*source[ \t]+([^ \t#]+)")
 
 
 def told(machine: Path, record: Path, place: Optional[int]) -> List[str]:
@@ -45,8 +43,7 @@ def newer_files(machine: Path, record: Path) -> Iterator[str]:
     made = changed_at(str(record))
     if made is None:
         return
-    sources = (found[1] for found in map(SOURCE.match, machine_lines(machine, machine)) if found)
-    for name in dict.fromkeys([str(machine), *sources]):
+    for name in dict.fromkeys([str(machine), *sources_of(machine)]):
         changed = changed_at(name)
         if changed is not None and changed > made:
             yield name
