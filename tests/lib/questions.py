@@ -17,6 +17,8 @@ FOUND = 1  # the greatest status of an answer that is no refusal
 RUNS, FEW, RUN, SEED = "12", "4", "5", "2"
 # In the place of the files that users have: a place and numbers that choose the steps of a run, and lines that runs are to end with.
 CHOICES, EXPECTED = ("choices", b"0 0\n1 7\n2 3\n0 1\n" * 20), ("expected", b"host 0 of 0\n")
+FAULTY_SOURCE = "faulty.s", b"_start: il $3\n"
+FAULTY_MACHINE = "faulty.cell", b"cell-machine 1\nlines 1\nspe\n"
 
 
 @dataclasses.dataclass(frozen=True)
@@ -80,9 +82,8 @@ def of_nothing() -> Iterator[Question]:
     for words in (["asm", "none.s"], ["check", "none.cell", "none.out"], ["hunt", "none.cell", FEW], ["trace", "effects", "none.cell", "none.out"], ["frob"],
                   ["hunt"], ["trace", "frob"], ["check", "none.cell"], ["hunt", "none.cell", "0"]):
         yield Question(tuple(words), {})
-    for words in (("asm", "faulty.s"), ("trace", "lines", "faulty.s")):
-        yield Question(words, {"faulty.s": b"_start: il $3\n"})
-    yield Question(("trace", "plan", "faulty.cell"), {"faulty.cell": b"cell-machine 1\nlines 1\nspe\n"})
+    for words, (name, text) in ((("asm",), FAULTY_SOURCE), (("trace", "lines"), FAULTY_SOURCE), (("trace", "plan"), FAULTY_MACHINE)):
+        yield Question((*words, name), {name: text})
 
 
 def questions() -> List[Question]:
@@ -145,7 +146,7 @@ def answers_of(asked: Sequence[Question], folder: pathlib.Path) -> List[Answer]:
 def asked_now(asked: Sequence[Question], folder: pathlib.Path) -> List[Answer]:
     """What they answer, asked side by side."""
     os.symlink(EXAMPLES, folder / "examples")
-    for name, text in (CHOICES, EXPECTED, ("faulty.s", b"_start: il $3\n")):
+    for name, text in (CHOICES, EXPECTED, FAULTY_SOURCE, FAULTY_MACHINE):
         (folder / name).write_bytes(text)
     with concurrent.futures.ThreadPoolExecutor(os.cpu_count()) as pool:
         return list(pool.map(lambda question: answer_of(question, folder), asked))
