@@ -15,15 +15,12 @@ ghost use Rattle.cell_forms.specs.Answer.{Answers, AtMachineOrRecord, Comes, End
 use crate::checking::check_record;
 use crate::fault::{Fault, FileId, Status};
 use crate::judging::Judged;
-use crate::reading::{read_file, read_setup};
+use crate::reading::{RECORD_LIMIT, read_file, read_setup};
 use cell_io::{Sink, SinkFault, Store};
 use cell_machine::Machine;
 use cell_report::verdict_text;
 use race_check::Verdict;
 use std::alloc::Global;
-
-/// How long a record file may be, in bytes.
-const RECORD_LIMIT: usize = 33_554_432;
 
 /// The run that the record file has, judged.
 pub fn read_run<T: Store>(

@@ -20,6 +20,6 @@ mod words;
 
 pub use fault::{Fault, FileId, Status};
 pub use program::{cell, cell_quiet};
-pub use reading::{load_plan, read_file, read_plan, read_setup};
+pub use reading::{RECORD_LIMIT, TEXT_LIMIT, load_plan, read_file, read_plan, read_setup};
 pub use run::write_run;
 pub use words::{Form, form_of};

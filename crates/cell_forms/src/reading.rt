@@ -23,6 +23,9 @@ use std::alloc::Global;
 /// How long a machine file, a source or a script may be, in bytes.
 pub const TEXT_LIMIT: usize = 4_194_304;
 
+/// How long a record file may be, in bytes.
+pub const RECORD_LIMIT: usize = 33_554_432;
+
 /// The bytes of a file, unless there are more than `limit`. It is short of memory only where the store was.
 pub fn read_file<T: Store>(
     alloc: Global,

@@ -1,8 +1,7 @@
 -- The places of a flow controller's allowed steps.
-use Rattle.std.proofs.Common.{◌≡◌, ℕ, zero, suc, ◌+◌, ◌-◌, ◌%◌, ◌<◌, ◌≤◌, ◌==◌, ◌&&◌, not, Bool, true, false, List, [], ◌∷◌, ◌++◌, length, map, drop, arith, refl, sym, ◌∙◌, ap, subst, true≢false, ◌⊎◌, inl, inr}
+use Rattle.std.proofs.Common.{◌≡◌, ℕ, zero, suc, ◌+◌, ◌%◌, ◌<◌, ◌≤◌, ◌==◌, ◌&&◌, not, Bool, true, false, List, [], ◌∷◌, ◌++◌, length, map, drop, arith, refl, sym, ◌∙◌, ap, subst, true≢false, ◌⊎◌, inl, inr}
 use Rattle.std.specs.Prelude.{Option, Some, None, slice_get, nat_lt, nat_le, filter, cond, if◌then◌else◌, find, flat_map, Result, Ok, Err}
 use Rattle.std.specs.Result.{result_ok}
-use Rattle.std.proofs.Math.Nat.{mod-eq_of_lt}
 use Rattle.std.specs.List.{range_with_len}
 use Rattle.std.specs.Option.{option_map_or}
 use Rattle.std.proofs.lemmas.Bool.Decides.{nat_tests}
@@ -13,7 +12,7 @@ use Rattle.mfc_command.specs.Order.{outstanding as outstanding_of}
 use Rattle.mfc_lists.specs.declared.Element.{Element}
 use Rattle.mfc_queue.specs.At.{IsAt}
 use Rattle.mfc_queue.specs.Calls.{Call, outstanding as outstanding_calls, is_outstanding, is_retired, is_marked, issued, parts, left}
-use Rattle.mfc_queue.proofs.AtLemmas.{ok-of, at-here}
+use Rattle.mfc_queue.proofs.AtLemmas.{at-here}
 use Rattle.std.proofs.Math.ListN.{length-map}
 use Rattle.std.proofs.lemmas.List.{nil_from_length}
 use Rattle.cell_machine.specs.Shown.{parts_missing, parts_left}
@@ -45,28 +44,9 @@ pub first-at : (r : Result Step ℕ) (n : ℕ) (xs : List Step) → IsAt r n xs 
 first-at (Ok s) n xs h = sym h
 first-at (Err k) n xs h = sym (get_past xs n k h)
 
--- the choice within the allowed steps is its own remainder
-got_within : (xs : List Step) (n : ℕ) (s : Step) → slice_get xs n ≡ Some s → n < length xs
-got_within [] n s h = absurd (cc)
-got_within (x ∷ xs) zero s h = omega arith
-got_within (x ∷ xs) (suc n) s h = let r = got_within xs n s h in omega arith
-
-remainder_small : (n m : ℕ) → n < m → n % m ≡ n
-remainder_small n m h = mod-eq_of_lt h
-
-pub picked-at : (r : Result Step ℕ) (n : ℕ) (xs : List Step) (s : Step) → r ≡ Ok s → IsAt r n xs → Some s ≡ slice_get xs (n % length xs)
-picked-at r n xs s e h =
-    let g = ok-of r n xs s e h in
-    sym (ap (slice_get xs) (remainder_small n (length xs) (got_within xs n s g)) ∙ g)
-
-pub picked-none : (n rest count : ℕ) (xs : List Step) → n ≡ length xs + rest → count ≡ n - rest → count ≡ 0 → None ≡ slice_get xs (n % length xs)
-picked-none n rest count [] a b c = refl
-picked-none n rest count (x ∷ xs) a b c = absurd (omega arith)
-
-pub picked-left : (r : Result Step ℕ) (n rest count at : ℕ) (xs : List Step) → n ≡ length xs + rest → count ≡ n - rest → at ≡ n % count → IsAt r at xs → result_ok r ≡ slice_get xs (n % length xs)
-picked-left r n rest count at xs a b c h =
-    let e : count ≡ length xs = omega arith in
-    first-at r at xs h ∙ ap (slice_get xs) (c ∙ ap (λ k. n % k) e)
+pub picked-none : (n : ℕ) (xs : List Step) → length xs ≡ 0 → None ≡ slice_get xs (n % length xs)
+picked-none n [] e = refl
+picked-none n (x ∷ xs) e = absurd (omega arith)
 
 -- ---- the pieces of a command
 

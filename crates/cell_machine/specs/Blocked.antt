@@ -1,5 +1,6 @@
 -- Processors that are known to be blocked.
 use Rattle.std.specs.Prelude.{◌≡◌, ◌≢◌, ℕ, true, List, Some, None, slice_get}
+use Rattle.cell_base.specs.Bits.{has_bit}
 use Rattle.cell_machine.specs.declared.processor.Processor.{Processor}
 use Rattle.cell_machine.specs.declared.blocked.Blocked.{Blocked}
 use Rattle.cell_machine.specs.Spe.{Spe}
@@ -12,7 +13,7 @@ IsBlocked c = (lines : ℕ) (P : Spe) → ShowsSpe c P → exec lines P ≡ None
 
 -- each processor that is marked is blocked
 abbrev pub AreBlocked : Blocked → List Processor → Type 0
-AreBlocked w processors = (p : ℕ) (c : Processor) → slice_get w.marks p ≡ Some true → slice_get processors p ≡ Some c → IsBlocked c
+AreBlocked w processors = (p : ℕ) (c : Processor) → has_bit w.bits p ≡ true → slice_get processors p ≡ Some c → IsBlocked c
 
 -- all but one are as before
 abbrev pub AreBut : ℕ → List Processor → List Processor → Type 0

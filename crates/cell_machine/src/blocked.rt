@@ -1,12 +1,14 @@
 //! Which processors are known to be blocked.
 
-ghost use Rattle.std.specs.Prelude.{◌≡◌, ◌<◌, ℕ, List, Some, true, slice_get};
+ghost use Rattle.std.specs.Prelude.{◌≡◌, ℕ, ◌<◌, ◌≤◌, List, Some, true, false, slice_get};
+ghost use Rattle.cell_base.specs.Bits.{has_bit};
 ghost use Rattle.cell_machine.specs.declared.processor.Processor.{Processor as AProcessor};
 
-/// Of each processor whether it is known that its next instruction isn't allowed. It needn't be tried again before something changes at it.
+/// The processors of which it is known that their next instruction isn't allowed, as bits: processor p is the bit of value 2^p.
+/// They needn't be tried again before something changes at them.
 #[derive(Clone, Copy)]
 pub(crate) struct Blocked {
-    marks: [bool; 16],
+    bits: u16,
 }
 
 impl Blocked {
@@ -16,15 +18,25 @@ impl Blocked {
     pub(crate) fn new() -> Blocked
         ensures { (processors : List AProcessor) → AreBlocked result processors }
     {
-        Blocked { marks: [false; 16] }
+        Blocked { bits: 0 }
     }
 
     /// Whether this processor is known to be blocked.
     pub(crate) fn has(&self, spe: u8) -> bool
         requires { spe < 16 }
-        ensures { result ≡ true → slice_get self.now.marks spe ≡ Some true }
+        ensures { result ≡ has_bit self.now.bits spe }
     {
-        self.marks[spe as usize]
+        (self.bits >> spe) & 1 == 1
+    }
+
+    /// The first processor from this one on that isn't known to be blocked, be it there or not.
+    pub(crate) fn first_other(&self, from: u8) -> u8
+        requires { from ≤ 16 }
+        ensures from { from ≤ result }
+        ensures before { (p : ℕ) → from ≤ p → p < result → has_bit self.now.bits p ≡ true }
+        ensures other { has_bit self.now.bits result ≡ false }
+    {
+        from + (u32::from(self.bits) >> from).trailing_ones() as u8
     }
 
     /// Takes in whether this processor, which alone may have changed, is blocked.
@@ -32,14 +44,18 @@ impl Blocked {
         requires { spe < 16 }
         ensures { (before processors : List AProcessor) → AreBlocked self.old before → AreBut spe before processors → ((c : AProcessor) → is_blocked ≡ true → slice_get processors spe ≡ Some c → IsBlocked c) → AreBlocked self.new processors }
     {
-        self.marks[spe as usize] = is_blocked;
+        if is_blocked {
+            self.bits |= 1 << spe;
+        } else {
+            self.bits &= !(1 << spe);
+        }
     }
 
     /// Takes in that any processor may have changed.
     pub(crate) fn forget(&mut self)
         ensures { (processors : List AProcessor) → AreBlocked self.new processors }
     {
-        self.marks = [false; 16];
+        self.bits = 0;
     }
 
     /// Takes in that this processor has changed, alone or with others.

@@ -1,9 +1,11 @@
 //! The machine: processors that execute instructions of their local stores, one atomic step at a time, and the record of those steps.
 #![tactic(auto)]
 
+mod acting;
 mod atomics;
 mod blocked;
 mod channels;
+mod choosing;
 mod commands;
 mod effect;
 mod effects;

@@ -1,23 +1,17 @@
 //! The whole machine.
 
-ghost use Rattle.std.specs.Prelude.{◌≡◌, ◌+◌, ◌*◌, ◌<◌, ◌≤◌, ◌↔◌, [], ◌∷◌, ◌++◌, Some, None, true, is_some, length, IfOk, IsOk, OnErr, IsSome, IsSomeAnd, IfSome, IfNone, MatchBool, All, slice_get};
-ghost use Rattle.std.specs.Bool.{OnFalse};
+ghost use Rattle.std.specs.Prelude.{◌≡◌, ◌+◌, ◌*◌, ◌<◌, ◌≤◌, ◌↔◌, [], ◌∷◌, ◌++◌, Some, None, length, IfOk, IsOk, OnErr, IsSome, IsSomeAnd, IfSome, IfNone, All, slice_get};
 ghost use Rattle.cell_base.specs.Records.{AreSteps};
 ghost use Rattle.cell_base.specs.declared.steps.Step.{Step};
-ghost use Rattle.cell_base.specs.declared.steps.Step.TheVariants.{Atomic, Exec, Piece};
-ghost use Rattle.cell_machine.specs.State.{State};
-ghost use Rattle.cell_machine.specs.Next.{act, closed_in, next};
+ghost use Rattle.cell_machine.specs.Next.{act, next};
 ghost use Rattle.cell_machine.specs.Moves.{outstanding};
 ghost use Rattle.cell_machine.specs.Exec.{asks};
 ghost use Rattle.cell_machine.specs.Shown.{line_held_by, line_reserved_by, shown_from};
-ghost use Rattle.cell_machine.specs.Kept.{IsKept};
-ghost use Rattle.cell_machine.specs.Choices.{all_of_spus, all_of_mfcs};
 ghost use Rattle.spu_exec.specs.Places.{IsPlace};
 ghost use Rattle.spu_regs.specs.Registers.{register};
-ghost use Rattle.cell_host.specs.Script.{Progress};
 ghost use Rattle.cell_machine.specs.Opening.{Opening, opening_spes};
 ghost use Rattle.cell_machine.specs.Limits.{IsOpening, shown};
-ghost use Rattle.cell_machine.specs.Run.{Ran, IsRun, state_of, next_of, spe_of, picked_of, first_of, first_allowed, picked, allowed, is_quiet, IsEnd};
+ghost use Rattle.cell_machine.specs.Run.{Ran, IsRun, state_of, next_of, spe_of, picked_of, first_of, picked, allowed, is_quiet, IsEnd};
 ghost use Rattle.cell_machine.specs.Actors.{MissesNone};
 ghost use Rattle.cell_machine.specs.Effects.{effect_in};
 ghost use Rattle.cell_machine.specs.EffectLaws.{FixesOnce, LooksAlone, WritesAlone};
@@ -26,20 +20,19 @@ ghost use Rattle.cell_machine.specs.Lists.{ListsAreInOrder};
 ghost use Rattle.cell_machine.specs.Locks.{AreLocksKept};
 ghost use Rattle.cell_machine.specs.Sound.{EachByte, EffectsFit, IsSound};
 ghost use Rattle.cell_machine.specs.ByteRuns.{RunsOnBytes};
-ghost use Rattle.lock_lines.specs.Stands.{HasSameSize};
-ghost use Rattle.cell_machine.specs.Shows.{Shows, AllTwo, ShowsSpe, IsFit, CanGo, AreSettled};
+ghost use Rattle.cell_machine.specs.Shows.{AllTwo, ShowsSpe};
 ghost use Rattle.cell_machine.specs.Blocked.{AreBlocked};
 
+use crate::acting::{act, act_first, act_picked};
 use crate::blocked::Blocked;
+use crate::choosing::{first_step, is_quiet, nth_step};
 use crate::effect::Effect;
 use crate::effects::effect_of;
 use crate::error::MachineError;
-use crate::hosts::{act_host, may_act_host};
 use crate::memory::SharedMemory;
 use crate::outstanding::Outstanding;
 use crate::processor::Processor;
 use crate::setup::{PlacedBytes, Setup};
-use crate::signals::{lose, spread};
 use crate::status::{End, Refused, Status};
 use cell_base::{Actor, ChannelOp, Quad, Step};
 use cell_channels::Channels;
@@ -78,140 +71,6 @@ impl Model for Machine {
     ghost invariant = { λ a. IsMachine a.setup a.steps.items (vec_capacity a.steps) a.processors.items a.memory a.host × AreBlocked a.blocked a.processors.items };
 }
 
-/// Makes the next instruction of a processor, or leaves all as it is where it isn't allowed.
-#[inline(always)]
-fn act_exec(
-    processors: &mut [Processor],
-    memory: &SharedMemory,
-    blocked: &mut Blocked,
-    spe: u8,
-) -> bool
-    requires many { length processors.old ≤ 16 }
-    requires can { CanGo processors.old memory.now }
-    requires blocked { AreBlocked blocked.old processors.old }
-    ensures made { (host : Progress) (M : State) → Shows processors.old memory.now host M → AreSettled M.spes → MatchBool result (IsSomeAnd (act M (Exec spe)) (λ N. Shows processors.new memory.now host (closed_in M (Exec spe) N))) (act M (Exec spe) ≡ None) }
-    ensures refused { OnFalse result (processors.new ≡ processors.old) }
-    ensures blocked { AreBlocked blocked.new processors.new }
-{
-    if spe as usize >= processors.len() {
-        return false;
-    }
-    if blocked.has(spe) {
-        return false;
-    }
-    let made = processors[spe as usize].exec_step(memory.bytes.lines());
-    blocked.tell(spe, !made);
-    made
-}
-
-/// Copies or delivers the piece, or leaves all as it is where it isn't allowed.
-fn act_piece(
-    processors: &mut [Processor],
-    memory: &mut SharedMemory,
-    blocked: &mut Blocked,
-    spe: u8,
-    cmd: u32,
-    elem: u16,
-    part: u16,
-) -> bool
-    requires many { length processors.old ≤ 16 }
-    requires can { CanGo processors.old memory.old }
-    requires small { length memory.old.bytes ≤ 67108864 }
-    requires blocked { AreBlocked blocked.old processors.old }
-    ensures made { (host : Progress) (M : State) → Shows processors.old memory.old host M → AreSettled M.spes → MatchBool result (IsSomeAnd (act M (Piece spe cmd elem part)) (λ N. Shows processors.new memory.new host (closed_in M (Piece spe cmd elem part) N))) (act M (Piece spe cmd elem part) ≡ None) }
-    ensures refused { OnFalse result ((processors.new ≡ processors.old) × (memory.new ≡ memory.old)) }
-    ensures size { HasSameSize memory.old.locks memory.new.locks }
-    ensures blocked { AreBlocked blocked.new processors.new }
-{
-    if spe as usize >= processors.len() {
-        return false;
-    }
-    let Some(reach) = processors[spe as usize].piece_step(memory, cmd, elem, part) else {
-        return false;
-    };
-    spread(processors, reach);
-    blocked.wake(spe, reach.is_none());
-    true
-}
-
-/// Does the atomic command of the slot, or leaves all as it is where it isn't allowed.
-fn act_atomic(
-    processors: &mut [Processor],
-    memory: &mut SharedMemory,
-    blocked: &mut Blocked,
-    spe: u8,
-) -> bool
-    requires many { length processors.old ≤ 16 }
-    requires can { CanGo processors.old memory.old }
-    requires small { length memory.old.bytes ≤ 67108864 }
-    requires blocked { AreBlocked blocked.old processors.old }
-    ensures made { (host : Progress) (M : State) → Shows processors.old memory.old host M → AreSettled M.spes → MatchBool result (IsSomeAnd (act M (Atomic spe)) (λ N. Shows processors.new memory.new host (closed_in M (Atomic spe) N))) (act M (Atomic spe) ≡ None) }
-    ensures refused { OnFalse result ((processors.new ≡ processors.old) × (memory.new ≡ memory.old)) }
-    ensures size { HasSameSize memory.old.locks memory.new.locks }
-    ensures blocked { AreBlocked blocked.new processors.new }
-{
-    if spe as usize >= processors.len() {
-        return false;
-    }
-    let Some(losers) = processors[spe as usize].atomic_step(memory, spe) else {
-        return false;
-    };
-    lose(processors, losers);
-    blocked.wake(spe, losers == 0);
-    true
-}
-
-/// Does the step, or leaves all as it is where it isn't allowed.
-fn act(
-    processors: &mut [Processor],
-    memory: &mut SharedMemory,
-    host: &mut Host,
-    blocked: &mut Blocked,
-    s: Step,
-) -> bool
-    requires many { length processors.old ≤ 16 }
-    requires fit { IsFit (length processors.old) memory.old host.old }
-    requires can { CanGo processors.old memory.old }
-    requires blocked { AreBlocked blocked.old processors.old }
-    ensures made { (M : State) → Shows processors.old memory.old host.old M → AreSettled M.spes → MatchBool result (IsSomeAnd (act M s) (λ N. Shows processors.new memory.new host.new (closed_in M s N))) (act M s ≡ None) }
-    ensures refused { OnFalse result ((processors.new ≡ processors.old) × (memory.new ≡ memory.old) × (host.new ≡ host.old)) }
-    ensures size { HasSameSize memory.old.locks memory.new.locks }
-    ensures script { host.new.script ≡ host.old.script }
-    ensures blocked { AreBlocked blocked.new processors.new }
-{
-    let lines = memory.bytes.lines();
-    match s {
-        Step::Exec { spe } => act_exec(processors, memory, blocked, spe),
-        Step::Piece {
-            spe,
-            cmd,
-            elem,
-            part,
-        } => act_piece(processors, memory, blocked, spe, cmd, elem, part),
-        Step::Elem { spe, cmd } => {
-            if spe as usize >= processors.len() {
-                return false;
-            }
-            let made = processors[spe as usize].elem_step(lines, cmd);
-            blocked.wake(spe, true);
-            made
-        }
-        Step::Retire { spe, cmd } => {
-            if spe as usize >= processors.len() {
-                return false;
-            }
-            let made = processors[spe as usize].retire_step(cmd);
-            blocked.wake(spe, true);
-            made
-        }
-        Step::Atomic { spe } => act_atomic(processors, memory, blocked, spe),
-        Step::Host => {
-            blocked.forget();
-            act_host(processors, memory, host)
-        }
-    }
-}
-
 /// The processors at the start.
 fn opening_processors(
     alloc: Global,
@@ -229,228 +88,6 @@ fn opening_processors(
         processors.push(Processor::new(alloc, spe as u8, entries[spe], or_modes, placed)?)?;
     }
     Ok(processors)
-}
-
-/// The first allowed step of the first actor that has one.
-fn first_step(processors: &[Processor], host: &Host) -> Option<Step>
-    requires many { length processors.now ≤ 16 }
-    requires kept { All (λ c. IsKept c.commands.queue) processors.now }
-    ensures { (memory : SharedMemory) (M : State) → Shows processors.now memory host.now M → result ≡ first_allowed M }
-{
-    let of_spus = first_of_spus(processors);
-    if of_spus.is_some() {
-        return of_spus;
-    }
-    first_of_others(processors, host)
-}
-
-/// The same where no instruction is allowed.
-fn first_of_others(processors: &[Processor], host: &Host) -> Option<Step>
-    requires many { length processors.now ≤ 16 }
-    requires kept { All (λ c. IsKept c.commands.queue) processors.now }
-    ensures { (memory : SharedMemory) (M : State) → Shows processors.now memory host.now M → slice_get (all_of_spus M) 0 ≡ None → result ≡ first_allowed M }
-{
-    let of_mfcs = first_of_mfcs(processors);
-    if of_mfcs.is_some() {
-        return of_mfcs;
-    }
-    first_of_host(processors, host)
-}
-
-/// The first allowed instruction.
-fn first_of_spus(processors: &[Processor]) -> Option<Step>
-    requires { length processors.now ≤ 16 }
-    ensures { (memory : SharedMemory) (host : Progress) (M : State) → Shows processors.now memory host M → result ≡ slice_get (all_of_spus M) 0 }
-{
-    for spe in 0..processors.len() {
-        let processor = &processors[spe];
-        if processor.may_exec() {
-            return Some(Step::Exec { spe: spe as u8 });
-        }
-    }
-    None
-}
-
-/// The first allowed step of the first flow controller that has one.
-fn first_of_mfcs(processors: &[Processor]) -> Option<Step>
-    requires many { length processors.now ≤ 16 }
-    requires kept { All (λ c. IsKept c.commands.queue) processors.now }
-    ensures { (memory : SharedMemory) (host : Progress) (M : State) → Shows processors.now memory host M → result ≡ slice_get (all_of_mfcs M) 0 }
-{
-    for spe in 0..processors.len() {
-        let processor = &processors[spe];
-        let first = processor.first_of_mfc(spe as u8);
-        if first.is_some() {
-            return first;
-        }
-    }
-    None
-}
-
-/// The host's step, if it is allowed.
-fn first_of_host(processors: &[Processor], host: &Host) -> Option<Step>
-    ensures { (memory : SharedMemory) (M : State) → Shows processors.now memory host.now M → result ≡ slice_get (allowed M Actor.Host) 0 }
-{
-    if may_act_host(processors, host) {
-        Some(Step::Host)
-    } else {
-        None
-    }
-}
-
-/// Whether no processor runs, no slot is taken and no command is outstanding.
-fn is_quiet(processors: &[Processor]) -> bool
-    ensures { (memory : SharedMemory) (host : Progress) (M : State) → Shows processors.now memory host M → result ≡ is_quiet M }
-{
-    for processor in processors {
-        if !processor.is_quiet() {
-            return false;
-        }
-    }
-    true
-}
-
-/// The allowed step of the actor at the place that is the choice's remainder.
-#[inline(always)]
-fn nth_step(processors: &[Processor], host: &Host, actor: Actor, choice: u64) -> Option<Step>
-    requires { All (λ c. IsKept c.commands.queue) processors.now }
-    ensures { (memory : SharedMemory) (M : State) → Shows processors.now memory host.now M → result ≡ picked M actor choice }
-{
-    match actor {
-        Actor::Spu(spe) => {
-            if spe as usize >= processors.len() {
-                return None;
-            }
-            let processor = &processors[spe as usize];
-            if processor.may_exec() {
-                Some(Step::Exec { spe })
-            } else {
-                None
-            }
-        }
-        Actor::Mfc(spe) => {
-            if spe as usize >= processors.len() {
-                return None;
-            }
-            let processor = &processors[spe as usize];
-            processor.pick_of_mfc(spe, choice)
-        }
-        Actor::Host => first_of_host(processors, host),
-    }
-}
-
-/// Does a step that is allowed, and answers it.
-fn act_allowed(
-    processors: &mut [Processor],
-    memory: &mut SharedMemory,
-    host: &mut Host,
-    blocked: &mut Blocked,
-    s: Step,
-) -> Option<Step>
-    requires many { length processors.old ≤ 16 }
-    requires fit { IsFit (length processors.old) memory.old host.old }
-    requires can { CanGo processors.old memory.old }
-    requires blocked { AreBlocked blocked.old processors.old }
-    ensures done { (M : State) → Shows processors.old memory.old host.old M → AreSettled M.spes → is_some (next M s) ≡ true → result ≡ Some s }
-    ensures made { (M : State) → Shows processors.old memory.old host.old M → AreSettled M.spes → IfSome result (λ t. IsSomeAnd (act M t) (λ N. Shows processors.new memory.new host.new (closed_in M t N))) }
-    ensures refused { IfNone result ((processors.new ≡ processors.old) × (memory.new ≡ memory.old) × (host.new ≡ host.old)) }
-    ensures size { HasSameSize memory.old.locks memory.new.locks }
-    ensures script { host.new.script ≡ host.old.script }
-    ensures blocked { AreBlocked blocked.new processors.new }
-{
-    if act(processors, memory, host, blocked, s) {
-        Some(s)
-    } else {
-        None
-    }
-}
-
-/// Does the step that the actor has for this choice, and answers it, or leaves all as it is where it has none.
-/// An instruction is made at once: where it isn't allowed, nothing has changed.
-#[inline(always)]
-fn act_picked(
-    processors: &mut [Processor],
-    memory: &mut SharedMemory,
-    host: &mut Host,
-    blocked: &mut Blocked,
-    actor: Actor,
-    choice: u64,
-) -> Option<Step>
-    requires many { length processors.old ≤ 16 }
-    requires fit { IsFit (length processors.old) memory.old host.old }
-    requires can { CanGo processors.old memory.old }
-    requires blocked { AreBlocked blocked.old processors.old }
-    ensures picked { (M : State) → Shows processors.old memory.old host.old M → AreSettled M.spes → result ≡ picked M actor choice }
-    ensures made { (M : State) → Shows processors.old memory.old host.old M → AreSettled M.spes → IfSome result (λ s. IsSomeAnd (act M s) (λ N. Shows processors.new memory.new host.new (closed_in M s N))) }
-    ensures refused { IfNone result ((processors.new ≡ processors.old) × (memory.new ≡ memory.old) × (host.new ≡ host.old)) }
-    ensures size { HasSameSize memory.old.locks memory.new.locks }
-    ensures script { host.new.script ≡ host.old.script }
-    ensures blocked { AreBlocked blocked.new processors.new }
-{
-    match actor {
-        Actor::Spu(spe) => {
-            if act_exec(processors, memory, blocked, spe) {
-                Some(Step::Exec { spe })
-            } else {
-                None
-            }
-        }
-        _ => {
-            let step = nth_step(processors, host, actor, choice)?;
-            act_allowed(processors, memory, host, blocked, step)
-        }
-    }
-}
-
-/// Makes the first allowed instruction, and answers it, or leaves all as it is where none is allowed.
-#[inline(always)]
-fn act_first_of_spus(
-    processors: &mut [Processor],
-    memory: &SharedMemory,
-    blocked: &mut Blocked,
-) -> Option<Step>
-    requires many { length processors.old ≤ 16 }
-    requires can { CanGo processors.old memory.now }
-    requires blocked { AreBlocked blocked.old processors.old }
-    ensures first { (host : Progress) (M : State) → Shows processors.old memory.now host M → AreSettled M.spes → result ≡ slice_get (all_of_spus M) 0 }
-    ensures made { (host : Progress) (M : State) → Shows processors.old memory.now host M → AreSettled M.spes → IfSome result (λ s. IsSomeAnd (act M s) (λ N. Shows processors.new memory.now host (closed_in M s N))) }
-    ensures refused { IfNone result (processors.new ≡ processors.old) }
-    ensures blocked { AreBlocked blocked.new processors.new }
-{
-    for spe in 0..processors.len() as u8 {
-        if act_exec(processors, memory, blocked, spe) {
-            return Some(Step::Exec { spe });
-        }
-    }
-    None
-}
-
-/// Does the first allowed step of the first actor that has one, and answers it, or leaves all as it is where none is allowed.
-#[inline(always)]
-fn act_first(
-    processors: &mut [Processor],
-    memory: &mut SharedMemory,
-    host: &mut Host,
-    blocked: &mut Blocked,
-) -> Option<Step>
-    requires many { length processors.old ≤ 16 }
-    requires fit { IsFit (length processors.old) memory.old host.old }
-    requires can { CanGo processors.old memory.old }
-    requires blocked { AreBlocked blocked.old processors.old }
-    ensures first { (M : State) → Shows processors.old memory.old host.old M → AreSettled M.spes → result ≡ first_allowed M }
-    ensures made { (M : State) → Shows processors.old memory.old host.old M → AreSettled M.spes → IfSome result (λ s. IsSomeAnd (act M s) (λ N. Shows processors.new memory.new host.new (closed_in M s N))) }
-    ensures refused { IfNone result ((processors.new ≡ processors.old) × (memory.new ≡ memory.old) × (host.new ≡ host.old)) }
-    ensures size { HasSameSize memory.old.locks memory.new.locks }
-    ensures script { host.new.script ≡ host.old.script }
-    ensures blocked { AreBlocked blocked.new processors.new }
-{
-    match act_first_of_spus(processors, memory, blocked) {
-        Some(step) => Some(step),
-        None => {
-            let step = first_of_others(processors, host)?;
-            act_allowed(processors, memory, host, blocked, step)
-        }
-    }
 }
 
 impl Machine {

@@ -1,6 +1,6 @@
 //! The allowed steps of a flow controller: that of its atomic command, then those of its queued ones in the order of their numbers and parts.
 
-ghost use Rattle.std.specs.Prelude.{◌≡◌, ℕ, true, false, ◌%◌, ◌<◌, [], ◌∷◌, Some, length, filter, flat_map, slice_get, if◌then◌else◌};
+ghost use Rattle.std.specs.Prelude.{◌≡◌, ℕ, true, false, ◌%◌, ◌<◌, ◌≤◌, [], ◌∷◌, Some, length, filter, flat_map, slice_get, if◌then◌else◌};
 ghost use Rattle.std.specs.Option.{option_map_or};
 ghost use Rattle.mfc_queue.specs.At.{IsAt};
 ghost use Rattle.mfc_queue.specs.Stands.{IsSeen};
@@ -35,7 +35,8 @@ impl Processor {
     /// How many allowed steps an outstanding command has, where the controller isn't at fault.
     fn count_of_command(&self, cmd: u32, w: Waiting) -> u64
         requires { IsSeen self.now.commands.queue cmd w }
-        ensures { (spe : ℕ) (P : Spe) → ShowsSpe self.now P → is_faulted P.status ≡ false → result ≡ length (allowed_of_number spe P cmd) }
+        ensures count { (spe : ℕ) (P : Spe) → ShowsSpe self.now P → is_faulted P.status ≡ false → result ≡ length (allowed_of_number spe P cmd) }
+        ensures few { result < 8589934592 }
     {
         if !w.may_start {
             return 0;
@@ -107,6 +108,33 @@ impl Processor {
         Err(rest)
     }
 
+    /// How many allowed steps the queued commands have.
+    fn count_of_queue(&self) -> u64
+        requires { IsKept self.now.commands.queue }
+        ensures count { (spe : ℕ) (P : Spe) → ShowsSpe self.now P → result ≡ length (filter (may P) (flat_map (steps_of_number spe P) (outstanding P))) }
+        ensures few { result ≤ 137438953472 }
+    {
+        if self.is_faulted() {
+            return 0;
+        }
+        let mut count = 0;
+        let mut i = 0;
+        while let Some((cmd, w)) = self.commands.queue.outstanding_at(i) {
+            count += self.count_of_command(cmd, w);
+            i += 1;
+        }
+        count
+    }
+
+    /// How many allowed steps there are.
+    fn count_of_mfc(&self) -> u64
+        requires { IsKept self.now.commands.queue }
+        ensures { (spe : ℕ) (P : Spe) → ShowsSpe self.now P → result ≡ length (allowed_of_mfc spe P) }
+    {
+        let count = self.count_of_queue();
+        if self.may_atomic() { count + 1 } else { count }
+    }
+
     /// The allowed step at place `n`, or how far `n` is behind the last one: that of the atomic command stands before the others.
     fn step_of_mfc(&self, spe: u8, n: u64) -> Result<Step, u64>
         requires { IsKept self.now.commands.queue }
@@ -146,16 +174,10 @@ impl Processor {
         if self.is_idle() {
             return None;
         }
-        match self.step_of_mfc(spe, choice) {
-            Ok(step) => Some(step),
-            Err(rest) => {
-                // The choice is behind all allowed steps, so what is left of it says how many there are.
-                let count = choice.saturating_sub(rest);
-                if count == 0 {
-                    return None;
-                }
-                self.step_of_mfc(spe, choice % count).ok()
-            }
+        let count = self.count_of_mfc();
+        if count == 0 {
+            return None;
         }
+        self.step_of_mfc(spe, choice % count).ok()
     }
 }

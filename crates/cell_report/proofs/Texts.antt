@@ -3,12 +3,9 @@ use Rattle.std.proofs.Common.{◌≡◌, ℕ, zero, suc, ◌+◌, ◌<◌, ◌�
 use Rattle.std.specs.Prelude.{Option, Some, None, IsSomeAnd, slice_get, Result, Ok, Err, OnOk}
 use Rattle.std.specs.Option.{option_and_then}
 use Rattle.std.specs.List.{flat_map}
-use Rattle.std.specs.Prelude.{slice_range}
-use Rattle.cell_machine.specs.declared.status.Status.{Status}
 use Rattle.cell_machine.specs.declared.status.End.{End}
 use Rattle.cell_machine.specs.Run.{IsEnd}
 use Rattle.cell_machine.specs.declared.setup.Show.{Show}
-use Rattle.cell_machine.specs.declared.setup.Show.TheVariants.{Memory, Local}
 use Rattle.cell_machine.specs.Spe.{Spe}
 use Rattle.cell_machine.specs.State.{State}
 use Rattle.cell_machine.specs.Moves.{outstanding}

@@ -69,14 +69,29 @@ fn short_line(spe: u8, count: u32) -> [u8; 6]
     [b'x', b' ', b'0' + spe, b' ', b'0' + count as u8, b'\n']
 }
 
+/// The same of a processor whose number has two digits.
+fn longer_line(spe: u8, count: u32) -> [u8; 7]
+    requires high { 10 ≤ spe }
+    requires spe { spe < 100 }
+    requires count { count < 10 }
+    ensures { result ≡ stretch_line (Exec spe) count }
+{
+    let tens = b'0' + spe / 10;
+    let ones = b'0' + spe % 10;
+    [b'x', b' ', tens, ones, b' ', b'0' + count as u8, b'\n']
+}
+
 /// Writes the line of a stretch at the end, which in format 2 stands for a step so many times.
 fn put_stretch(out: &mut Vec<u8>, step: Step, count: u32) -> Result<(), AllocError>
     ensures { OnOk result (out.new.items ≡ out.old.items ++ stretch_line step count) }
 {
     match step {
         Step::Exec { spe } => {
-            if spe < 10 && count < 10 {
+            if count < 10 && spe < 10 {
                 return out.extend_from_slice(&short_line(spe, count));
+            }
+            if count < 10 && spe < 100 {
+                return out.extend_from_slice(&longer_line(spe, count));
             }
             out.push(b'x')?;
             put_field(out, u32::from(spe))?;

@@ -12,16 +12,13 @@ ghost use Rattle.hunt_forms.specs.Files.{name_of, number_named, program_of, prog
 use crate::expected::read_expected;
 use crate::fault::{Fault, FileId};
 use crate::passes::{PassError, read_passes};
-use cell_forms::{Fault as InputFault, load_plan, read_plan};
+use cell_forms::{Fault as InputFault, TEXT_LIMIT, load_plan, read_plan};
 use cell_hunt::Sites;
 use cell_io::{FetchFault, Fetched, Store};
 use cell_load::SourceName;
 use cell_machine::Setup;
 use hunt_reports::{Asked, put_key};
 use std::alloc::{AllocError, Global};
-
-/// How long an expectation file or a pass file may be, in bytes.
-const TEXT_LIMIT: usize = 4_194_304;
 
 /// How many processors a machine can have.
 const MOST_SPES: u8 = 16;

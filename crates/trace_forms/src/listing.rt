@@ -12,13 +12,10 @@ ghost use Rattle.trace_forms.specs.Listings.{ListsText, label_text, listed_text,
 use crate::fault::Fault;
 use crate::reading::fault_of;
 use cell_base::line_text::put_decimal;
-use cell_forms::{Fault as InputFault, FileId, read_file};
+use cell_forms::{Fault as InputFault, FileId, TEXT_LIMIT, read_file};
 use cell_io::Store;
 use spu_asm::{AsmError, Label, ListedLine, Listing, Section, list};
 use std::alloc::{AllocError, Global};
-
-/// How long a source may be, in bytes.
-const SOURCE_LIMIT: usize = 4_194_304;
 
 /// Writes the name of a section behind a blank.
 fn put_section(out: &mut Vec<u8>, section: Section) -> Result<(), AllocError>
@@ -113,7 +110,7 @@ pub fn lines_text<T: Store>(alloc: Global, files: &mut T, source: &str) -> Resul
     ensures cause { IfErr result (FailsBy (lined source.now) (T.ledger files.old) (T.ledger files.new)) }
     ensures comes { ForSome (T.files files.old) (λ told. Comes told (lined source.now) (T.ledger files.old) (T.ledger files.new) result) }
 {
-    let text = match read_file(alloc, files, FileId::Source(0), source, SOURCE_LIMIT) {
+    let text = match read_file(alloc, files, FileId::Source(0), source, TEXT_LIMIT) {
         Ok(text) => text,
         Err(fault) => return Err(fault_of(fault)),
     };

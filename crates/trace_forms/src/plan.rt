@@ -14,13 +14,10 @@ ghost use Rattle.trace_forms.specs.Plans.{PlansText, is_of_latest, plan_text, pl
 use crate::fault::Fault;
 use crate::reading::fault_of;
 use cell_base::line_text::{before_comment, first_line, next_word, put_decimal};
-use cell_forms::{Fault as InputFault, FileId, read_file};
+use cell_forms::{Fault as InputFault, FileId, TEXT_LIMIT, read_file};
 use cell_io::Store;
 use cell_load::{PlanError, read_machine};
 use std::alloc::{AllocError, Global};
-
-/// How long a machine file may be, in bytes.
-const MACHINE_LIMIT: usize = 4_194_304;
 
 /// Whether a line that begins so is of the latest processor.
 fn is_of_latest(word: &[u8]) -> bool
@@ -124,7 +121,7 @@ pub fn planned_text<T: Store>(alloc: Global, files: &mut T, machine: &str) -> Re
     ensures cause { IfErr result (FailsBy (planned machine.now) (T.ledger files.old) (T.ledger files.new)) }
     ensures comes { ForSome (T.files files.old) (λ told. Comes told (planned machine.now) (T.ledger files.old) (T.ledger files.new) result) }
 {
-    let text = match read_file(alloc, files, FileId::Machine, machine, MACHINE_LIMIT) {
+    let text = match read_file(alloc, files, FileId::Machine, machine, TEXT_LIMIT) {
         Ok(text) => text,
         Err(fault) => return Err(fault_of(fault)),
     };

@@ -8,14 +8,11 @@ ghost use Rattle.trace_forms.specs.Choices.{start};
 ghost use Rattle.trace_forms.specs.Files.{FailsAtMachine, FailsAtRecord, IsOfFiles, MachineComes, ReadsRecord, RecordComes};
 
 use crate::fault::Fault;
-use cell_forms::{Fault as InputFault, FileId, read_file, read_setup};
+use cell_forms::{Fault as InputFault, FileId, RECORD_LIMIT, read_file, read_setup};
 use cell_io::Store;
 use cell_machine::Machine;
 use run_record::{RecordError, Recorded, read_record};
 use std::alloc::Global;
-
-/// How long a record file may be, in bytes.
-const RECORD_LIMIT: usize = 33_554_432;
 
 /// What a refusal of the machine file, of a source or of the record file is called here.
 pub fn fault_of(fault: InputFault) -> Fault

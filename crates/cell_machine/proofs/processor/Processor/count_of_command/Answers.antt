@@ -6,15 +6,15 @@ use Rattle.cell_machine.proofs.Places.{waits-none, count-begun, elem-begun, reti
 use Rattle.cell_machine.proofs.SpeShown.{not_of, on_of, begin-is, issued-at, open-of}
 use Rattle.cell_machine.proofs.processor.Processor.count_of_command.Goals as goal
 
-pub returns-then-not-w : goal.returns-then-not-w
-returns-then-not-w c = λ spe P shows sound.
+pub returns-then-not-w-clause-count : goal.returns-then-not-w-clause-count
+returns-then-not-w-clause-count c = λ spe P shows sound.
     let q = shows.queue in
     let w = c.requires.waits q.calls q.stands in
     let at = issued-at q.calls P.moves c.args.cmd c.args.w.command q.moves w.command in
     sym (ap length (waits-none spe P c.args.cmd c.args.w.command at (sym (begin-is q.calls P.moves c.args.cmd q.moves) ∙ sym w.may_start ∙ not_of _ c.if-not-w.true)))
 
-pub returns : goal.returns
-returns c = λ spe P shows sound.
+pub returns-clause-count : goal.returns-clause-count
+returns-clause-count c = λ spe P shows sound.
     let q = shows.queue in
     let d = c.args.w.command in
     let w = c.requires.waits q.calls q.stands in

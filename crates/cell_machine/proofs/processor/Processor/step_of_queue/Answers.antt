@@ -20,7 +20,7 @@ returns-then-rest-count c = λ P shows.
     let q = shows.queue in
     let sound = ap is_faulted shows.status ∙ sym c.is_faulted.ensures ∙ c.if-is_faulted.false in
     let there = ap (λ xs. slice_get xs c.loop-cmd.i) (sym (outstanding-same q.calls P q.moves)) ∙ sym (c.outstanding_at.ensures.number q.calls q.stands) ∙ ap (option_map (λ x. x.0)) c.in-Some.is in
-    let count = c.count_of_command-count.ensures c.args.spe P shows sound in
+    let count = c.count_of_command-count.ensures.count c.args.spe P shows sound in
     c.loop-cmd.invariant P c.step_of_command.result shows
     (subst (IsAt c.step_of_command.result c.loop-cmd.rest) (sym (steps-next c.args.spe P c.loop-cmd.i c.in-Some.cmd there))
     (at-within c.step_of_command.result c.loop-cmd.rest _ _ (omega arith) (c.step_of_command.ensures P shows sound)))
@@ -42,7 +42,7 @@ loop-cmd-preserved c = λ P r shows h.
     let q = shows.queue in
     let sound = ap is_faulted shows.status ∙ sym c.is_faulted.ensures ∙ c.if-is_faulted.false in
     let there = ap (λ xs. slice_get xs c.loop-cmd.i) (sym (outstanding-same q.calls P q.moves)) ∙ sym (c.outstanding_at.ensures.number q.calls q.stands) ∙ ap (option_map (λ x. x.0)) c.in-Some.is in
-    let count = c.count_of_command-count.ensures c.args.spe P shows sound in
+    let count = c.count_of_command-count.ensures.count c.args.spe P shows sound in
     c.loop-cmd.invariant P r shows
     (subst (IsAt r c.loop-cmd.rest) (sym (steps-next c.args.spe P c.loop-cmd.i c.in-Some.cmd there)) (at-behind r c.loop-cmd.rest _ _ _ (omega arith) h))
 

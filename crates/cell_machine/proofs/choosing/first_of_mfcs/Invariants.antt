@@ -1,0 +1,13 @@
+use Rattle.std.proofs.Common.{◌≡◌, ◌-◌, length}
+use Rattle.cell_base.specs.declared.steps.Actor.TheVariants.{Mfc}
+use Rattle.cell_host.specs.Script.{Progress}
+use Rattle.cell_machine.specs.declared.memory.SharedMemory.{SharedMemory}
+use Rattle.cell_machine.specs.State.{State}
+use Rattle.cell_machine.specs.Choices.{all_of_mfcs}
+use Rattle.cell_machine.specs.Shows.{Shows}
+use Rattle.cell_machine.proofs.Choices.{from_actor}
+use Rattle.cell_machine.proofs.choosing.first_of_mfcs.Given as goal
+
+-- none below has an allowed step
+abbrev pub invariant-loop-spe : goal.invariant-loop-spe
+invariant-loop-spe l = (memory : SharedMemory) (host : Progress) (M : State) → Shows l.processors memory host M → all_of_mfcs M ≡ from_actor M Mfc l.spe (length M.spes - l.spe)
