@@ -8,5 +8,5 @@ returns c =
     let n = c.args.spe in
     let below = c.requires.spe in
     let two : decimal n ≡ (48 + n / 10) ∷ (48 + n % 10) ∷ [] =
-        decimal_step n c.requires.high (omega arith) ∙ ap (λ ds. ds ++ (48 + n % 10) ∷ []) (decimal_digit (n / 10) (omega arith)) in
+    decimal_step n c.requires.high (omega arith) ∙ ap (λ ds. ds ++ (48 + n % 10) ∷ []) (decimal_digit (n / 10) (omega arith)) in
     rw (two, decimal_digit c.args.count c.requires.count) refl
