@@ -4,10 +4,10 @@ from typing import Dict, List, Mapping, Optional, Sequence, Union
 
 from .answers import Hunt, Image, Run, Step, Verdict, hunt_of, image_of, run_of, step_of, verdict_of
 from .errors import error_of
-from .library import Bytes, ask, bytes_of
+from .library import Bytes, ask
 
 # The names of texts that have none of their own. No machine file can name a source so, since they have a blank.
-SOURCE, RECORD, EXPECTED, LEFT_OUT = "the source", "the record", "the expected lines", "the races that are left out"
+MACHINE, SOURCE, RECORD, EXPECTED, LEFT_OUT = "the machine file", "the source", "the record", "the expected lines", "the races that are left out"
 FOUND = 1  # the greatest status of an answer that is no refusal
 
 Files = Mapping[str, Bytes]
@@ -15,9 +15,10 @@ Record = Union[Run, Bytes]
 
 
 def sources_of(machine: Bytes) -> List[str]:
-    """The names of the sources that a machine file has, in their order."""
-    lines = (line.split("#", 1)[0].split() for line in bytes_of(machine).decode("utf-8", "surrogateescape").split("\n"))
-    return [words[1] for words in lines if len(words) == 2 and words[0] == "source"]
+    """The names of the sources that a machine file has, in their order, as the library reads it: none where it is faulty, since each call says so of it."""
+    status, text = ask(["trace", "plan", MACHINE], {MACHINE: machine})
+    lines = (line.split(" ") for line in text.decode("utf-8", "surrogateescape").splitlines()) if status <= FOUND else ()
+    return [words[1] for _, _, *words in lines if words[0] == "source"]
 
 
 def files_of(machine: Union[str, "os.PathLike[str]"], folder: Union[str, "os.PathLike[str]"] = ".") -> Dict[str, bytes]:
