@@ -21,8 +21,8 @@ enum cell_status {
     CELL_NO_MEMORY = 7
 };
 
-/* Does what the words ask for, with these files. The words stand one on a line. Each file is its name, a line feed, its number of bytes in decimal, a line feed,
-   and its bytes; the next one comes right behind it.
+/* Does what the words ask for, with these files. The words stand one on a line; behind the last one the line feed may be missing, unless it is empty. Each file is
+   its name, a line feed, its number of bytes in decimal, a line feed, and its bytes; the next one comes right behind it.
 
    Puts the output, or for a status above 1 the line that says why there is none, into `out`, of `room` bytes, and its length into `*written`. Where it is longer
    than `room`, nothing is put, and `*written` is its length all the same. It reads no file of the disk, prints nothing, and keeps nothing between two calls: it

@@ -41,14 +41,14 @@ export class Editor {
   /** The program with its files alone. @returns {Project} */
   get program() {
     const { machine, files } = this.project;
-    return { machine, files: Object.fromEntries(this.names.filter(name => name in files).map(name => [name, files[name]])) };
+    return { machine, files: Object.fromEntries(this.names.filter(name => Object.hasOwn(files, name)).map(name => [name, files[name]])) };
   }
 
   /** Shows a file, at a line if one is named. @param {string} file @param {number} [line] */
   show(file, line) {
     if (!this.names.includes(file)) return;
     this.file = file;
-    this.text.value = this.project.files[file] || '';
+    this.text.value = Object.hasOwn(this.project.files, file) ? this.project.files[file] : '';
     this.text.setAttribute('aria-label', `${file === this.project.machine ? 'machine file' : 'source'} ${file}`);
     this.drawTabs();
     this.draw();

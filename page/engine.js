@@ -39,7 +39,7 @@ export class ModuleEngine {
       new Uint8Array(exports.memory.buffer).set(data, Number(at));
       return [at, BigInt(data.length)];
     };
-    const asked = put(encoder.encode(words.join('\n'))), given = put(bundleOf(files)), out = take(room), written = take(8);
+    const asked = put(encoder.encode(words.map(word => `${word}\n`).join(''))), given = put(bundleOf(files)), out = take(room), written = take(8);
     const status = exports.cell_answer(...asked, ...given, out, BigInt(room), written);
     const count = Number(new DataView(exports.memory.buffer).getBigUint64(Number(written), true));
     if (status === NO_ROOM) return this.ask(words, files, count);

@@ -19,7 +19,7 @@ export async function linkOf(project) {
 export async function programIn(part) {
   try {
     const { m, f } = JSON.parse(new TextDecoder().decode(await unpacked(bytesOf(part.replaceAll('-', '+').replaceAll('_', '/')))));
-    const is_right = typeof m === 'string' && typeof f === 'object' && Object.values(f).every(text => typeof text === 'string') && m in f;
+    const is_right = typeof m === 'string' && typeof f === 'object' && Object.values(f).every(text => typeof text === 'string') && Object.hasOwn(f, m);
     return is_right ? { machine: m, files: f } : null;
   } catch {
     return null;

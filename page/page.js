@@ -58,6 +58,8 @@ function choose(example) {
 }
 /** Opens the program of a link, which stands in the list from then on. @param {Project} project */
 function openLinked(project) {
+  keepChanges();
+  opened = null; // the link before, whose changes aren't those of this one
   changed.delete(LINKED);
   examples.set(LINKED, { id: LINKED, title: 'A program from a link', words: [], mends: '', mended: null, ...project });
   drawList();
@@ -68,7 +70,9 @@ function keepChanges() {
   if (isChanged()) changed.set(opened.id, editor.program);
   else changed.delete(opened.id);
 }
-const isChanged = () => opened !== null && JSON.stringify(editor.program) !== JSON.stringify(programOf(opened));
+const isChanged = () => opened !== null && isAnother(programOf(opened));
+/** Whether a program is another one than that of the editor. @param {Project} project */
+const isAnother = project => JSON.stringify(project) !== JSON.stringify(editor.program);
 
 /** Draws what is told of the program that is open. */
 function drawOpened() {
@@ -159,9 +163,10 @@ function refuse(why) {
   byId('nothing').hidden = false;
   say(why);
 }
-/** Takes a run. @param {string} record @param {string} title */
-function take(record, title, project = editor.program) {
+/** Takes a run of a program, which may have changed while it was made. @param {string} record @param {string} title @param {Project} project */
+function take(record, title, project) {
   results.take({ project, record, stamp: ++stamp }, title);
+  byId('stale').hidden = !isAnother(project);
 }
 const run = () => doing(async () => {
   const project = editor.program;
@@ -177,6 +182,7 @@ const hunt = () => doing(async () => {
   const project = editor.program, runs = Math.max(1, Math.min(1_000_000, Math.floor(+byId('runs').value) || 200));
   byId('runs').value = String(runs);
   results.hunted(await ask('hunt', project, runs), Object.keys(project.files));
+  byId('stale').hidden = !isAnother(project);
   hunted = project;
 });
 /** Shows a run of the hunt. @param {number} number @param {string} panel */
@@ -206,9 +212,17 @@ function toggleTheme() {
   root.dataset.theme = is_dark ? 'light' : 'dark';
   results.theme();
 }
-/** What the part of the address behind # asks for. */
+/** The part of the address behind #. */
+function addressPart() {
+  try {
+    return decodeURIComponent(location.hash.slice(1));
+  } catch {
+    return 'program='; // a link that was cut
+  }
+}
+/** Opens what the address asks for. */
 async function openAddress() {
-  const part = decodeURIComponent(location.hash.slice(1));
+  const part = addressPart();
   if (part.startsWith('program=')) {
     const found = await programIn(part.slice('program='.length));
     if (found) openLinked(found);

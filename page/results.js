@@ -15,7 +15,7 @@ const ENDS = { AllStopped: 'ran to its end', Stuck: 'stuck', Budget: 'spent its 
 const statesOf = (text, label = 'the states') => make('pre', { tabindex: '0', 'aria-label': label }, text);
 const count = new Intl.NumberFormat('en').format;
 
-/** The panels, each with what makes it of a run. */
+/** The panels. All but `hunt` are made of a run by the method of the same name. */
 const PANELS = ['result', 'race', 'steps', 'picture', 'orders', 'hunt'];
 
 export class Results {
@@ -49,6 +49,7 @@ export class Results {
     this.pair = null;
     this.drawn.clear();
     this.place = -1;
+    this.count = 0;
     byId('frame').removeAttribute('srcdoc');
     byId('stale').hidden = true;
     for (const panel of PANELS) if (panel !== 'hunt' || !made) byId(`tab-${panel}`).disabled = !made || panel === 'orders' || panel === 'hunt';
@@ -105,7 +106,7 @@ export class Results {
     const { verdict, pair, words } = await this.ask('check', made);
     if (made !== this.made) return;
     this.pair = pair;
-    byId('tab-orders').disabled = !pair;
+    byId('tab-orders').disabled = !words.length;
     if (!pair) {
       this.verdict('no race', 'good');
       byId('race').replaceChildren(make('p', {}, `${this.title} has no race: check says `, make('code', {}, verdict), '.'),
@@ -115,6 +116,11 @@ export class Results {
     }
     const [first, second] = pair;
     this.verdict(`race: steps ${first} and ${second}`, 'bad');
+    if (!words.length) {
+      byId('race').replaceChildren(make('p', {}, `${this.title} has a race: check says `, make('code', {}, verdict), '. It has too many steps to be explained here.'));
+      say(`race: steps ${first} and ${second}`);
+      return;
+    }
     this.page.mark([...placesIn(words[0].lines), ...placesIn(words[1].lines)].map(place => ({ ...place, kind: 'race' })));
     const section = ({ title, lines }, k) => make('section', { class: k < 2 ? 'card' : k === words.length - 1 ? 'card remedy' : '' },
       make('h3', {}, ...linked(title, this.ways)), make('ul', {}, ...lines.map(line => itemOf(line, this.ways))));

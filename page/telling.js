@@ -112,9 +112,11 @@ function hold(made) {
   load(made.project, made.record);
   held = { stamp: made.stamp, run: null, steps: null };
 }
+/** How many steps a run has. @param {Made} made */
+const stepsIn = made => Number((/^steps (\d+)$/m.exec(made.record) || [])[1]);
 /** Refused where a run has too many steps. @param {Made} made */
 function refuseLong(made) {
-  const steps = Number((/^steps (\d+)$/m.exec(made.record) || [])[1]);
+  const steps = stepsIn(made);
   const [has, most] = [steps, MOST_STEPS].map(number => number.toLocaleString('en'));
   if (steps > MOST_STEPS) throw new Refusal(`the run has ${has} steps, and the page tells of at most ${most} one by one: the tools in a clone take more`);
 }
@@ -132,19 +134,21 @@ export function ending(made) {
   return attempt(() => {
     const lines = made.record.split('\n'), steps = lines.findIndex(line => line.startsWith('steps ')), states = lines.slice(steps + 1).filter(Boolean);
     const word = (states.find(line => line.startsWith('end ')) || '').slice('end '.length), { faults_of, has_faults } = importOf('celltools.telling.faults');
-    const count = +lines[steps].slice('steps '.length), is_told = count <= MOST_STEPS;
+    const count = stepsIn(made), is_told = count <= MOST_STEPS;
     const waits = is_told && (word === 'Stuck' || word === 'Budget') ? importOf('celltools.telling.waiting').waiting_of(made.project.machine, RECORD) : [];
     return { word, count, states, waits: [...waits, ...(is_told && has_faults(states) ? faults_of(made.project.machine, RECORD) : [])] };
   });
 }
-/** What `check` says of a run, and of a race why. @param {Made} made */
+/** What `check` says of a run, and of a race why; of a run with too many steps not why. @param {Made} made */
 export function check(made) {
   hold(made);
   return attempt(() => {
     const [verdict] = importOf('celltools.run.runs').verdict(made.project.machine, RECORD), pair = PAIR.exec(verdict);
     if (!pair) return { verdict, pair: null, words: [] };
+    const places = [+pair[1], +pair[2]];
+    if (stepsIn(made) > MOST_STEPS) return { verdict, pair: places, words: [] };
     const drawn = drawnRun(made), { race_words } = importOf('celltools.picture.story');
-    return { verdict, pair: [+pair[1], +pair[2]], words: race_words(drawn, drawn.race).map(([title, lines]) => ({ title, lines: [...lines] })) };
+    return { verdict, pair: places, words: race_words(drawn, drawn.race).map(([title, lines]) => ({ title, lines: [...lines] })) };
   });
 }
 /** The picture of a run, a page of its own. @param {Made} made */

@@ -24,10 +24,11 @@ def sources_of(machine: Bytes) -> List[str]:
 def files_of(machine: Union[str, "os.PathLike[str]"], folder: Union[str, "os.PathLike[str]"] = ".") -> Dict[str, bytes]:
     """The bytes of a machine file and of its sources, by their names, which are taken from a folder, as by the program. Of a faulty one its own alone. OSError where one
     can't be read."""
-    files: Dict[str, bytes] = {}
     machine = os.fspath(machine)
-    for name in (machine, *sources_of(bytes_in(folder, machine))):
-        files[name] = bytes_in(folder, name)
+    files = {machine: bytes_in(folder, machine)}
+    for name in sources_of(files[machine]):
+        if name not in files:
+            files[name] = bytes_in(folder, name)
     return files
 
 

@@ -19,7 +19,7 @@ class CellError(Exception):
 
 
 class Misused(CellError):
-    """The words are no form of the program."""
+    """The words are no form of the program, or one of them or the name of a file has a line feed, which the library can't take."""
 
 
 class NotRead(CellError):
@@ -27,7 +27,7 @@ class NotRead(CellError):
 
     def __init__(self, status: int, said: str, file: Optional[str]) -> None:
         super().__init__(status, said if file is None else f"{said}: {file} isn't among the files")
-        self.file = file
+        self.said, self.file = said, file
 
 
 class Faulty(CellError):

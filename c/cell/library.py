@@ -5,7 +5,7 @@ import os
 import pathlib
 from typing import Mapping, NamedTuple, Sequence, Union
 
-from .errors import NO_ROOM, LibraryMissing
+from .errors import MISUSED, NO_ROOM, LibraryMissing, Misused
 
 FILE = "libcell.so"
 NAMED_BY = "CELL_LIBRARY"  # the variable of the environment that names another library
@@ -41,18 +41,25 @@ def bytes_of(text: Bytes) -> bytes:
     return text.encode("utf-8", "surrogateescape") if isinstance(text, str) else bytes(text)
 
 
+def line_of(text: str) -> bytes:
+    """A word, or the name of a file, as the library takes it: on a line of its own."""
+    if "\n" in text:
+        raise Misused(MISUSED, "a word or the name of a file has a line feed")
+    return bytes_of(f"{text}\n")
+
+
 def bundle_of(files: Mapping[str, Bytes]) -> bytes:
     """The files as the library takes them."""
     parts = []
     for name, text in files.items():
         own = bytes_of(text)
-        parts += [bytes_of(name), b"\n%d\n" % len(own), own]
+        parts += [line_of(name), b"%d\n" % len(own), own]
     return b"".join(parts)
 
 
 def ask(words: Sequence[str], files: Mapping[str, Bytes]) -> Answer:
-    """What the program answers to these words, with these files."""
-    asked, given = bytes_of("\n".join(words)), bundle_of(files)
+    """What the program answers to these words, with these files. Misused where a word or a name has a line feed."""
+    asked, given = b"".join(map(line_of, words)), bundle_of(files)
     answer, written, room = library().cell_answer, ctypes.c_size_t(), FIRST_ROOM
     while True:
         out = ctypes.create_string_buffer(room)
