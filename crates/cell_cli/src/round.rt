@@ -2,8 +2,8 @@
 //!
 //! With nothing to hold it up, a worker that has the turn makes hundreds of steps while the others rest, and the first is through before
 //! the second starts: a run then hardly ever comes in another order. Here a baton goes round. Who has it takes a burst of turns and hands it
-//! to a worker by chance; the others sleep, each on a word of its own. Nobody waits for longer than a moment, so that a baton that was
-//! handed to a worker whose run is over holds nobody up.
+//! to a worker by chance; the others sleep, each on a word of its own. Nobody waits for longer than a moment, or four before its first turn,
+//! so that a baton that was handed to a worker whose run is over holds nobody up.
 
 use spe_workers::Gate;
 use std::array;

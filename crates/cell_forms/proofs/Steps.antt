@@ -8,12 +8,12 @@ use Rattle.spu_asm.specs.Assembling.{assembled}
 use Rattle.spu_asm.specs.Outcomes.{Gives}
 use Rattle.spu_asm.specs.declared.error.AsmError.{AsmError}
 use Rattle.spu_asm.specs.declared.error.AsmError.TheVariants.{At, Memory as AsmMemory}
-use Rattle.cell_load.specs.Sources.{Named, sources_of}
+use Rattle.cell_load.specs.Sources.{Named}
 use Rattle.cell_machine.specs.Opening.{Opening}
 use Rattle.cell_machine.specs.Run.{Ran}
 use Rattle.cell_load.specs.Entries.{Entry}
 use Rattle.cell_load.specs.Order.{machine_at}
-use Rattle.cell_load.specs.Loaded.{loaded, NoRow, LoadGives}
+use Rattle.cell_load.specs.Loaded.{NoRow, LoadGives}
 use Rattle.cell_load.specs.Plans.{PlanGives}
 use Rattle.cell_load.specs.declared.plan.PlanError.{PlanError}
 use Rattle.cell_load.specs.declared.plan.PlanError.TheVariants.{BadLine, Limit, Memory as PlanMemory}

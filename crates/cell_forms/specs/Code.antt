@@ -11,7 +11,7 @@ abbrev pub status_of : Verdict → Status
 status_of Accepted = Done
 status_of (Racing first second) = Race first second
 
--- the exit code
+-- the exit status
 abbrev pub code_of : Status → ℕ
 code_of Done = 0
 code_of (Race first second) = 1

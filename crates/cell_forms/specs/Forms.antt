@@ -19,7 +19,7 @@ use Rattle.cell_forms.specs.declared.fault.FileId.{FileId}
 use Rattle.cell_forms.specs.declared.fault.FileId.TheVariants.{Machine, Source, Rec, Script}
 use Rattle.cell_forms.specs.Task.{Task, Work, refuse, ready, judge, read, run_of, text_of, verdict_of, gen_of, reordering_of}
 
--- how long a machine file, a source or a script may be
+-- how long a machine file, a source or a script may be, in bytes; so may the expectation files and pass files that hunt_forms reads
 abbrev pub text_limit : ℕ
 text_limit = 4194304
 
@@ -68,7 +68,7 @@ machine_task name next = plan_task name (λ entries. planned_task entries next)
 abbrev pub run_task : List ℕ → Task
 run_task machine = machine_task machine (λ setup. ready (run_of setup))
 
--- how long a record file may be
+-- how long a record file may be, and a choice file of trace_forms
 abbrev pub record_limit : ℕ
 record_limit = 33554432
 

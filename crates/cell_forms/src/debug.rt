@@ -8,7 +8,7 @@ ghost use Rattle.cell_debug.specs.Fits.{FitsSetup};
 ghost use Rattle.cell_forms.specs.Causes.{IsOfInput};
 ghost use Rattle.cell_forms.specs.Task.{ready, text_of};
 ghost use Rattle.cell_forms.specs.Forms.{debug_task};
-ghost use Rattle.cell_forms.specs.Answer.{Answers, AtMachineOrScript, Comes, Ends, FailsBy, IsQuiet, ReadFails};
+ghost use Rattle.cell_forms.specs.Answer.{Answers, AtMachineOrScript, Comes, FailsBy, IsQuiet, ReadFails};
 
 use crate::asm::write_text;
 use crate::causes::script_fault;

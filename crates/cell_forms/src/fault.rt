@@ -45,15 +45,19 @@ pub enum Fault {
         address: u32,
         word: u32,
     },
+    /// The first line of the record file that is outside the form of a record.
     BadRecord {
         line: u32,
     },
+    /// The first step of the record, counted from 0, that isn't allowed or is one more than the budget.
     NotARun {
         at: u32,
     },
+    /// The first byte of the record file, counted from 0, that isn't the one of its record with the states of that run; where it ends early, its end.
     StatesDiffer {
         at: u32,
     },
+    /// The number of `gen`, which is above 64.
     TooLarge {
         n: u32,
     },

@@ -30,7 +30,7 @@ fn write_summary<K: Sink>(alloc: Global, n: u32, machine: &Machine, out: &mut K)
     ensures sink_count { K.faults out.old ≤ K.faults out.new }
     ensures ends { Ends (gen_of n) (record { taken = K.taken out.old; faults = K.faults out.old }) (record { taken = K.taken out.new; faults = K.faults out.new }) result }
 {
-    let _run = machine.steps();
+    let _run = machine.steps(); // which are a run, as its contract says
     let Ok(verdict) = check_races(alloc, machine) else {
         return Status::Refused(Fault::Memory);
     };

@@ -15,7 +15,7 @@ use race_check::{Search, Verdict};
 use run_record::{NotARun, replay};
 use std::alloc::Global;
 
-/// A run that was made again, and the verdict on it; where it has no race and is to be reordered, what was looked at.
+/// A run that was made again, and the verdict on it; where it is to be reordered, what was looked at, which is of the whole run where that has no race.
 #[derive(Drop)]
 pub struct Judged {
     pub machine: Machine,

@@ -14,12 +14,10 @@ mod permute;
 mod program;
 mod reading;
 mod run;
-#[cfg(test)]
-mod tests;
 mod words;
 
 pub use fault::{Fault, FileId, Status};
 pub use program::{cell, cell_quiet};
 pub use reading::{RECORD_LIMIT, TEXT_LIMIT, load_plan, read_file, read_plan, read_setup};
 pub use run::write_run;
-pub use words::{Form, form_of};
+pub use words::{Form, form_of, number_of};

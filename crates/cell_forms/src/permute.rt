@@ -79,8 +79,8 @@ fn write_reordering<K: Sink>(alloc: Global, judged: &Judged, n: u32, out: &mut K
     }
 }
 
-/// Does what `permute` asks for, with this machine file, this record file and this number: goes as `check` does up to the races, and
-/// writes the record and the states of the run in the order of the number, where the run has no race and is settled.
+/// Does what `permute` asks for, with this machine file, this record file and this number: goes as `check` does, and writes the verdict where the
+/// run has a race, and else, where it is settled, the record and the states of the run in the order of the number.
 pub fn permute<T: Store, K: Sink>(
     alloc: Global,
     machine: &str,

@@ -47,10 +47,10 @@ pub fn cell_quiet<T: Store, K: Sink>(
     }
 }
 
-/// Does what the words ask for: reads files, and writes to the sink. Refusals are tried in this order: the words, the machine
+/// Does what the words ask for: reads files, and writes to the sink. Refusals are tried in this order: the words, the number of `gen`, the machine
 /// file (read, length, form), each source in turn (read, length, assembling), the instruction words, the record file (read, length, form,
-/// steps, states) or the script (read, length, form), a run to reorder that isn't settled, the output. A record is searched for races when
-/// nothing of the files refuses; a race is answered once its verdict is written. Nothing is written before the output.
+/// steps, states) or the script (read, length, form), a run to reorder that isn't settled, the output. A race is told only where nothing of the
+/// files refuses, and answered once its verdict is written. Nothing is written before the output.
 pub fn cell<R: Threads + Wait + Sync, T: Store, K: Sink, G: Gate + Sync>(
     rt: &R,
     alloc: Global,

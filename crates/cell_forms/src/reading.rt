@@ -20,10 +20,10 @@ use cell_machine::Setup;
 use spu_asm::{Image, assemble};
 use std::alloc::Global;
 
-/// How long a machine file, a source or a script may be, in bytes.
+/// How long a machine file, a source or a script may be, in bytes; so may the expectation files and pass files that hunt_forms reads.
 pub const TEXT_LIMIT: usize = 4_194_304;
 
-/// How long a record file may be, in bytes.
+/// How long a record file may be, in bytes, and a choice file of trace_forms.
 pub const RECORD_LIMIT: usize = 33_554_432;
 
 /// The bytes of a file, unless there are more than `limit`. It is short of memory only where the store was.

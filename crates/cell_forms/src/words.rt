@@ -35,7 +35,7 @@ pub enum Form<'a> {
 }
 
 /// The number that a word is in decimal, without a leading zero.
-fn number_of(word: &str) -> Option<u32>
+pub fn number_of(word: &str) -> Option<u32>
     ensures { result ≡ decimal_number word.now }
 {
     let (n, rest) = number_at(word.as_bytes(), u32::MAX)?;

@@ -3,8 +3,8 @@ ghost use Rattle.std.specs.Prelude.{◌≡◌, ◌<◌, [], length, IfOk};
 ghost use Rattle.cell_turn.specs.Known.{Belongs};
 ghost use Rattle.cell_turn.specs.Told.{Stays};
 
-use crate::holds;
-use cell_base::{Actor, Step};
+use crate::{EXEC, PROGRAM, holds};
+use cell_base::Actor;
 use cell_machine::{End, Machine, Setup};
 use cell_turn::{Pass, Shared, Tried};
 use spe_workers::{Gate, run_machine};
@@ -13,13 +13,6 @@ use std::process::Abort;
 use std::sync::{Barrier, Wait};
 use std::test::Fail;
 use std::thread::{Threads, join_mut};
-
-/// `il $3,5`, `ai $3,$3,-6` and `stop 0x1234`.
-const PROGRAM: [u8; 12] = [
-    0x40, 0x80, 0x02, 0x83, 0x1c, 0xfe, 0x81, 0x83, 0x00, 0x00, 0x12, 0x34,
-];
-
-const EXEC: Step = Step::Exec { spe: 0 };
 
 /// A gate at which each worker waits, before its first turn, until all are there.
 #[derive(Drop)]

@@ -1,19 +1,12 @@
 // One machine and two passes, in one thread.
 ghost use Rattle.std.specs.Prelude.{◌≡◌, [], IfOk};
 
-use crate::holds;
-use cell_base::{Actor, Step};
+use crate::{EXEC, PROGRAM, holds};
+use cell_base::Actor;
 use cell_machine::{End, Machine, Setup};
 use cell_turn::{Shared, Tried, Turned};
 use std::alloc::Global;
 use std::test::Fail;
-
-/// `il $3,5`, `ai $3,$3,-6` and `stop 0x1234`.
-const PROGRAM: [u8; 12] = [
-    0x40, 0x80, 0x02, 0x83, 0x1c, 0xfe, 0x81, 0x83, 0x00, 0x00, 0x12, 0x34,
-];
-
-const EXEC: Step = Step::Exec { spe: 0 };
 
 /// One processor that stops after three steps.
 fn machine(alloc: Global) -> Result<Machine, Fail>

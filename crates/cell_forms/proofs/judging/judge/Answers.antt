@@ -1,4 +1,4 @@
-use Rattle.std.proofs.Common.{sym, ap, ◌∙◌, subst}
+use Rattle.std.proofs.Common.{ap, ◌∙◌, subst}
 use Rattle.cell_machine.specs.Run.{Ran}
 use Rattle.race_check.specs.Reorderings.{EveryReorderingAgrees}
 use Rattle.race_check.specs.Searches.{run_of}

@@ -1,4 +1,4 @@
-use Rattle.std.proofs.Common.{◌≡◌, take}
+use Rattle.std.proofs.Common.{◌≡◌}
 use Rattle.std.specs.Prelude.{is_some}
 use Rattle.race_check.specs.Searches.{IsClear, run_of}
 use Rattle.cell_forms.specs.Judging.{MayLookAt}

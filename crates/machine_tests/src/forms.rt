@@ -2,21 +2,13 @@
 ghost use Rattle.std.specs.Prelude.{map, string_bytes, IfOk};
 ghost use Rattle.cell_forms.specs.Words.{spoken, AsksForNoRun};
 
-use crate::fault::Status;
-use crate::program::{cell, cell_quiet};
+use crate::holds;
+use cell_forms::{Status, cell, cell_quiet};
 use cell_io::{Cut, MemFile, MemSink, MemStore};
 use spe_workers::Gate;
 use std::alloc::{AllocError, Global};
-use std::process::Abort;
 use std::sync::{Barrier, Wait};
 use std::test::Fail;
-
-/// An assertion that is cheap to prove.
-fn holds(rt: &impl Abort, is_so: bool) {
-    if !is_so {
-        panic!(rt; "a test doesn't hold");
-    }
-}
 
 /// A gate at which workers 0 and 1, before their first turns, wait for each other.
 #[derive(Drop)]
