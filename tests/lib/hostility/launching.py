@@ -36,6 +36,10 @@ run)
     mkdir -p out && cat >"out/${{PWD##*/}}" <<'END' && chmod +x "out/${{PWD##*/}}"
 {PROGRAM}END
     ;;
+try)
+    shift
+    echo "tried $*"
+    ;;
 esac
 """
 TOLD = [f"cell: {number} of 3 crates, {name}".encode() for number, name in enumerate(("cell_cli", "hunt", "run_trace"), 1)]
@@ -183,14 +187,26 @@ def shipped_programs_are_compared() -> Iterator[str]:
 
 
 def full_file_is_told() -> Iterator[str]:
-    """A limit on the size of files is told as every output that can't be written, and not by a signal."""
+    """A limit on the size of files is told as every output that can't be written, and not by a signal; of a temporary file, as that."""
     with tempfile.TemporaryDirectory(prefix="cell-limit-") as room:
         folder = pathlib.Path(room)
         (folder / "m.cell").write_bytes(MACHINE + b"show ls 0 0 4096\n")
-        for words in (["cell", "run", "m.cell"], ["hunt", "m.cell", "record", "0"]):
+        (folder / "long.out").write_bytes(bytes(2000))
+        for words, status, said in ((["cell", "run", "m.cell"], 4, "cell: cannot write"), (["hunt", "m.cell", "record", "0"], 4, "hunt: cannot write"),
+                                    (["tools/states", "m.cell", "long.out"], 2, "states: a temporary file: File too large")):
             done = subprocess.run(["sh", "-c", 'ulimit -f 1; exec "$@" >out', "sh", ROOT / words[0], *words[1:]], cwd=folder, stderr=subprocess.PIPE, timeout=SECONDS)
-            if done.returncode != 4 or done.stderr != f"{words[0]}: cannot write\n".encode():
+            if done.returncode != status or done.stderr != f"{said}\n".encode():
                 yield f"{' '.join(words)} into a file that is full ends with status {done.returncode}, and says {done.stderr!r}"
+
+
+def tried_words_are_named_from_the_root() -> Iterator[str]:
+    """Of a program that runs unproved, in another folder, the files that its words name have their whole names, also one that isn't there yet."""
+    with unbuilt() as folder:
+        (folder / "4").touch()
+        words = ["hunt", "--runs", "4", "first.cell", "--until", "enough"]
+        found = ended([str(folder / "tools" / "launch"), *words], folder, SECONDS, MEGABYTES, environment={"PATH": path_with_rt(folder), "CELL_TRY": "1"})
+        if found is None or found.output != f"tried -- --runs 4 {folder}/first.cell --until {folder}/enough\n".encode():
+            yield "\n".join([f"{' '.join(words)} is tried otherwise", *(shown(found) if found else [])])
 
 
 ROWS = [
@@ -199,4 +215,4 @@ ROWS = [
     Row("no machine file", ["tools/sources", "none.cell"], 2, said="cannot open none.cell|none.cell: No such file"),
 ]
 CHECKS = [first_calls_tell_progress, first_hunt_answers, unbuilt_is_no_refusal, killed_build_leaves_nothing, shipped_programs_are_taken,
-          shipped_programs_are_compared, full_file_is_told]
+          shipped_programs_are_compared, full_file_is_told, tried_words_are_named_from_the_root]

@@ -16,7 +16,7 @@ FILES = {
     "m.cell": MACHINE, "s.s": b"_start:\til $3,1\n\tstop 1\n", "m.out": b"cell-record 2\nx 0 2\nsteps 2\n",
     "other.cell": b"cell-machine 1\nlines 1\nbudget 100\nspe\nsource lost.s\n", "bad.cell": MACHINE.replace(b"s.s", b"bad.s"), "bad.s": b"\n\til $3\n",
     "quoted.cell": MACHINE.replace(b"s.s", b'"s.s"'), "blank.cell": MACHINE.replace(b"s.s", b"my s.s"),
-    "empty.cell": b"", "empty.out": b"", "empty.s": b"",
+    "my m.cell": MACHINE, "empty.cell": b"", "empty.out": b"", "empty.s": b"",
 }
 TOOLS = ("race", "picture", "states", "witness", "debug")  # each takes a machine file and a record
 
@@ -51,6 +51,7 @@ ROWS = [
     mistaken("a misspelt file", ["tools/explain", "n.cell"], "^explain: n.cell: No such file"),
     mistaken("an empty file", ["tools/hunts", "empty.out"], "^hunts: empty.out:1: no line of what `./hunt MACHINE --json` prints"),
     mistaken("a target where nothing can be written", ["tools/from_gas", "-o", "/proc/none/whole.s", "s.s"], "^from_gas: /proc/none/whole.s: No such file"),
+    mistaken("a machine file with a blank in its name", ["tools/race", "my m.cell", "n.out"], r"there is no n\.out .*: keep .*, \./cell run 'my m\.cell' > FILE$"),
     mistaken("a run of a faulty machine file", ["tools/race", "--run", "1", "bad.cell"], "it is bad.s: tools/explain bad.cell says it in words"),
 ]
 

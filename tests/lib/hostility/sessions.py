@@ -130,6 +130,8 @@ TEXTS = [
     session("odd lines of a machine file, whose name is no UTF-8", ["actors", "step x0", "where", "record \udcff"],
             r"(?s)x0 .*m\\xff\.cell:6: stop 0.*next m\\xff\.cell:7: host send 0 7.*written to \\xff", words=(NOT_UTF8,), files={NOT_UTF8: SCRIPT},
             after=lambda folder: None if (folder / os.fsdecode(b"\xff")).exists() else "no record"),
+    Row("race: a name with a blank", ("tools/race", "m m.cell", "m.out"), 1, printed=r"tools/witness 'm m\.cell' m\.out$",
+        files={**FILES, "m m.cell": MACHINE}),
     Row("race: odd lines and bytes", ("tools/race", "m.cell", "m.out"), 1, files=ODD_FILES,
         printed=NO_ESCAPE + r".*second, step 14:.*at " + HIDDEN_NAME + r" \(s\.s:19\): stqd"),
     Row("picture: odd lines and bytes, of a name that is no UTF-8", ("tools/picture", NOT_UTF8, "m.out"), 0,

@@ -6,6 +6,7 @@ import tempfile
 from typing import Any, Callable, Dict, Iterator, Optional, Sequence
 
 from celltools.common.repository import ROOT
+from celltools.hunt.outputs import FLAWS
 from lib.hostility.rows import Row, ended
 
 UNREADABLE = "/proc/self/mem"  # opens, and has no byte at its beginning that may be read
@@ -41,6 +42,8 @@ f:
 LABELS = "^0x00000 start\n0x00004 a\n0x00004 b\n0x00010 c\n0x0008b d\n0x0008d e\n0x00100 f$"
 WHOLE = b"\tstop\t0\t# a.s:1\n"
 OLD = b"\tlnop\t# what stood there\n"
+HUNT = ('{"machine":"m.cell","sum":"0"}\n{"hunt":1,"seed":1,"from":0,"runs":1,"expects":false,"all_stopped":1,"left_out":0'
+        + "".join(f',"{flaw}":{{"runs":0,"first":null}}' for flaw in FLAWS) + '}\n{"kinds":{"0":1}}\n').encode()
 
 # What a Row does with its folder before and after the call; `more`, below, is all else that a Row has.
 Before = Callable[[pathlib.Path], None]
@@ -109,7 +112,7 @@ OF_FROM_GAS = [
     rewritten("comments that nothing ends", "/* " * 100_000, 1, said=r"^a.s:1: `/\*` is no instruction"),
     rewritten("blanks within a line", f" il $3,1{' ' * 200_000}+1{' ' * 200_000}\n", 0, printed=r"il\t\$3,2"),
     rewritten("quotes that nothing ends", ' .data\n .ascii "' + '\\"' * 50_000, 1, said="^a.s:2: strings stand in"),
-    rewritten("more bytes than the store has", " .data\n" + " .fill 4096,8,1\n" * 500, 1, said=r"^a.s:10: `\.fill` ends above the local store"),
+    rewritten("more bytes than the store has", " .data\n" + " .fill 4096,4,1\n" * 500, 1, said=r"^a.s:18: `\.fill` ends above the local store"),
     rewritten("numbers of 5,000 digits", LONG_NUMBERS, 1, said=r"^a.s:6: `9{24}\.\.` has more than 64 bits"),
     rewritten("nested parentheses", PARENTHESES, 1, said="^a.s:1: more than 100 parentheses"),
     rewritten("a character of no octal digit", " il $3,'\\8\n il $4,'\\7\n", 0, printed=r"il\t\$3,56.*\n.*\$4,7"),
@@ -132,6 +135,8 @@ OF_TARGETS = [
     written("a file that may not be written", "whole.s", 2, said="^from_gas: whole.s: ", before=make_mode(0o444), after=is_left("whole.s", OLD, 0o444)),
     written("a folder that isn't there", "none/whole.s", 2, said="^from_gas: none/whole.s: No such file"),
     written("a folder", ".", 2, said="^from_gas: .: Is a directory"),
+    Row("hunts --sarif: a file that may not be written", ["tools/hunts", "--sarif", "whole.s", "-"], 2, said="^hunts: whole.s: ", printed="",
+        files={"whole.s": OLD}, standard_input=HUNT, before=make_mode(0o444), after=is_left("whole.s", OLD, 0o444)),
 ]
 
 OF_EXPLAIN = [

@@ -28,6 +28,8 @@ for path in sys.argv[1:]:
 SECONDS = 120
 MEGABYTES = 2048
 CYRILLIC = "\u0436.s"
+# Pythons with which the lines of a hunt aren't completed: too old, of which the output can't be written, and interrupted.
+OTHERS = "exit 2", "echo half; exit 4", "echo half; exit 130"
 
 
 def version_of(path: str) -> Optional[Tuple[int, int]]:
@@ -94,6 +96,9 @@ ROWS = [
         before=lambda folder: (folder / "examples").symlink_to(ROOT / "examples"), environment=PLAIN),
     Row("states under plain settings", ["tools/states", "examples/first.cell", "examples/first.out"], 0, printed=r"^end AllStopped\n",
         before=lambda folder: (folder / "examples").symlink_to(ROOT / "examples"), environment=PLAIN),
+    *(Row("a hunt, where its lines aren't completed", ["hunt", "first.cell", "4"], 0, printed=r"(?s)\A4 runs of seed 1: (?!.*half)", examples=["first.cell"],
+          files={"python3": f"#!/bin/sh\n{script}\n".encode()}, before=lambda folder: (folder / "python3").chmod(0o755),
+          environment={"PATH": f".:{os.environ['PATH']}"}) for script in OTHERS),
     Row("a name that isn't ASCII", ["tools/from_gas", CYRILLIC], 2, said=rf"\Afrom_gas: {CYRILLIC}: No such file", environment=PLAIN),
 ]
 CHECKS = [each_tool_starts, each_test_loads]

@@ -1,4 +1,5 @@
 """How the programs of tools/ and tests/ end: with a status, and without a traceback, whatever a key, a full disk, a closed output or a fault of their own does."""
+import errno
 import os
 import pathlib
 import signal
@@ -10,6 +11,7 @@ STOPPED = 130  # by Ctrl-C
 CLOSED = 141  # what a shell tells of a program whose output was closed early, as by `| head`
 FAILED = 2
 FAULTY = 70  # by a fault of the program itself
+FULL = (errno.ENOSPC, errno.EFBIG, errno.EDQUOT)  # where no more can be written
 
 
 def end(main: Main, failed: int = FAILED) -> NoReturn:
@@ -29,7 +31,7 @@ def status_of(main: Main, failed: int) -> int:
     except BrokenPipeError:
         status, said = CLOSED, ""
     except OSError as why:
-        status, said = failed, f"{why.filename or 'standard output'}: {why.strerror or why}"
+        status, said = failed, fault_words(why)
     except MemoryError:
         status, said = failed, "memory ran out"
     except Exception as why:  # whatever it is: its place helps more than a traceback does
@@ -41,6 +43,12 @@ def status_of(main: Main, failed: int) -> int:
     if said:
         tell(said)
     return status
+
+
+def fault_words(why: OSError) -> str:
+    """What the system couldn't do, and with which file. Standard output has its name here, as all files of users have, and temporary ones have none."""
+    name = why.filename or ("a temporary file" if why.errno in FULL else "")
+    return f"{name}: {why.strerror or why}" if name else str(why.strerror or why)
 
 
 def status_or_interrupt(main: Main) -> int:

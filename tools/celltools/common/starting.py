@@ -17,7 +17,7 @@ import sys  # noqa: E402
 TYPE_CHECKING = False  # but for a checker of types
 if TYPE_CHECKING:
     import typing
-    Read = typing.TypeVar("Read")
+    Answer = typing.TypeVar("Answer")
 
 OLDEST = (3, 9)  # of the Pythons that the programs are written for
 MISUSED = 2
@@ -28,18 +28,25 @@ class StandardInput(io.FileIO):
     """Standard input, whose faults name it."""
 
     def readinto(self, buffer: "typing.Any") -> "typing.Optional[int]":  # whatever can be written into, for which Python 3.9 has no name
-        return named(super().readinto, buffer)
+        return named("standard input", super().readinto, buffer)
 
     def readall(self) -> bytes:
-        return named(super().readall)
+        return named("standard input", super().readall)
 
 
-def named(read: "typing.Callable[..., Read]", *buffer: object) -> "Read":
-    """What a function reads of standard input."""
+class StandardOutput(io.FileIO):
+    """Standard output, whose faults name it."""
+
+    def write(self, data: "typing.Any") -> int:
+        return named("standard output", super().write, data)
+
+
+def named(name: str, ask: "typing.Callable[..., Answer]", *given: object) -> "Answer":
+    """What a function of a standard file answers."""
     try:
-        return read(*buffer)
+        return ask(*given)
     except OSError as why:
-        raise OSError(why.errno, why.strerror, "standard input") from None
+        raise OSError(why.errno, why.strerror, name) from None
 
 
 def refuse_old() -> None:
@@ -69,11 +76,11 @@ def open_closed() -> None:
 def name_encodings() -> None:
     """Has all texts in UTF-8. What isn't is shown as `\\xff`, and what can't be written, as it is escaped in Python."""
     sys.stdin = io.TextIOWrapper(io.BufferedReader(StandardInput(0, closefd=False)), encoding="utf-8", errors="backslashreplace")
-    sys.stdout = sys.stdout or open(1, "w", closefd=False)
+    output = StandardOutput(1, "w", closefd=False)
+    sys.stdout = io.TextIOWrapper(io.BufferedWriter(output), encoding="utf-8", errors="backslashreplace", line_buffering=output.isatty())
     sys.stderr = sys.stderr or open(2, "w", closefd=False)
-    for stream in sys.stdout, sys.stderr:
-        if isinstance(stream, io.TextIOWrapper):
-            stream.reconfigure(encoding="utf-8", errors="backslashreplace")
+    if isinstance(sys.stderr, io.TextIOWrapper):
+        sys.stderr.reconfigure(encoding="utf-8", errors="backslashreplace")
 
 
 refuse_old()

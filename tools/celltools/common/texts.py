@@ -10,6 +10,7 @@ from typing import List, Optional, TextIO, Union
 MOST_BYTES = 4_194_304  # of a machine file, a source or a script
 MOST_RECORD_BYTES = 33_554_432
 MOST_NUMBER = 0xFFFF_FFFF
+PLAIN_NAME = re.compile(r"[\w@%+=:,./-]+", re.A)  # that a shell takes as it is
 NUMBER = re.compile(r"0|[1-9][0-9]{0,19}|0[xX][0-9A-Fa-f]{1,8}")
 ODD_BYTES = range(0xDC80, 0xDD00)  # the surrogates that stand for bytes
 LAST_OF_LATIN, LAST_OF_PLANE = 0xFF, 0xFFFF
@@ -65,6 +66,12 @@ def escape(character: str) -> str:
     if code <= LAST_OF_LATIN:
         return f"\\x{code:02x}"
     return f"\\u{code:04x}" if code <= LAST_OF_PLANE else f"\\U{code:08x}"
+
+
+def quoted(name: object) -> str:
+    """A name as a shell takes it, as `shlex.quote` writes it, a module that the page hasn't."""
+    text = str(name)
+    return text if PLAIN_NAME.fullmatch(text) else "'" + text.replace("'", "'\"'\"'") + "'"
 
 
 def say(*lines: object, to: Optional[TextIO] = None) -> None:

@@ -1,7 +1,8 @@
 """A debugger to talk to: it reads commands, makes steps of one run, and tells how the run stands."""
+import re
 from typing import Callable, Iterable, List, Sequence
 
-from celltools.common.texts import number_of
+from celltools.common.texts import number_of, quoted
 from celltools.debugger.files import PICTURE, RECORD, target_of, write_file
 from celltools.debugger.going import Going
 from celltools.debugger.help import COMMANDS, SHORT, help_lines
@@ -13,6 +14,7 @@ from celltools.picture.run import Run as Picture
 from celltools.run.snapshots import Snapshot
 from celltools.telling.words import counted
 
+COMMENT = re.compile(r"(?:^|\s)#")  # how one begins
 MOVES = {"step", "next", "finish", "run", "back", "reverse", "last", "other"}  # commands behind which `display` shows
 
 
@@ -26,7 +28,7 @@ class Debugger(Going, Looking):
 
     def obey(self, line: str) -> List[str]:
         """Obeys a line, and answers what is to be printed; Wrong or Refused where it can't."""
-        words = line.split("#")[0].split()
+        words = COMMENT.split(line, maxsplit=1)[0].split()
         if not words:
             return []
         name = command_named(words[0])
@@ -86,8 +88,8 @@ class Debugger(Going, Looking):
             return text.splitlines()
         name = target_of(words, RECORD, self.run.origin)
         write_file(name, text)
-        self.run.is_unkept = False
-        return [f"{counted(self.run.place, 'step')} written to {name}: `cell check {self.run.machine} {name}` reads them"]
+        self.run.keep_steps(name)
+        return [f"{counted(self.run.place, 'step')} written to {name}: `cell check {quoted(self.run.machine)} {quoted(name)}` reads them"]
 
     def do_picture(self, words: Sequence[str]) -> List[str]:
         if not words:
@@ -102,8 +104,8 @@ class Debugger(Going, Looking):
 
 def either(names: Sequence[str]) -> str:
     """Names one of which is to be typed."""
-    quoted = [f"`{name}`" for name in names]
-    return ", ".join(quoted[:-1]) + f" or {quoted[-1]}"
+    typed = [f"`{name}`" for name in names]
+    return ", ".join(typed[:-1]) + f" or {typed[-1]}"
 
 
 def command_named(word: str) -> str:

@@ -77,4 +77,5 @@ def help_lines(names: Sequence[str]) -> List[str]:
         return [f"{usage}: {words}.", *(line.strip() for line in more.splitlines() if line.strip())]
     width = max(len(usage) for usage, _, _ in COMMANDS.values())
     short = ", ".join(f"{letter} {name}" for letter, name in SHORT.items())
-    return [*(f"{usage:{width}}  {words}" for usage, words, _ in COMMANDS.values()), f"short: {short}; and each command by how it begins"]
+    return [*(f"{usage:{width}}  {words}" for usage, words, _ in COMMANDS.values()), f"short: {short}; and each command by how it begins",
+            "a word that begins with # begins a comment, up to the end of the line"]

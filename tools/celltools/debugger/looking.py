@@ -93,7 +93,14 @@ class Looking(Session):
 
     def told_displays(self) -> List[str]:
         """What is shown at each stop, as it stands now."""
-        return [f"{number}: {line}" for number, (words, width) in self.displays.items() for line in self.told_value(words, width)]
+        return [f"{number}: {line}" for number, (words, width) in self.displays.items() for line in self.told_display(words, width)]
+
+    def told_display(self, words: Sequence[str], width: Optional[int]) -> List[str]:
+        """One of these, or why it has no meaning now."""
+        try:
+            return self.told_value(words, width)
+        except Wrong as why:
+            return [str(why)]
 
     def do_undisplay(self, words: Sequence[str]) -> List[str]:
         if words == ["all"]:

@@ -3,6 +3,7 @@ import os
 import sys
 from typing import TYPE_CHECKING, Callable, Iterable, Iterator, List, Optional, Sequence
 
+from celltools.common.ending import fault_words
 from celltools.common.texts import decoded, say
 from celltools.debugger.grammar import WIDTHS
 from celltools.debugger.help import COMMANDS
@@ -99,7 +100,7 @@ def answered(debugger: "Debugger", line: str) -> bool:
     except (Wrong, Refused) as why:
         said = [why]
     except OSError as why:
-        said = [f"{why.filename}: {why.strerror}"]
+        said = [fault_words(why)]
     except Exception as why:  # a fault of the debugger itself
         said = [f"the debugger failed at this ({type(why).__name__}: {why}); the steps are kept, and `record FILE` writes them"]
     say(*said)

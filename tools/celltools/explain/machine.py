@@ -39,7 +39,7 @@ class Placed(NamedTuple):
 
 
 class Seen:
-    """What the accepted lines of a machine file said, as far as the next one hangs on it. A file with a faulty line has no plan that would say it."""
+    """What the accepted lines of a machine file said, as far as the next one depends on it. A file with a faulty line has no plan that would say it."""
 
     def __init__(self) -> None:
         self.heads, self.memory = 0, 0

@@ -6,7 +6,7 @@ import re
 import tempfile
 from typing import Dict, Iterator, Optional, Tuple
 
-from celltools.common.texts import shown
+from celltools.common.texts import quoted, shown
 from celltools.explain.report import in_latin
 from celltools.run.runs import NO_RUN, Refused, verdict
 from celltools.run.snapshots import Snapshot
@@ -40,7 +40,7 @@ def faults_told(data: bytes) -> Dict[int, Tuple[int, str]]:
 def of_faults(name: str, data: bytes, faults: Dict[int, str]) -> Iterator[Tuple[str, str]]:
     """A warning of each fault: what it was, where that is known, or else how that is seen."""
     for spe, (number, status) in faults_told(data).items():
-        yield f"{name}:{number}", shown(faults.get(spe, f"processor {spe} has a fault, {status}: tools/states MACHINE {name} says what it was"))
+        yield f"{name}:{number}", shown(faults.get(spe, f"processor {spe} has a fault, {status}: tools/states MACHINE {quoted(name)} says what it was"))
 
 
 def run_warnings(name: str, data: bytes, machines: Dict[str, bytes]) -> Iterator[Tuple[str, str]]:

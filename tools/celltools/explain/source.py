@@ -174,7 +174,7 @@ def why_name(statement: str) -> str:
         return f"`{word}`: mnemonics and directives are written in small letters"
     if word in FLOATING:
         return f"`{word}` is a floating-point instruction: the machine knows the integer part alone"
-    if word in REWRITTEN:
+    if word.lower() in REWRITTEN:
         return f"`{word}` is no word of the language" + BY_TOOL
     if word.startswith("."):
         return f"`{word}` is no directive of the language (those of debugging go where a compiler has no -g)"

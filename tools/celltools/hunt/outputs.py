@@ -153,10 +153,11 @@ def refuse_others(hunts: List[Hunt]) -> None:
     first = hunts[0]
     for hunt in hunts[1:]:
         if hunt.machine["sum"] != first.machine["sum"]:
-            raise Refused(f"{hunt.file}: another machine than that of {first.file}: {hunt.machine['machine']} or one of its sources is another")
+            raise Refused(f"{hunt.file}: another hunt than that of {first.file}: {hunt.machine['machine']}, one of its sources, or the lines of "
+                          "--expect or --pass are others")
         if hunt.seed != first.seed:
             raise Refused(f"{hunt.file}: seed {hunt.seed}, and {first.file} has seed {first.seed}")
-        if hunt.expects != first.expects or hunt.machine.get("asked") != first.machine.get("asked"):
+        if hunt.expects != first.expects:  # of one file, which is the one's --expect and the other's --pass
             raise Refused(f"{hunt.file}: its lines of --expect or --pass are others than those of {first.file}")
 
 

@@ -13,7 +13,7 @@ RULES = {
     "halt": "A processor halts.",
     "missed": "A run's states lack a line that is expected of every run.",
 }
-PLACE = re.compile(r"(.+):(\d+)")
+PLACE = re.compile(r"(.+?):(\d+)(?::\d+)?")
 # By the words of a processor in an ending, what it tells.
 FAULTS = re.compile(r"\d+ (badword|badchannel|dmafault .*)")
 HALT = re.compile(r"\d+ halted")
@@ -21,7 +21,7 @@ RUNNING = re.compile(r"\d+ running\b")
 
 
 def location(place: Optional[str], machine: str) -> Json:
-    """A place `FILE:LINE`, or the machine file where none is known."""
+    """A place `FILE:LINE`, which may have a column behind it, or the machine file where none is known."""
     found = PLACE.fullmatch(place or "")
     file, line = (found[1], int(found[2])) if found else (machine, 1)
     return {"physicalLocation": {"artifactLocation": {"uri": file}, "region": {"startLine": line}}}

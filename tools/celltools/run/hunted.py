@@ -5,6 +5,7 @@ import dataclasses
 import functools
 from typing import Iterator, Optional, Sequence, Tuple
 
+from celltools.common.texts import quoted
 from celltools.common.words import Words, file_name, number, number_up_to
 from celltools.run.runs import Refused, asked, next_step, said_of
 from celltools.run.snapshots import Snapshot, snapshots
@@ -25,10 +26,10 @@ class Asked:
     options: argparse.Namespace
 
     def spelled(self) -> str:
-        """How the record or the run is named to another tool, with the machine file."""
+        """How the record or the run is named to another tool, with the machine file, as a shell takes it."""
         if self.run is None:
-            return f"{self.machine} {self.record}"
-        return f"--run {self.run} {'' if self.seed == FIRST_SEED else f'--seed {self.seed} '}{self.machine}"
+            return f"{quoted(self.machine)} {quoted(self.record)}"
+        return f"--run {self.run} {'' if self.seed == FIRST_SEED else f'--seed {self.seed} '}{quoted(self.machine)}"
 
     @contextlib.contextmanager
     def files(self) -> Iterator[Tuple[Snapshot, Optional[Snapshot]]]:

@@ -8,7 +8,7 @@ import sys
 from typing import TYPE_CHECKING, Iterable, List, Sequence, Union
 
 from celltools.common.repository import LAUNCH, built
-from celltools.common.texts import bytes_of
+from celltools.common.texts import bytes_of, quoted
 
 Path = Union[str, "os.PathLike[str]"]
 if TYPE_CHECKING:
@@ -89,12 +89,12 @@ def next_step(said: str, machine: Path, record: Path) -> str:
     """What to do where `cell` says that, as an ending of the sentence."""
     advice = misplaced(said, machine, record)
     if advice:
-        return "\n    " + advice.format(machine=machine, record=record)
+        return "\n    " + advice.format(machine=quoted(machine), record=quoted(record))
     for pattern, advice in ADVICE:
         found = re.search(pattern, said)
         if found:
             number = found[1] if found.groups() else ""
-            return "\n    " + advice.format(machine=machine, record=record, number=number, source=source_named(machine, number))
+            return "\n    " + advice.format(machine=quoted(machine), record=quoted(record), number=number, source=source_named(machine, number))
     return ""
 
 

@@ -61,7 +61,7 @@ class Run:
         self.trace, self.place = Trace([]), 0
         self.heads: List[str] = []
         self.left: List[Way] = []  # the ways that were left, the latest last
-        self.is_unkept = False  # whether steps were made that stand in no file
+        self.kept: Dict[str, List[str]] = {"": []}  # the steps that files have, by the names of these
         self.states: Dict[int, State] = {}
         self.is_written = False
         self.spes = len(self.state().spes)
@@ -70,6 +70,7 @@ class Run:
         """Takes all steps of a record as those ahead."""
         self.extend(ask_tracer("effects", self.machine, record))
         self.origin = record
+        self.kept[str(record)] = [*self.heads]
 
     # ---- the steps
 
@@ -129,7 +130,6 @@ class Run:
             self.cut()
         if same < len(lines):
             self.extend(lines[same:])
-            self.is_unkept = True
         self.place = end
         if state:
             self.keep(end, state)
@@ -137,6 +137,16 @@ class Run:
     def record(self) -> str:
         """The record of the steps made so far."""
         return record_text(self.heads[:self.place])
+
+    def keep_steps(self, name: str) -> None:
+        """Notes that a file has the steps made so far."""
+        self.kept[name] = self.heads[:self.place]
+
+    @property
+    def is_unkept(self) -> bool:
+        """Whether there are steps that no file has: made, ahead or left for others."""
+        ways = [self.heads, *(self.heads[:way.base] + [line.partition(" | ")[0] for line in way.lines] for way in self.left)]
+        return not all(any(way == kept[:len(way)] for kept in self.kept.values()) for way in ways)
 
     # ---- the machine
 

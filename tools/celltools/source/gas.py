@@ -18,6 +18,7 @@ DROPPED = set(
 )
 SETS = (".set", ".equ", ".equiv")
 OF_PREPROCESSOR = {".macro": "#define", ".endm": "#define", ".include": "#include", ".if": "#if", ".else": "#else", ".endif": "#endif"}
+OF_SECTIONS = SECTIONS | {".pushsection", ".popsection", ".previous"}
 RENAMED = {".zero": ".space", ".half": ".hword", "hbrp": "lnop", "syncc": "sync"}
 BLANKS = " \t\n\r\f\v"
 STATEMENT = re.compile(r"((?:[\w.$]+\s*:\s*)*)(?:([\w.$]+)\s*(=(?!=))?\s*(.*))?", re.S | re.A)
@@ -25,6 +26,7 @@ WORD = re.compile(r"\S+", re.A)
 LINE_MARK = re.compile(r'#[ \t]+(\d{1,9})[ \t]+"((?:[^"\\]|\\.)*)"[ \t\d\r]*', re.A)  # of a C preprocessor
 MOST_REPEATS = 4096
 MOST_ALIGNED = 12
+MOST_FILLED = 8  # bytes of what a `.fill` repeats
 MOST_WORKED_OUT = 50_000  # values of names that later lines set: they are worked out again where names that they need are set again
 
 Section = Tuple[str, str]  # the word that begins it, and its name and flags
@@ -172,7 +174,7 @@ def line_length(line: str) -> int:
         return len(re.findall(r"\\[0-7]{1,3}|\\.|.", rest[1:-1], re.S)) + (word != ".ascii")
     if word == ".space":
         return int(rest)
-    return 0 if word.startswith(".") or not word else 4
+    return 0 if word.startswith(".") or word.endswith(":") or not word else 4
 
 
 class Writer(Known):
@@ -263,7 +265,7 @@ class Writer(Known):
         self.source, self.ending, self.line, self.column = source, self.endings[number], 1, 0
         self.section: Section = (".text", "")
         self.previous, self.number = self.section, number
-        self.stack: List[Section] = []
+        self.stack: List[Tuple[Section, Section]] = []  # each with the one before it
         # a value of its place holds from its line on, every other in the lines before too
         self.sets: Dict[str, Union[str, Value]] = {name: value for name, value in source.sets.items() if not is_of_its_place(value)}
         self.open_sets: Set[str] = set()
@@ -402,10 +404,10 @@ class Writer(Known):
                 label = self.renamed(label)
             self.places[label] = self.place()
             labels += f"{label}:"
-        if self.section[1].startswith(".debug") and statement.word not in SECTIONS | {".previous", ".popsection"}:
+        if self.section[1].startswith(".debug") and statement.word not in OF_SECTIONS:
             return
         self.here, before = None, self.section
-        lines = self.rewritten(RENAMED.get(statement.word, statement.word), statement.rest)
+        lines = self.rewritten(RENAMED.get(statement.word.lower(), statement.word), statement.rest)
         if self.here:
             labels += f"{self.here}:"
         if self.section == before:
@@ -432,7 +434,7 @@ class Writer(Known):
         """The lines of the language that stand for a statement."""
         if not word.startswith("."):
             return self.instruction(word.lower(), rest) if word else []
-        if word in SECTIONS | {".pushsection", ".popsection", ".previous"}:
+        if word in OF_SECTIONS:
             return self.section_line(word, rest)
         if word in DATA or word in STRINGS:
             return self.data(word, rest)
@@ -465,14 +467,15 @@ class Writer(Known):
 
     def section_line(self, word: str, rest: str) -> List[str]:
         """Changes the section."""
+        previous = self.section
         if word == ".previous":
             chosen = self.previous
         elif word == ".popsection":
             if not self.stack:
                 raise Unwritable("`.popsection` without a `.pushsection` before it")
-            chosen = self.stack.pop()
+            chosen, previous = self.stack.pop()
         elif word == ".pushsection":
-            self.stack.append(self.section)
+            self.stack.append((self.section, self.previous))
             chosen = section_named(rest)
         elif word == ".section":
             chosen = section_named(rest)
@@ -480,7 +483,7 @@ class Writer(Known):
             chosen = word, ""
         else:
             raise Unwritable("there are no numbered subsections")
-        self.previous, self.section = self.section, chosen
+        self.previous, self.section = previous, chosen
         return self.changed_section()
 
     def changed_section(self) -> List[str]:
@@ -523,12 +526,22 @@ class Writer(Known):
         return []
 
     def alignment(self, word: str, rest: str) -> List[str]:
-        number = self.constant(cut(rest, ",")[0] or "0", "an alignment")
+        power, fill, most = ([part.strip() for part in cut(rest, ",")] + ["", ""])[:3]
+        number = self.constant(power or "0", "an alignment")
         if word == ".balign":
             number = power_of_two(number)
         if number > MOST_ALIGNED:
             raise Unwritable(f"the greatest alignment is 2^{MOST_ALIGNED}")
+        self.refuse_padding(word, 1 << number, fill, most)
         return [f"\t.align\t{number}"]
+
+    def refuse_padding(self, word: str, size: int, fill: str, most: str) -> None:
+        """Refuses a value to fill with that is another than the language's, and in data an alignment that isn't made where it takes more than so many bytes."""
+        in_text = is_text_section(*self.section)
+        if fill and (in_text or Expression(fill, self).value() != Value(None, 0)):
+            raise Unwritable(f"`{word}` with a value to fill with: text is filled with `lnop`, and data with zeros")
+        if most and not in_text and 0 < self.constant(most, "the most bytes of an alignment") < size - 1:
+            raise Unwritable(f"`{word}` that isn't made where it takes more than {most} bytes")
 
     def filling(self, word: str, rest: str) -> List[str]:
         """Bytes of one value: as zeros that are skipped, or written out."""
@@ -538,10 +551,12 @@ class Writer(Known):
         if word == ".fill":
             size = self.constant(parts[1], "a size") if len(parts) > 1 else 1
             parts = parts[1:]
+        if size > MOST_FILLED:
+            raise Unwritable(f"`{word}` with more than {MOST_FILLED} bytes at a time, of which GNU as takes {MOST_FILLED}")
         value = Expression(parts[1], self).value() if len(parts) > 1 else Value(None, 0)
         if count == 0 or value == Value(None, 0):
             return [f"\t.space\t{count * size}"]
-        words = {1: ".byte", 2: ".short", 4: ".long", 8: ".quad"}
+        words = {1: ".byte", 2: ".short", 4: ".long"}  # of a greater size GNU as takes four bytes of the value
         if value.name or size not in words or count > MOST_REPEATS:
             raise Unwritable(f"`{word}` with this value, size or count")
         self.refuse_small(words[size])
@@ -612,6 +627,8 @@ def string(text: str) -> str:
 
     def escape(found: Match[str]) -> str:
         word = found[1]
+        if word == "x":
+            raise Unwritable("`\\x` without a hexadecimal digit")
         if word[0] == "x":
             return f"\\{int(word[1:], 16) & 0xFF:03o}"
         if word in ("b", "f"):

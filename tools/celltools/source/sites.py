@@ -3,7 +3,7 @@ import functools
 import re
 from typing import Dict, Iterable, Iterator, List, Optional, Sequence, Set, Tuple
 
-from celltools.common.texts import bytes_of, lines_in
+from celltools.common.texts import bytes_of, lines_in, quoted
 from celltools.run.effects import Trace
 from celltools.run.plans import PlanLine, plan_of
 from celltools.run.runs import Path, Refused
@@ -112,7 +112,7 @@ def plan_lines(text: bytes, name: object) -> Sequence[PlanLine]:
         return plan_of(text)
     except Refused as why:
         found = FAULTY_LINE.search(str(why))
-        said = f"{name}:{found[1]}: no line of a machine file\n    tools/explain {name} says it in words" if found else f"{name}: {why}"
+        said = f"{name}:{found[1]}: no line of a machine file\n    tools/explain {quoted(name)} says it in words" if found else f"{name}: {why}"
         raise Refused(said) from None
 
 

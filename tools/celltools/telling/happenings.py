@@ -217,7 +217,8 @@ class Happenings:
         resumed = [number for number, one in flow.outstanding.items() if one.is_stalled and one.command.tag == tag]
         for number in resumed:
             flow.outstanding[number].is_stalled = False
-        what = f"{'command' if len(resumed) == 1 else 'commands'} {', '.join(map(str, resumed))} no longer stalls" if resumed else "no list of it stalls"
+        numbers = ", ".join(map(str, resumed))
+        what = "no list of it stalls" if not resumed else f"command {numbers} no longer stalls" if len(resumed) == 1 else f"commands {numbers} no longer stall"
         self.tell(Kind.STALL, step.processor, 1 << tag if tag < 32 else 0, f"processor {step.processor} acknowledges the stall of tag {tag}: {what}")
         self.complete(step.processor, [number for number in resumed if flow.outstanding[number].is_complete()])
 

@@ -4,7 +4,7 @@ import stat
 import tempfile
 from typing import Iterator, List, Optional
 
-from celltools.common.texts import MOST_RECORD_BYTES, bytes_of, decoded
+from celltools.common.texts import MOST_RECORD_BYTES, bytes_of, decoded, quoted
 from celltools.run.plans import sources_of
 from celltools.run.records import steps_in
 from celltools.run.runs import Path, Refused
@@ -22,7 +22,7 @@ def told(machine: Path, record: Path, place: Optional[int]) -> List[str]:
     newer = list(newer_files(machine, record))
     lines = [] if place is None else told_step(machine, record, place)
     if newer:
-        lines.append(f"the record is older than {' and '.join(newer)}: make it anew with ./cell run {machine} >{record}")
+        lines.append(f"the record is older than {' and '.join(newer)}: make it anew with ./cell run {quoted(machine)} >{quoted(record)}")
     return lines
 
 

@@ -5,7 +5,7 @@ from typing import Iterator, List, Optional
 from celltools.run.machine_state import Spe, State
 from celltools.run.runs import Path, ask_tracer
 from celltools.run.snapshots import steps_of
-from celltools.source.channels import EVENT_STATUS, channel_of, events_in, may_wait
+from celltools.source.channels import ATOMIC, COMMAND, EVENT_STATUS, channel_of, events_in, may_wait
 from celltools.source.disassembly import Disassembler
 from celltools.source.sites import Sites
 from celltools.telling.flows import Told, events_of, fields_of
@@ -14,7 +14,6 @@ from celltools.telling.words import counted
 WAITS = {
     3: "nothing is in signal register 1",
     4: "nothing is in signal register 2",
-    21: "no place is free for a command",
     27: "no atomic status is there",
     28: "the outbound mailbox is full",
     29: "the inbound mailbox is empty",
@@ -71,6 +70,11 @@ class Standing:
         outside = f"; pending outside it: {events_in(pending)}" if pending else ""
         return (f"no event of its mask, {events_in(mask)}, is pending" if mask else "its event mask is 0, so no event shows") + outside
 
+    def no_place(self, spe: Spe, state: State) -> str:
+        """Why a command isn't issued: an atomic one needs the slot, every other one a place of the queue."""
+        opcode = int(spe.register((spe.word or 0) & 0x7F)[4:8], 16)  # the lower halfword of word 0
+        return "an atomic command is in the slot" if opcode in ATOMIC else "all places of the queue are taken"
+
     def no_tag_status(self, spe: Spe, state: State) -> str:
         """What is behind a tag status that doesn't come."""
         return "no tag status is there" + (", though one was asked for" if "request" in self.flow(spe.number, state) else ", and none was asked for")
@@ -108,7 +112,7 @@ class Standing:
 
 
 # Of channels whose wait has more to tell, what says it.
-NO_VALUE = {EVENT_STATUS: Standing.no_event, 24: Standing.no_tag_status, 25: Standing.no_stall}
+NO_VALUE = {EVENT_STATUS: Standing.no_event, COMMAND: Standing.no_place, 24: Standing.no_tag_status, 25: Standing.no_stall}
 
 
 def state_behind(machine: Path, record: Path) -> State:

@@ -5,3 +5,5 @@
 	.comm	y,4,4
 	il	$3,z*2
 	il	$3,2*2
+	.data
+	.ascii	"\xg"

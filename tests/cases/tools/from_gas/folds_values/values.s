@@ -49,3 +49,11 @@ end:	.pushsection .text
 	rdch	$3,$MFC_RdListStallStat
 	wrch	$MFC_WrListStallAck,$3
 	rdch	$3,$MFC_RdAtomicStat
+behind:	il	$5,behind-there	# `there = .` takes no bytes
+	SYNCC
+	HBRP
+	.data
+	.pushsection .rodata
+	.popsection
+	.previous
+	lnop			# in the text

@@ -62,3 +62,6 @@ before:	lnop
 	.section	.debug_str,"MS",@progbits,1
 	.string	"GNU C"
 	.ident	"GCC: (GNU) 4.5"
+	.pushsection .text
+	lnop
+	.popsection

@@ -37,5 +37,13 @@ f:
 	a	$3,$4,$128
 	rdch	$3,$SPU_RdDec
 	lqd	$3,0($x)
+	.data
+	.ascii	"\xg"
+	.align	4,1
+	.balign	16,,8
+	.fill	1,16
+	.fill	1,8,7
+	.text
+	.align	3,0
 	.end
 	nonsense
