@@ -1,9 +1,9 @@
-"""Keeps that nothing was wrong, as long as nothing has changed on which that hangs.
+"""Keeps that nothing was wrong, as long as nothing has changed on which that depends.
 
-What was asked has a name, the checksum of all that its answer depends on: the test with the modules of tests/lib, the files that it reads, the Python that runs it,
-the other programs of the machine that it asks, and what packages are installed. Where nothing was wrong, a file of that name is left in ~/.cache/cell, for all
-clones of this machine, with what there is to tell of it; a fault is never kept. What depends on chance or on time, as threads and interrupts do, is asked each
-time. With CELL_ANEW=1 all is asked again.
+What was asked has a name, the checksum of all that its answer depends on: the test with the modules of tests/lib, the files that it reads, the Python that runs
+it, the other programs of the machine that it asks, and what packages are installed. Where nothing was wrong, a file of that name is left in ~/.cache/cell, for
+all clones of this machine, with what there is to tell of it; a fault is never kept. What depends on chance or on time, as threads and interrupts do, is asked
+each time. With CELL_ANEW=1 all is asked again.
 """
 import contextlib
 import functools
