@@ -97,6 +97,7 @@ impl Chooser {
             best = better(machine, spes, number, key, self.choice, best);
         }
         let Some(best) = best else {
+            // no actor has a step, so this is None: it says that the run is over
             return machine.any_step();
         };
         Some(best.step)

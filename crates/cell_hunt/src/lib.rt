@@ -24,4 +24,3 @@ pub use outcome::{Outcome, outcome_of};
 pub use racing::Racing;
 pub use running::{SeedRun, run_of_seed};
 pub use site::{Site, Sites};
-pub use way::{WAYS, Way};

@@ -12,13 +12,14 @@ use cell_base::Step;
 use cell_machine::{Effect, Machine, Note};
 use std::alloc::Global;
 
-/// The PC of the processor of an instruction.
-fn pc_before(machine: &Machine, step: Step) -> u32
-    ensures { (p : ℕ) → step ≡ Step.Exec p → IfSome (spe_of machine.now p) (λ P. P.pc ≡ result) }
+/// The PC of a processor, 0 where the machine has none of this number.
+fn pc_of(machine: &Machine, spe: u8) -> u32
+    ensures { IfSome (spe_of machine.now spe) (λ P. P.pc ≡ result) }
 {
-    match step {
-        Step::Exec { spe } if spe < machine.setup().spes() => machine.pc(spe),
-        _ => 0,
+    if spe < machine.setup().spes() {
+        machine.pc(spe)
+    } else {
+        0
     }
 }
 
@@ -109,7 +110,7 @@ impl Origins {
         ensures issued { (p : ℕ) (note : ANote) → issues_for step p note ≡ true → result ≡ issued_at self.now step }
     {
         match step {
-            Step::Exec { .. } => pc_before(machine, step),
+            Step::Exec { spe } => pc_of(machine, spe),
             Step::Host => self.actions,
             _ => self.issued_at(step),
         }
@@ -144,14 +145,11 @@ impl Origins {
         ensures steps { OnOk result (self.new.steps ≡ self.old.steps) }
         ensures actions { OnOk result (self.new.actions ≡ self.old.actions) }
     {
-        if let Note::Issue { cmd, .. } = note {
-            self.set_command(spe, cmd, at)?;
-            return Ok(());
+        match note {
+            Note::Issue { cmd, .. } => self.set_command(spe, cmd, at),
+            Note::AtomicIssue => put(&mut self.atomics, usize::from(spe), at),
+            _ => Ok(()),
         }
-        if let Note::AtomicIssue = note {
-            put(&mut self.atomics, usize::from(spe), at)?;
-        }
-        Ok(())
     }
 
     /// Takes in a step, which comes from here, and tells this.

@@ -1,13 +1,10 @@
 //! What is told of a run that is over.
 
-ghost use Rattle.std.specs.Prelude.{Some};
-ghost use Rattle.cell_machine.specs.Run.{EndsAs};
-ghost use Rattle.cell_hunt.specs.Ends.{IsOver};
 ghost use Rattle.cell_hunt.specs.Outcomes.{IsOutcome};
 
 use crate::running::SeedRun;
 use crate::site::Sites;
-use cell_machine::{End, Machine};
+use cell_machine::End;
 
 /// How a run has ended, and where the two steps of its least race come from, if it has one.
 #[derive(Clone, Copy)]
@@ -16,23 +13,12 @@ pub struct Outcome {
     pub race: Option<Sites>,
 }
 
-/// How a run has ended that is over.
-fn ending(machine: &Machine) -> End
-    requires { IsOver machine.now }
-    ensures { EndsAs machine.now (Some result) }
-{
-    let Some(end) = machine.end() else {
-        unreachable!()
-    };
-    end
-}
-
 /// How a run has ended, and its race.
 pub fn outcome_of(run: &SeedRun) -> Outcome
     ensures { IsOutcome run.now result }
 {
     Outcome {
-        end: ending(run.machine()),
+        end: run.end(),
         race: run.race(),
     }
 }

@@ -1,7 +1,7 @@
 //! Runs by the choices of a seed.
 
-ghost use Rattle.std.specs.Prelude.{◌≡◌, ◌<◌, [], length, IfOk, OnOk};
-ghost use Rattle.cell_machine.specs.Run.{Ran};
+ghost use Rattle.std.specs.Prelude.{◌≡◌, ◌<◌, [], length, Some, IfOk, OnOk};
+ghost use Rattle.cell_machine.specs.Run.{Ran, EndsAs};
 ghost use Rattle.race_check.specs.declared.check.Verdict.{Verdict as AVerdict};
 ghost use Rattle.race_check.specs.Races.{IsVerdict};
 ghost use Rattle.cell_hunt.specs.Ends.{IsOver};
@@ -18,7 +18,7 @@ use crate::racing::Racing;
 use crate::site::Sites;
 use crate::so_far::SoFar;
 use crate::way::way_of;
-use cell_machine::{Machine, Setup};
+use cell_machine::{End, Machine, Setup};
 use std::alloc::Global;
 use std::marker::Model;
 
@@ -54,14 +54,21 @@ impl SeedRun {
         &self.machine
     }
 
+    /// How it has ended.
+    pub fn end(&self) -> End
+        ensures { EndsAs self.now (Some result) }
+    {
+        let Some(end) = self.machine.end() else {
+            unreachable!()
+        };
+        end
+    }
+
     /// Where the two steps of its least race come from, None exactly where it has no race.
     pub fn race(&self) -> Option<Sites>
         ensures { (verdict : AVerdict) × IsVerdict self.now verdict × TellsRace self.now verdict result }
     {
-        let Some(least) = self.least else {
-            return None;
-        };
-        Some(least.sites)
+        Some(self.least?.sites)
     }
 
     /// Of each step that races with an earlier one the latest that does, in the order of these steps.

@@ -1,12 +1,12 @@
 //! How the orders of runs are chosen.
 
-ghost use Rattle.std.specs.Prelude.{◌≡◌, ◌%◌, ◌*◌, slice_index};
+ghost use Rattle.std.specs.Prelude.{◌≡◌};
 ghost use Rattle.cell_hunt.specs.Ways.{weight_of, way_of};
 
 use cell_base::Actor;
 
 /// How the order of a run is chosen. An actor's key is a word of 32 bits by chance, times the weight of its kind.
-#[derive(Clone, Copy, Debug, PartialEq, Eq)]
+#[derive(Clone, Copy)]
 pub struct Way {
     /// Before a step all keys are drawn anew where a word by chance isn't above this: with a chance of one more than this in 2^32.
     pub turn: u32,

@@ -1,4 +1,4 @@
--- Where the steps of a race come from, as text, and by sources in place of processors.
+-- Where the steps of a race come from, as text, and by programs in place of processors.
 use Rattle.std.specs.Prelude.{ℕ, ◌+◌, ◌*◌, List, ◌++◌, codes, nat_lt, slice_index_or, if◌then◌else◌}
 use Rattle.std.specs.Fmt.{decimal}
 use Rattle.cell_base.specs.Hex.{hex}
@@ -21,22 +21,22 @@ site_text (Host action) = codes " | h " ++ decimal action
 abbrev pub sites_text : Sites → List ℕ
 sites_text sites = site_text sites.first ++ site_text sites.second
 
--- ---- by sources
+-- ---- by programs
 
--- the number of the source of processor p
-abbrev pub source_of : List ℕ → ℕ → ℕ
-source_of programs p = slice_index_or programs p 0
+-- the number of the program of processor p
+abbrev pub program_of : List ℕ → ℕ → ℕ
+program_of programs p = slice_index_or programs p 0
 
--- the source in place of the processor
+-- the program in place of the processor
 abbrev pub placed : List ℕ → Site → Site
-placed programs (Exec p at) = Exec (source_of programs p) at
-placed programs (Piece p at) = Piece (source_of programs p) at
-placed programs (Elem p at) = Elem (source_of programs p) at
-placed programs (Retire p at) = Retire (source_of programs p) at
-placed programs (Atomic p at) = Atomic (source_of programs p) at
+placed programs (Exec p at) = Exec (program_of programs p) at
+placed programs (Piece p at) = Piece (program_of programs p) at
+placed programs (Elem p at) = Elem (program_of programs p) at
+placed programs (Retire p at) = Retire (program_of programs p) at
+placed programs (Atomic p at) = Atomic (program_of programs p) at
 placed programs (Host action) = Host action
 
--- its place in an order: by the kind, then by the source, then by the address or the number
+-- its place in an order: by the kind, then by the program, then by the address or the number
 abbrev pub rank_of : ℕ → ℕ → ℕ → ℕ
 rank_of kind p at = (kind * 256 + p) * 4294967296 + at
 
@@ -52,7 +52,7 @@ rank (Host action) = rank_of 5 0 action
 abbrev pub ordered : Sites → Sites
 ordered sites = if nat_lt (rank sites.second) (rank sites.first) then record { first = sites.second; second = sites.first } else sites
 
--- the key of a race between two sites whose processors are the numbers of sources
+-- the key of a race between two sites whose processors are the numbers of programs
 abbrev pub race_key : Sites → List ℕ
 race_key sites = sites_text (ordered sites)
 

@@ -3,7 +3,8 @@
 /// What is asked of each run.
 #[derive(Drop)]
 pub struct Asked {
-    /// For each processor the number of its source in the machine file; one without it counts as of source 0.
+    /// For each processor the number of its program: that of the first source of the name that its own first one has, or one of its own where it
+    /// has none. A processor behind the end of the list counts as 0.
     pub programs: Vec<u8>,
     /// Lines that the states are to have, without line feeds.
     pub expected: Vec<Vec<u8>>,

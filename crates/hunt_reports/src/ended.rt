@@ -3,9 +3,8 @@
 ghost use Rattle.std.specs.Prelude.{◌≡◌, ◌≤◌, ◌+◌, ◌++◌, map, length, Some, OnOk, IfOk};
 ghost use Rattle.std.specs.List.{list_any};
 ghost use Rattle.cell_machine.specs.State.{State};
-ghost use Rattle.cell_machine.specs.Run.{state_of, EndsAs};
+ghost use Rattle.cell_machine.specs.Run.{state_of};
 ghost use Rattle.state_lines.specs.Lines.{end_word};
-ghost use Rattle.cell_hunt.specs.Ends.{IsOver};
 ghost use Rattle.hunt_reports.specs.Endings.{ended_in, is_fault, is_halted, is_stuck, is_budget, pc_text, spe_ending, spe_endings, ending_text};
 
 use cell_base::line_text::{put_decimal, put_hex};
@@ -33,17 +32,6 @@ pub fn ended_of(alloc: Global, m: &Machine) -> Result<Vec<Ended>, AllocError>
         })?;
     }
     Ok(ended)
-}
-
-/// How a run has ended that is over.
-pub fn end_of(machine: &Machine) -> End
-    requires { IsOver machine.now }
-    ensures { EndsAs machine.now (Some result) }
-{
-    let Some(end) = machine.end() else {
-        unreachable!()
-    };
-    end
 }
 
 pub fn is_stuck(end: End) -> bool

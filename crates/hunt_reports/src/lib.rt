@@ -9,5 +9,5 @@ mod races;
 mod reporting;
 
 pub use asked::Asked;
-pub use places::{put_key, put_sites, race_key};
+pub use places::{put_key, put_sites};
 pub use reporting::report_of;

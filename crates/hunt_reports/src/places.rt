@@ -1,11 +1,11 @@
 //! Where the steps of a race come from, as text.
 
-ghost use Rattle.std.specs.Prelude.{◌≡◌, ◌≤◌, [], ◌∷◌, ◌++◌, OnOk, IfOk};
-ghost use Rattle.hunt_reports.specs.Places.{spe_site_text, site_text, sites_text, source_of, placed, rank_of, rank, ordered, race_key, key_of};
+ghost use Rattle.std.specs.Prelude.{◌≡◌, ◌≤◌, [], ◌∷◌, ◌++◌, OnOk};
+ghost use Rattle.hunt_reports.specs.Places.{spe_site_text, site_text, sites_text, program_of, placed, rank_of, rank, ordered, key_of};
 
 use cell_base::line_text::{put_decimal, put_hex};
 use cell_hunt::{Site, Sites};
-use std::alloc::{AllocError, Global};
+use std::alloc::AllocError;
 
 /// Writes the letter of a step's line, its processor, and the address of its instruction.
 fn put_spe_site(out: &mut Vec<u8>, letter: u8, spe: u8, at: u32) -> Result<(), AllocError>
@@ -43,39 +43,39 @@ pub fn put_sites(out: &mut Vec<u8>, sites: Sites) -> Result<(), AllocError>
     put_site(out, sites.second)
 }
 
-/// The number of the source of a processor.
-fn source_of(programs: &[u8], spe: u8) -> u8
-    ensures { result ≡ source_of programs.now spe }
+/// The number of the program of a processor.
+fn program_of(programs: &[u8], spe: u8) -> u8
+    ensures { result ≡ program_of programs.now spe }
 {
     match programs.get(spe as usize) {
-        Some(source) => *source,
+        Some(program) => *program,
         None => 0,
     }
 }
 
-/// A site with the number of the source in place of the processor.
+/// A site with the number of the program in place of the processor.
 fn placed(programs: &[u8], site: Site) -> Site
     ensures { result ≡ placed programs.now site }
 {
     match site {
         Site::Exec { spe, at } => Site::Exec {
-            spe: source_of(programs, spe),
+            spe: program_of(programs, spe),
             at,
         },
         Site::Piece { spe, at } => Site::Piece {
-            spe: source_of(programs, spe),
+            spe: program_of(programs, spe),
             at,
         },
         Site::Elem { spe, at } => Site::Elem {
-            spe: source_of(programs, spe),
+            spe: program_of(programs, spe),
             at,
         },
         Site::Retire { spe, at } => Site::Retire {
-            spe: source_of(programs, spe),
+            spe: program_of(programs, spe),
             at,
         },
         Site::Atomic { spe, at } => Site::Atomic {
-            spe: source_of(programs, spe),
+            spe: program_of(programs, spe),
             at,
         },
         Site::Host { action } => Site::Host { action },
@@ -117,16 +117,7 @@ fn ordered(sites: Sites) -> Sites
     }
 }
 
-/// The key of a race between two sites whose processors are the numbers of sources: both as text, the lesser first.
-pub fn race_key(alloc: Global, sites: Sites) -> Result<Vec<u8>, AllocError>
-    ensures { IfOk result (λ key. key.items ≡ race_key sites) }
-{
-    let mut key = Vec::new(alloc);
-    put_sites(&mut key, ordered(sites))?;
-    Ok(key)
-}
-
-/// Writes the key of a race between two sites of a run.
+/// Writes the key of a race between two sites of a run: both as text, with the numbers of programs in place of the processors, the lesser first.
 pub fn put_key(out: &mut Vec<u8>, programs: &[u8], sites: Sites) -> Result<(), AllocError>
     ensures { OnOk result (out.new.items ≡ out.old.items ++ key_of programs.now sites) }
 {

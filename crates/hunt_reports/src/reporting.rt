@@ -1,6 +1,6 @@
 //! The report of a run.
 
-ghost use Rattle.std.specs.Prelude.{◌≡◌, ◌≤◌, length, Some, IfOk};
+ghost use Rattle.std.specs.Prelude.{◌≡◌, Some, IfOk};
 ghost use Rattle.cell_machine.specs.declared.status.End.{End as AnEnd};
 ghost use Rattle.cell_machine.specs.State.{State};
 ghost use Rattle.cell_machine.specs.Run.{state_of, IsEnd};
@@ -11,9 +11,7 @@ ghost use Rattle.hunt_reports.specs.Endings.{ending_text};
 ghost use Rattle.hunt_reports.specs.Reports.{report_by, IsReport};
 
 use crate::asked::Asked;
-use crate::ended::{
-    Ended, end_of, ended_of, ending_text, has_fault, has_halt, is_budget, is_stuck,
-};
+use crate::ended::{Ended, ended_of, ending_text, has_fault, has_halt, is_budget, is_stuck};
 use crate::missing::missed_in;
 use crate::races::{Races, races_of};
 use cell_hunt::SeedRun;
@@ -87,7 +85,7 @@ pub fn report_of(alloc: Global, run: &SeedRun, asked: &Asked) -> Result<Report, 
     ensures { IfOk result (IsReport run.now asked.now) }
 {
     let machine = run.machine();
-    let end = end_of(machine);
+    let end = run.end();
     let spes = ended_of(alloc, machine)?;
     let ending = ending_text(alloc, end, spes.as_slice())?;
     let left = left_of(alloc, machine)?;

@@ -1,6 +1,6 @@
 //! The kinds of runs.
 
-ghost use Rattle.std.specs.Prelude.{◌≡◌, ◌+◌, ◌^◌, ◌<◌, ◌≤◌, [], length, OnOk, Some, slice_get};
+ghost use Rattle.std.specs.Prelude.{◌≡◌, ◌+◌, ◌^◌, ◌<◌, ◌≤◌, [], length, OnOk, OnErr, Some, slice_get};
 ghost use Rattle.hunt_tally.specs.Kinds.{runs_of, runs_with, seen_once, with_run, with_runs, with_kinds};
 
 use indexmap::IndexMap;
@@ -54,6 +54,7 @@ impl Kinds {
     fn add(&mut self, digest: u64, runs: u32) -> Result<(), AllocError>
         requires { runs_of self.old + runs < 2 ^ 32 }
         ensures taken { OnOk result (self.new ≡ with_runs self.old digest runs) }
+        ensures kept { OnErr result (self.new ≡ self.old) }
         ensures runs { runs_of self.new ≤ runs_of self.old + runs }
     {
         let before = self.runs(digest);
@@ -65,6 +66,7 @@ impl Kinds {
     pub fn take(&mut self, digest: u64) -> Result<(), AllocError>
         requires { runs_of self.old + 1 < 2 ^ 32 }
         ensures taken { OnOk result (self.new ≡ with_run self.old digest) }
+        ensures kept { OnErr result (self.new ≡ self.old) }
         ensures runs { runs_of self.new ≤ runs_of self.old + 1 }
     {
         self.add(digest, 1)

@@ -1,9 +1,9 @@
 //! The tally of what runs tell.
 
-ghost use Rattle.std.specs.Prelude.{◌≡◌, ℕ, ◌+◌, ◌^◌, ◌<◌, ◌≤◌, List, [], ◌∷◌, ◌++◌, take, length, OnOk, OnErr, Some, slice_get};
+ghost use Rattle.std.specs.Prelude.{◌≡◌, ℕ, ◌+◌, ◌^◌, ◌<◌, List, [], ◌∷◌, ◌++◌, take, length, OnOk, OnErr, Some, slice_get};
 ghost use Rattle.std.specs.List.{position};
 ghost use Rattle.std.specs.Str.{bytes_eq};
-ghost use Rattle.hunt_tally.specs.Tallies.{Tells, Told, Entry, Took, entries_of, tallied, told_in};
+ghost use Rattle.hunt_tally.specs.Tallies.{Tells, Entry, Took, entries_of, tallied, told_in};
 ghost use Rattle.hunt_tally.specs.Takes.{took};
 ghost use Rattle.hunt_tally.specs.Joins.{with_entry, joined, runs_telling, Fits, Joined};
 ghost use Rattle.hunt_tally.specs.Views.{entry_in, entries_in};
@@ -147,6 +147,7 @@ impl Tally {
         requires { self.old.runs + other.runs < 2 ^ 32 }
         ensures runs { self.new.runs ≡ self.old.runs + other.runs }
         ensures joined { OnOk result (Joined self.old other self.new) }
+        ensures emptied { OnErr result (self.new.entries ≡ []) }
     {
         let before = self.runs;
         self.runs += other.runs;

@@ -1,6 +1,6 @@
 //! The results of each ending.
 
-ghost use Rattle.std.specs.Prelude.{◌≡◌, [], IfOk};
+ghost use Rattle.std.specs.Prelude.{[], IfOk};
 ghost use Rattle.hunt_tally.specs.Tallies.{told_in};
 ghost use Rattle.hunt_texts.specs.Groups.{AreGroups};
 

@@ -4,7 +4,6 @@ ghost use Rattle.std.specs.Prelude.{◌≡◌, ◌++◌, ◌<◌, take, length, 
 ghost use Rattle.std.specs.List.{flat_map};
 ghost use Rattle.cell_base.specs.Words.{lines_of};
 ghost use Rattle.hunt_tally.specs.Lines.{told_by};
-ghost use Rattle.hunt_tally.specs.Reports.{result_in};
 ghost use Rattle.hunt_texts.specs.Texts.{result_line, next_line, apart_text, differs_text, more_text, each_text, second_text, results_text};
 
 use crate::numbers::{put_counted, put_word};

@@ -5,7 +5,7 @@ ghost use Rattle.std.specs.List.{flat_map};
 ghost use Rattle.hunt_tally.specs.Tallies.{told_in};
 ghost use Rattle.hunt_tally.specs.Lines.{told_by};
 ghost use Rattle.hunt_tally.specs.Reports.{result_in};
-ghost use Rattle.hunt_texts.specs.Texts.{race_line, missed_line, ending_line, result_line};
+ghost use Rattle.hunt_texts.specs.Texts.{race_line, missed_line, ending_line};
 ghost use Rattle.hunt_texts.specs.Jsons.{byte_json, string_json, runs_json, race_json, ending_json, result_json, missed_json};
 ghost use Rattle.hunt_texts.specs.Rows.{row_text};
 

@@ -3,7 +3,8 @@ use Rattle.std.specs.Prelude.{Option}
 use Rattle.cell_machine.specs.declared.status.End.{End}
 use Rattle.cell_machine.specs.Run.{EndsAs}
 use Rattle.cell_machine.proofs.Runs.{not_open}
-use Rattle.cell_hunt.proofs.outcome.ending.Goals as goal
+use Rattle.cell_hunt.proofs.running.SeedRun.end.Goals as goal
 
 pub unreachable-requires : goal.unreachable-requires
-unreachable-requires c = not_open c.args.machine.now (subst (λ (o : Option End). EndsAs c.args.machine.now o) c.in_default.is c.end.ensures) c.requires
+unreachable-requires c =
+    not_open c.self.inside.machine (subst (λ (o : Option End). EndsAs c.self.inside.machine o) c.in_default.is c.end.ensures) c.self.invariant.0.over
