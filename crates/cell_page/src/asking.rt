@@ -1,8 +1,7 @@
 //! The answer to words with files.
 
-ghost use Rattle.std.specs.Prelude.{◌≡◌, Some, false, map, string_bytes};
+ghost use Rattle.std.specs.Prelude.{Some, false, map, string_bytes};
 ghost use Rattle.cell_io.specs.Files.{HasDifferentNames};
-ghost use Rattle.cell_base.specs.Words.{lines_of};
 ghost use Rattle.cell_forms.specs.Words.{spoken as cell_spoken, AsksForNoRun};
 ghost use Rattle.hunt_forms.specs.Words.{spoken as hunt_spoken};
 ghost use Rattle.trace_forms.specs.Words.{said as trace_said};
@@ -156,6 +155,7 @@ fn answer_of_cell(alloc: Global, words: &[String], files: Vec<MemFile>) -> Answe
 {
     match form_of(words) {
         CellForm::Run { machine } => trace_answer(alloc, TraceForm::Alone { machine }, files),
+        // no words are no form
         CellForm::Gen { .. } => cell_answer(alloc, &words[..0], files),
         _ => cell_answer(alloc, words, files),
     }
@@ -194,7 +194,7 @@ pub fn answer_to(alloc: Global, words: &[u8], files: &[u8]) -> Answer
 {
     match read_both(alloc, words, files) {
         Ok((words, files)) => answer_with(alloc, words.as_slice(), files),
-        Err(BundleError::Form) => Answer::refusal(alloc, "cell", CellFault::Usage, 2),
+        Err(BundleError::Form) => refused_by_cell(alloc, CellFault::Usage),
         Err(BundleError::Memory) => Answer::short(),
     }
 }

@@ -1,11 +1,10 @@
 //! What comes in: the words, and the files.
 
-ghost use Rattle.std.specs.Prelude.{◌≡◌, ◌<◌, ◌≤◌, ◌++◌, ◌∷◌, [], ℕ, List, Ok, IfOk, IfSome, OnOk, Option, Some, find, is_none, length, map, string_bytes};
+ghost use Rattle.std.specs.Prelude.{◌≡◌, find, is_none};
 ghost use Rattle.std.specs.List.{position};
-ghost use Rattle.std.specs.Str.{IsUtf8};
 ghost use Rattle.cell_base.specs.Numbers.{Reads};
 ghost use Rattle.cell_base.specs.Words.{is_feed};
-ghost use Rattle.cell_io.specs.Files.{HasDifferentNames, are_different, is_called};
+ghost use Rattle.cell_io.specs.Files.{are_different, is_called};
 ghost use Rattle.cell_page.specs.Question.{line_at, number_line, file_at};
 ghost use Rattle.cell_page.specs.Reading.{IsText, KeepsFile, ReadsWords, ReadsAll, ReadsFiles};
 

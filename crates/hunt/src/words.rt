@@ -1,6 +1,6 @@
 //! The words of the command line, and which file a refusal speaks of.
 
-ghost use Rattle.std.specs.Prelude.{◌≡◌, map, string_bytes};
+ghost use Rattle.std.specs.Prelude.{◌≡◌, ◌≢◌, ◌↔◌, map, string_bytes};
 ghost use Rattle.hunt_forms.specs.Words.{spoken, no_form};
 
 use cell_forms::{Fault as InputFault, FileId as InputFile};
@@ -14,10 +14,38 @@ pub struct Refusal {
     pub reason: &'static str,
 }
 
-/// Why words are refused of which one isn't UTF-8: where they are a form, a file has a name that isn't. The texts have U+FFFD for what isn't,
-/// which stands in no form's own words and in no number.
-fn refusal_of(texts: &[String]) -> Refusal
-    ensures { spoken (map string_bytes texts.now) ≡ no_form → result.fault ≡ Fault.Usage }
+/// Whether the word at a place is this name.
+fn is_at(texts: &[String], place: usize, name: Option<&str>) -> bool {
+    match (texts.get(place), name) {
+        (Some(word), Some(name)) => word.as_str() == name,
+        _ => false,
+    }
+}
+
+/// Which file can't be read, where the word at a place isn't UTF-8: the one that it names, and the machine file where it names none of the three
+/// that are read.
+fn unread_at(texts: &[String], place: usize) -> Fault
+    ensures { result ≢ Fault.Usage }
+{
+    let (machine, expect, pass) = names_of(texts);
+    let is_other = !is_at(texts, place, machine);
+    if is_other && is_at(texts, place, expect) {
+        Fault::ReadFault {
+            file: FileId::Expect,
+        }
+    } else if is_other && is_at(texts, place, pass) {
+        Fault::ReadFault { file: FileId::Pass }
+    } else {
+        Fault::Machine(InputFault::ReadFault {
+            file: InputFile::Machine,
+        })
+    }
+}
+
+/// Why words are refused of which the one at this place is the first that isn't UTF-8. The texts have U+FFFD for what isn't, which stands in no
+/// form's own words and in no number: so where they are a form it is a file's name, or beside `--help` any word.
+fn refusal_of(texts: &[String], place: usize) -> Refusal
+    ensures { (spoken (map string_bytes texts.now) ≡ no_form) ↔ (result.fault ≡ Fault.Usage) }
 {
     if matches!(form_of(texts), Form::NoForm) {
         return Refusal {
@@ -26,9 +54,7 @@ fn refusal_of(texts: &[String]) -> Refusal
         };
     }
     Refusal {
-        fault: Fault::Machine(InputFault::ReadFault {
-            file: InputFile::Machine,
-        }),
+        fault: unread_at(texts, place),
         reason: ": the name of a file is not UTF-8",
     }
 }
@@ -43,7 +69,7 @@ pub fn words_of(rt: &HostRuntime) -> Result<Vec<String>, Refusal> {
     };
     match not_utf8 {
         None => Ok(texts),
-        Some(_) => Err(refusal_of(texts.as_slice())),
+        Some(place) => Err(refusal_of(texts.as_slice(), place)),
     }
 }
 

@@ -63,25 +63,28 @@ passed_cause machine expect (Some name) old now new (ReadFault Expect) kept r = 
 passed_cause machine expect (Some name) old now new (Machine fault) kept r = absurd r
 passed_cause machine expect (Some name) old now new other kept r = tt
 
-pub expected_refuses : (files : List File) (machine : Word) (expect pass : Option Word) (old now new : Ledger) (fault : Fault) → now ≡ old → FileFailsBy Expect expect now new fault → ExpectedComes files expect (Err fault) → RefusesFiles files machine expect pass old new fault
-expected_refuses files machine None pass old now new fault kept r e = absurd r
-expected_refuses files machine (Some name) pass old now new (ReadFault Expect) kept r e = subst (λ o. FailedAt name o new) kept r.1
-expected_refuses files machine (Some name) pass old now new (ReadFault Pass) kept r e = absurd cc
-expected_refuses files machine (Some name) pass old now new (TooLong Expect) kept r e = e.1
-expected_refuses files machine (Some name) pass old now new (TooLong Pass) kept r e = absurd cc
-expected_refuses files machine (Some name) pass old now new Memory kept r e = tt
-expected_refuses files machine (Some name) pass old now new other kept r e = absurd e
+pub expected_refuses : (files : List File) (machine : Word) (expect pass : Option Word) (setup : Opening) (old now new : Ledger) (fault : Fault) → now ≡ old → StandsFor files machine setup
+    → FileFailsBy Expect expect now new fault → ExpectedComes files expect (Err fault) → RefusesFiles files machine expect pass old new fault
+expected_refuses files machine None pass setup old now new fault kept stood r e = absurd r
+expected_refuses files machine (Some name) pass setup old now new (ReadFault Expect) kept stood r e = ((setup, stood), subst (λ o. FailedAt name o new) kept r.1)
+expected_refuses files machine (Some name) pass setup old now new (ReadFault Pass) kept stood r e = absurd cc
+expected_refuses files machine (Some name) pass setup old now new (TooLong Expect) kept stood r e = ((setup, stood), e.1)
+expected_refuses files machine (Some name) pass setup old now new (TooLong Pass) kept stood r e = absurd cc
+expected_refuses files machine (Some name) pass setup old now new Memory kept stood r e = tt
+expected_refuses files machine (Some name) pass setup old now new other kept stood r e = absurd e
 
-pub passed_refuses : (files : List File) (machine : Word) (expect pass : Option Word) (programs : List ℕ) (spes : ℕ) (setup : Opening) (old now new : Ledger) (fault : Fault) → now ≡ old → StandsFor files machine setup → spes ≡ length setup.entries
+pub passed_refuses : (files : List File) (machine : Word) (expect pass : Option Word) (programs : List ℕ) (spes : ℕ) (setup : Opening) (lines : List (List ℕ)) (old now new : Ledger) (fault : Fault) → now ≡ old
+    → StandsFor files machine setup → Expects files expect lines → spes ≡ length setup.entries
     → FileFailsBy Pass pass now new fault → PassedComes files pass programs spes (Err fault) → RefusesFiles files machine expect pass old new fault
-passed_refuses files machine expect None programs spes setup old now new fault kept stood count r e = absurd r
-passed_refuses files machine expect (Some name) programs spes setup old now new (ReadFault Pass) kept stood count r e = subst (λ o. FailedAt name o new) kept r.1
-passed_refuses files machine expect (Some name) programs spes setup old now new (ReadFault Expect) kept stood count r e = absurd cc
-passed_refuses files machine expect (Some name) programs spes setup old now new (TooLong Pass) kept stood count r e = e.1
-passed_refuses files machine expect (Some name) programs spes setup old now new (TooLong Expect) kept stood count r e = absurd cc
-passed_refuses files machine expect (Some name) programs spes setup old now new (BadPass line) kept stood count r e = (setup, stood, subst (λ n. IsBadLine files name n line) count e)
-passed_refuses files machine expect (Some name) programs spes setup old now new Memory kept stood count r e = tt
-passed_refuses files machine expect (Some name) programs spes setup old now new other kept stood count r e = absurd e
+passed_refuses files machine expect None programs spes setup lines old now new fault kept stood expected count r e = absurd r
+passed_refuses files machine expect (Some name) programs spes setup lines old now new (ReadFault Pass) kept stood expected count r e = (((setup, stood), (lines, expected)), subst (λ o. FailedAt name o new) kept r.1)
+passed_refuses files machine expect (Some name) programs spes setup lines old now new (ReadFault Expect) kept stood expected count r e = absurd cc
+passed_refuses files machine expect (Some name) programs spes setup lines old now new (TooLong Pass) kept stood expected count r e = (((setup, stood), (lines, expected)), e.1)
+passed_refuses files machine expect (Some name) programs spes setup lines old now new (TooLong Expect) kept stood expected count r e = absurd cc
+passed_refuses files machine expect (Some name) programs spes setup lines old now new (BadPass line) kept stood expected count r e =
+    (((setup, stood), (lines, expected)), (setup, stood, subst (λ n. IsBadLine files name n line) count e))
+passed_refuses files machine expect (Some name) programs spes setup lines old now new Memory kept stood expected count r e = tt
+passed_refuses files machine expect (Some name) programs spes setup lines old now new other kept stood expected count r e = absurd e
 
 pub expects : (files : List File) (expect : Option Word) (lines : Vec (Vec ℕ Global) Global) → ExpectedComes files expect (Ok lines) → Expects files expect (bytes_in lines.items)
 expects files None lines e = e

@@ -6,7 +6,7 @@ use Rattle.hunt_forms.specs.declared.fault.Fault.TheVariants.{Usage, Machine, Re
 use Rattle.hunt_forms.specs.declared.fault.Status.{Status}
 use Rattle.hunt_forms.specs.declared.fault.Status.TheVariants.{Clean, Found, Refused}
 
--- the exit code
+-- the exit status
 abbrev pub code_of : Status → ℕ
 code_of Clean = 0
 code_of Found = 1

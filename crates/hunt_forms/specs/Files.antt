@@ -152,12 +152,18 @@ abbrev pub MachineComes : List File → Word → Ledger → Ledger → Result (O
 MachineComes files machine old new (Ok m) = StandsFor files machine m.0 × HasPrograms files machine m.1.items
 MachineComes files machine old new (Err fault) = MachineRefuses files machine old new fault
 
+-- the files that are read before the one of this option can be read: the machine file with its sources, and before the pass file the expectation file
+abbrev pub ReadsBefore : List File → Word → Option Word → FileId → Type 0
+ReadsBefore files machine expect Expect = (setup : Opening) × StandsFor files machine setup
+ReadsBefore files machine expect Pass = ((setup : Opening) × StandsFor files machine setup) × ((lines : List (List ℕ)) × Expects files expect lines)
+
 -- why the files that the words name are refused
 abbrev pub RefusesFiles : List File → Word → Option Word → Option Word → Ledger → Ledger → Fault → Type 0
 RefusesFiles files machine expect pass old new (Machine fault) = RefusesIn files (run_task machine) old new fault
-RefusesFiles files machine expect pass old new (ReadFault file) = ForSomeName (name_by file expect pass) (λ name. FailedAt name old new)
-RefusesFiles files machine expect pass old new (TooLong file) = ForSomeName (name_by file expect pass) (λ name. given files name text_limit ≡ too_long)
-RefusesFiles files machine expect pass old new (BadPass line) = ForSomeName pass (λ name. (setup : Opening) × StandsFor files machine setup × IsBadLine files name (length setup.entries) line)
+RefusesFiles files machine expect pass old new (ReadFault file) = ReadsBefore files machine expect file × ForSomeName (name_by file expect pass) (λ name. FailedAt name old new)
+RefusesFiles files machine expect pass old new (TooLong file) = ReadsBefore files machine expect file × ForSomeName (name_by file expect pass) (λ name. given files name text_limit ≡ too_long)
+RefusesFiles files machine expect pass old new (BadPass line) =
+    ReadsBefore files machine expect Pass × ForSomeName pass (λ name. (setup : Opening) × StandsFor files machine setup × IsBadLine files name (length setup.entries) line)
 RefusesFiles files machine expect pass old new Memory = Unit {0}
 RefusesFiles files machine expect pass old new other = ⊥
 

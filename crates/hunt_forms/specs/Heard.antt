@@ -69,17 +69,9 @@ with_value s Expect word = option_map (λ w. record s { expect = w; awaited = No
 with_value s Pass word = option_map (λ w. record s { pass = w; awaited = None }) (once s.pass word)
 with_value s Until word = option_map (λ w. record s { until = w; awaited = None }) (once s.until word)
 
--- behind the machine file two options may be said without dashes
-abbrev pub plain_key : Option Word → Word → Option Key
-plain_key None word = None
-plain_key (Some machine) word =
-    if is_word word (codes "expect") then Some Expect
-    else if is_word word (codes "pass") then Some Pass
-    else None
-
 -- the options that have a word behind them
-abbrev pub key_of : Option Word → Word → Option Key
-key_of machine word =
+abbrev pub key_of : Word → Option Key
+key_of word =
     if is_word word (codes "--runs") then Some Runs
     else if is_word word (codes "--seed") then Some Seed
     else if is_word word (codes "--from") then Some From
@@ -87,7 +79,7 @@ key_of machine word =
     else if is_word word (codes "--expect") then Some Expect
     else if is_word word (codes "--pass") then Some Pass
     else if is_word word (codes "--until") then Some Until
-    else plain_key machine word
+    else None
 
 -- the next place
 abbrev pub with_place : Said → Option Word → Option Word → Option Word → Option Word → Word → Option Said
@@ -114,7 +106,7 @@ with_named s (Some key) word = Some (record s { awaited = Some key })
 
 -- the next word, where none is awaited by an option, or the one that is
 abbrev pub with_awaited : Said → Option Key → Word → Option Said
-with_awaited s None word = with_named s (key_of s.machine word) word
+with_awaited s None word = with_named s (key_of word) word
 with_awaited s (Some key) word = with_value s key word
 
 abbrev pub with_word : Said → Word → Option Said

@@ -1,6 +1,6 @@
 //! What is told of each run.
 
-ghost use Rattle.std.specs.Prelude.{◌≡◌, ◌≤◌, ◌<◌, ◌+◌, ◌^◌, ◌++◌, length, IfOk, OnOk};
+ghost use Rattle.std.specs.Prelude.{◌≡◌, ◌<◌, ◌+◌, ◌++◌, length, IfOk, OnOk};
 ghost use Rattle.hunt_forms.specs.Hunts.{end_word, race_text, told_line, is_racy, IsTold, IsToldOf, TellsRuns};
 ghost use Rattle.hunt_forms.specs.Words.{AreRuns};
 

@@ -1,8 +1,8 @@
 //! What an expectation file says.
 
-ghost use Rattle.std.specs.Prelude.{◌≡◌, ◌++◌, ◌≤◌, length, map, IfOk, OnOk};
+ghost use Rattle.std.specs.Prelude.{◌≡◌, ◌++◌, map, IfOk, OnOk};
 ghost use Rattle.cell_base.specs.Words.{words_in};
-ghost use Rattle.hunt_forms.specs.Expected.{spaced, joined, said_by, some_line, expected_in};
+ghost use Rattle.hunt_forms.specs.Expected.{spaced, said_by, some_line, expected_in};
 
 use crate::lines::without_return;
 use cell_base::line_text::{before_comment, first_line, next_word};

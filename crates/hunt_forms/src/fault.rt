@@ -68,25 +68,15 @@ impl fmt::Display for FileId {
     }
 }
 
-/// A file between two texts.
-fn put_file<W: fmt::Write>(
-    f: &mut fmt::Formatter<W>,
-    before: &str,
-    file: FileId,
-    behind: &str,
-) -> fmt::Result {
-    write!(f, "{before}{file}{behind}")
-}
-
 impl fmt::Display for Fault {
     fn fmt<W: fmt::Write>(&self, f: &mut fmt::Formatter<W>) -> fmt::Result {
         match *self {
             Fault::Usage => f.write_str(
-                "usage: hunt MACHINE [--runs N] [--seed S] [--from K] [--jobs N] [--expect FILE] [--pass FILE] [--until FILE] [--json], hunt MACHINE RUNS [SEED], hunt MACHINE each RUNS [SEED] or hunt MACHINE record K [SEED]",
+                "usage: hunt MACHINE [--runs N] [--seed S] [--from K] [--jobs N] [--expect FILE] [--pass FILE] [--until FILE] [--json], hunt MACHINE RUNS [SEED], hunt MACHINE each [RUNS [SEED]] or hunt MACHINE record K [SEED]",
             ),
             Fault::Machine(fault) => fault.fmt(f),
-            Fault::ReadFault { file } => put_file(f, "cannot read ", file, ""),
-            Fault::TooLong { file } => put_file(f, "", file, " is too long"),
+            Fault::ReadFault { file } => write!(f, "cannot read {file}"),
+            Fault::TooLong { file } => write!(f, "{file} is too long"),
             Fault::Pass { line } => write!(f, "pass file, line {line}"),
             Fault::WriteFault => f.write_str("cannot write"),
             Fault::Memory => f.write_str("out of memory"),

@@ -2,7 +2,7 @@
 
 ghost use Rattle.std.specs.Prelude.{◌≡◌, map, string_bytes};
 ghost use Rattle.std.specs.Option.{option_map};
-ghost use Rattle.hunt_forms.specs.Heard.{has_dash, heard, texts_of, silent, plain_key, key_of, once, with_value, with_place, with_json, with_plain, with_word, said_on};
+ghost use Rattle.hunt_forms.specs.Heard.{has_dash, heard, silent, key_of, with_value, with_place, with_json, with_plain, with_word, said_on};
 
 /// An option that has a word behind it.
 #[derive(Clone, Copy, PartialEq, Eq)]
@@ -46,20 +46,9 @@ fn has_dash(word: &str) -> bool
     }
 }
 
-/// The option that is said without dashes behind the machine file.
-fn plain_key(machine: Option<&str>, word: &str) -> Option<Key>
-    ensures { result ≡ plain_key (texts_of machine.entry) word.now }
-{
-    match machine {
-        Some(_) if word == "expect" => Some(Key::Expect),
-        Some(_) if word == "pass" => Some(Key::Pass),
-        _ => None,
-    }
-}
-
 /// The option that has a word behind it.
-fn key_of(machine: Option<&str>, word: &str) -> Option<Key>
-    ensures { result ≡ key_of (texts_of machine.entry) word.now }
+fn key_of(word: &str) -> Option<Key>
+    ensures { result ≡ key_of word.now }
 {
     match word {
         "--runs" => Some(Key::Runs),
@@ -69,7 +58,7 @@ fn key_of(machine: Option<&str>, word: &str) -> Option<Key>
         "--expect" => Some(Key::Expect),
         "--pass" => Some(Key::Pass),
         "--until" => Some(Key::Until),
-        _ => plain_key(machine, word),
+        _ => None,
     }
 }
 
@@ -177,7 +166,7 @@ impl<'a> Heard<'a> {
         if let Some(key) = self.awaited {
             return self.with_value(key, word);
         }
-        match key_of(self.machine, word) {
+        match key_of(word) {
             Some(key) => Some(Heard {
                 awaited: Some(key),
                 ..self

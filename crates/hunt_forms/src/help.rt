@@ -3,8 +3,8 @@
 /// The text of `--help`.
 pub const HELP: &[u8] = b"usage: hunt MACHINE [OPTION..]
        hunt MACHINE RUNS [SEED] [OPTION..]
-       hunt MACHINE each [RUNS [SEED]] [--from K]
-       hunt MACHINE record K [SEED]
+       hunt MACHINE each [RUNS [SEED]] [--runs N] [--seed S] [--from K]
+       hunt MACHINE record K [SEED] [--seed S]
 
 Makes many runs of a machine, in orders by chance that a seed chooses, and tells what was found. `each` tells of each run how it ends and its
 race, or whether it is settled. `record` prints run K as `cell run` does.
@@ -19,5 +19,6 @@ race, or whether it is settled. `record` prints run K as `cell run` does.
   --json         one JSON object a line
   --help         this text
 
-The exit status is 1 where a run has a race, is stuck, spent its budget, has a fault or a halt, or misses an expected line, and else 0.
+The exit status of a hunt is 1 where a run has a race, is stuck, spent its budget, has a fault or a halt, or misses an expected line, that of
+`each` 1 where a run has a race, and else 0. 2 to 7 say why nothing was told, or not all.
 ";

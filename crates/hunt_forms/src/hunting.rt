@@ -8,12 +8,9 @@ ghost use Rattle.hunt_forms.specs.Hunts.{AreMade, HasMade, MakesRounds};
 use crate::input::Quarry;
 use crate::progress::Progress;
 use crate::team::{Round, Team};
-use crate::words::Hunt;
+use crate::words::{Hunt, MOST_JOBS};
 use hunt_tally::Hunted;
 use std::alloc::AllocError;
-
-/// On how many threads a hunt runs at most.
-const MOST_JOBS: u32 = 256;
 
 /// What is made next of the runs that are left, on at most so many threads, of which each wants to make so many.
 fn next_round(left: u32, most: u32, wanted: u32) -> Round
@@ -39,8 +36,8 @@ fn goes_on<P: Progress>(made: u32, runs: u32, progress: &mut P) -> bool
     made == 0 || made < runs && progress.goes_on()
 }
 
-/// Makes the runs of a hunt, all or as many as were made when somebody ended it, and takes their reports in.
-pub fn hunt_runs<F, P>(
+/// Makes the runs of a hunt round by round, until all are made or somebody ends it, and takes their reports in.
+fn make_rounds<F, P>(
     team: &Team<F>,
     quarry: &Quarry,
     hunt: &Hunt,
@@ -64,6 +61,28 @@ where
         made += round.runs;
         progress.show(sums, hunt.runs);
     }
-    progress.end();
     Ok(())
+}
+
+/// Makes the runs of a hunt, all or as many as were made when somebody ended it, and takes their reports in. Who looks on is told of the end, also
+/// where it comes for want of memory.
+pub fn hunt_runs<F, P>(
+    team: &Team<F>,
+    quarry: &Quarry,
+    hunt: &Hunt,
+    progress: &mut P,
+    sums: &mut Hunted,
+) -> Result<(), AllocError>
+where
+    F: Fn(&Quarry, &Hunt, u32, Round, &mut Hunted) -> Result<(), AllocError>,
+    P: Progress,
+    requires makes { MakesRounds (F.pre team.now.make) (F.post team.now.make) }
+    requires some { 0 < length quarry.now.setup.entries }
+    requires within { AreRuns hunt.now.from hunt.now.runs }
+    requires none { sums.old ≡ hunted [] }
+    ensures { OnOk result (HasMade quarry.now hunt.now.seed hunt.now.from hunt.now.runs (P.stopped progress.new) sums.new) }
+{
+    let made = make_rounds(team, quarry, hunt, progress, sums);
+    progress.end();
+    made
 }

@@ -1,13 +1,13 @@
 //! The files that the words name.
 
 ghost use Rattle.std.specs.Prelude.{◌≡◌, ◌≤◌, ◌<◌, ◌+◌, ◌++◌, ◌∷◌, [], length, map, IfOk, OnOk, IfErr};
-ghost use Rattle.std.specs.Option.{ForSome, option_map};
+ghost use Rattle.std.specs.Option.{ForSome};
 ghost use Rattle.cell_io.specs.Store.{NoneFell};
 ghost use Rattle.cell_load.specs.Sources.{named};
 ghost use Rattle.hunt_reports.specs.Lists.{bytes_in};
 ghost use Rattle.hunt_reports.specs.Places.{key_of};
 ghost use Rattle.hunt_forms.specs.Heard.{texts_of};
-ghost use Rattle.hunt_forms.specs.Files.{name_of, number_named, program_of, programs_of, told_as, FileComes, FileFails, IsOfFiles, MachineComes, ExpectComes, PassComes, Comes, FailsBy, FailsAt};
+ghost use Rattle.hunt_forms.specs.Files.{name_of, number_named, program_of, programs_of, told_as, FileComes, FileFails, IsOfFiles, MachineComes, ExpectComes, PassComes, FailsAt};
 
 use crate::expected::read_expected;
 use crate::fault::{Fault, FileId};

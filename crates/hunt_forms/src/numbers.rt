@@ -1,6 +1,6 @@
 //! Words that are numbers.
 
-ghost use Rattle.std.specs.Prelude.{◌≡◌, ◌≤◌, ◌<◌, ◌^◌, IfSome};
+ghost use Rattle.std.specs.Prelude.{◌≡◌, ◌≤◌, IfSome};
 ghost use Rattle.cell_base.specs.Numbers.{Reads, digits_at, at_most};
 ghost use Rattle.hunt_forms.specs.Numbers.{number_within};
 

@@ -1,6 +1,6 @@
 //! The parts of a round: runs that follow one another, and that one thread makes.
 
-ghost use Rattle.std.specs.Prelude.{◌≡◌, ◌≤◌, ◌<◌, ◌+◌, ◌^◌, max, length, IfOk, IfSome, OnOk};
+ghost use Rattle.std.specs.Prelude.{◌≤◌, ◌<◌, ◌+◌, ◌^◌, max, length, IfOk, IfSome, OnOk};
 ghost use Rattle.hunt_forms.specs.Hunts.{HasTaken, IsPart, AreParts};
 
 use crate::input::Quarry;

@@ -1,7 +1,6 @@
 //! What a pass file says: the races that are left out.
 
-ghost use Rattle.std.specs.Prelude.{◌≡◌, ◌≤◌, ◌<◌, ◌++◌, length, IfOk, IfSome, OnOk};
-ghost use Rattle.std.specs.Option.{option_map};
+ghost use Rattle.std.specs.Prelude.{◌≡◌, ◌≤◌, ◌++◌, length, OnOk};
 ghost use Rattle.cell_base.specs.Numbers.{Reads};
 ghost use Rattle.cell_base.specs.Words.{words_in};
 ghost use Rattle.cell_base.specs.Walk.{items_of};

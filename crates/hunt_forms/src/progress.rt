@@ -22,7 +22,7 @@ pub trait Progress {
     fn show(&mut self, hunted: &Hunted, runs: u32)
         ensures { stopped self.new ≡ stopped self.old };
 
-    /// The last run was made.
+    /// No more runs are made.
     fn end(&mut self)
         ensures { stopped self.new ≡ stopped self.old };
 }

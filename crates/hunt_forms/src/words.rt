@@ -1,9 +1,9 @@
 //! The forms of words.
 
-ghost use Rattle.std.specs.Prelude.{◌≡◌, ◌≤◌, ◌<◌, ◌+◌, ℕ, Some, IfSome, map, option_and_then, string_bytes};
+ghost use Rattle.std.specs.Prelude.{◌≡◌, ◌≤◌, ◌<◌, ◌+◌, Some, IfSome, map, option_and_then, string_bytes};
 ghost use Rattle.std.specs.Option.{option_map};
 ghost use Rattle.hunt_forms.specs.Heard.{heard, texts_of, silent, said_on};
-ghost use Rattle.hunt_forms.specs.Words.{asks_help, count_within, either, number_or, runs_said, seed_said, from_said, jobs_said, is_plain, hunt_said, each_said, record_said, placed, form_said, spoken, said, most_runs, most_run, most_jobs, AreRuns, IsWithin};
+ghost use Rattle.hunt_forms.specs.Words.{asks_help, count_within, either, number_or, runs_said, seed_said, from_said, jobs_said, is_plain, hunt_said, each_said, record_said, placed, form_said, spoken, said, most_runs, most_run, most_jobs, IsWithin};
 
 use crate::heard::{Heard, hear};
 use crate::numbers::number_of;
@@ -14,7 +14,7 @@ const MOST_RUNS: u32 = 1_000_000;
 const FEW_RUNS: u32 = 200;
 
 /// On how many threads a hunt may run.
-const MOST_JOBS: u32 = 256;
+pub const MOST_JOBS: u32 = 256;
 
 /// A hunt that is asked for.
 #[derive(Clone, Copy)]
@@ -56,7 +56,7 @@ pub enum Form<'a> {
     NoForm,
 }
 
-/// The word of a place or of an option; `Err` where both are said.
+/// The word of a place or of an option; None where both are said.
 fn either<'a>(place: Option<&'a str>, option: Option<&'a str>) -> Option<Option<&'a str>>
     ensures { option_map texts_of result ≡ either (texts_of place.entry) (texts_of option.entry) }
 {

@@ -9,8 +9,9 @@
 //! `go MACHINE RECORD STEPS CHOICES` makes the first so many steps of a record, and then those that the numbers of a file choose; it prints the effects of
 //! these, then what `states` would print behind them, and then what may be done next. `lines SOURCE` prints a line for each line of a source, with its number,
 //! `text` or `data`, its address and the address behind it, and then one for each label, with the number of its line. `plan MACHINE` prints a line for each
-//! line of a machine file that has words: its number, the processor that it is of or a dash, and the words. Nothing is printed where something is refused.
-//! `time MACHINE RECORD` prints how long it takes to follow a record, alone, with an orderer, and with questions put to it, and to search it for races.
+//! line of a machine file that has words: its number, the processor that it is of or a dash, and the words. `time MACHINE RECORD` prints how many
+//! microseconds it takes to follow a record, alone, with an orderer, and with questions put to it, and to search it for races, each once it is measured.
+//! Nothing is printed where something is refused, but by `time`.
 #![tactic(auto)]
 
 mod timing;
@@ -20,7 +21,7 @@ use cell_io::{DirStore, OutSink};
 use std::io;
 use std::process::ExitCode;
 use timing::print_times;
-use trace_forms::{Status, trace};
+use trace_forms::{Fault, Status, trace};
 use words::words_of;
 
 /// Does what the words ask for.
@@ -40,13 +41,22 @@ fn obey(rt: &HostRuntime, words: &[String]) -> Status {
     }
 }
 
+/// The form that trace_forms doesn't have, behind those that it has.
+fn own_form(fault: Fault) -> &'static str {
+    match fault {
+        Fault::Usage => ", time M RECORD",
+        _ => "",
+    }
+}
+
 fn main(rt: HostRuntime) -> ExitCode {
     let (status, reason) = match words_of(&rt) {
         Ok(words) => (obey(&rt, words.as_slice()), ""),
         Err(refusal) => (Status::Refused(refusal.fault), refusal.reason),
     };
     if let Status::Refused(fault) = status {
-        let _ = eprintln!(rt; "run_trace: {fault}{reason}");
+        let own = own_form(fault);
+        let _ = eprintln!(rt; "run_trace: {fault}{own}{reason}");
     }
     ExitCode::from(status.code())
 }

@@ -12,7 +12,7 @@ use race_order::Orderer;
 use std::fmt::Display;
 use std::fs;
 use std::time::Instant;
-use trace_forms::{Fault, is_before, not_allowed, read_recorded, read_start, take};
+use trace_forms::{Fault, is_before, make_all, read_recorded, read_start, take};
 
 /// How many questions are put at each step.
 const QUESTIONS: u32 = 4;
@@ -59,16 +59,6 @@ fn since(rt: &HostRuntime, then: Option<Instant>) -> u128 {
         },
         None => 0,
     }
-}
-
-/// Makes steps, up to the first that isn't allowed.
-fn make_all(machine: &mut Machine, steps: &[Step]) -> Result<(), Fault> {
-    for step in steps {
-        if machine.step(*step).is_err() {
-            return Err(not_allowed(machine));
-        }
-    }
-    Ok(())
 }
 
 /// Times the steps without an order.

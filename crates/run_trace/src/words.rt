@@ -11,20 +11,40 @@ pub struct Refusal {
     pub reason: &'static str,
 }
 
-/// Why words are refused of which one isn't UTF-8: where they are a form, a file has a name that isn't. The texts have U+FFFD for what isn't,
-/// which stands in no form's own words and in no number.
-fn refusal_of(texts: &[String]) -> Refusal {
-    if matches!(form_of(texts), Form::NoForm) {
-        return Refusal {
+/// Whether the words are those of `time`, a form that trace_forms doesn't have.
+fn is_time(texts: &[String]) -> bool {
+    match texts {
+        [form, _, _] => form.as_str() == "time",
+        _ => false,
+    }
+}
+
+/// A file has a name that isn't UTF-8; the fault is the one that it can't be read.
+fn unreadable(fault: Fault) -> Refusal {
+    Refusal {
+        fault,
+        reason: ": its name is not UTF-8",
+    }
+}
+
+/// The same of a file that `cell` reads, too.
+fn unreadable_input(file: FileId) -> Refusal {
+    unreadable(Fault::Input(InputFault::ReadFault { file }))
+}
+
+/// Why words are refused of which the one at this place is the first that isn't UTF-8. The texts have U+FFFD for what isn't, which stands in no form's
+/// own words and in no number.
+fn refusal_of(texts: &[String], place: usize) -> Refusal {
+    match form_of(texts) {
+        Form::NoForm if !is_time(texts) => Refusal {
             fault: Fault::Usage,
             reason: "",
-        };
-    }
-    Refusal {
-        fault: Fault::Input(InputFault::ReadFault {
-            file: FileId::Machine,
-        }),
-        reason: ": the name of a file is not UTF-8",
+        },
+        Form::Lines { .. } => unreadable_input(FileId::Source(0)),
+        _ if place == 1 => unreadable_input(FileId::Machine),
+        Form::Choose { .. } => unreadable(Fault::ReadFault),
+        Form::Go { .. } if place == 4 => unreadable(Fault::ReadFault),
+        _ => unreadable_input(FileId::Rec),
     }
 }
 
@@ -38,6 +58,6 @@ pub fn words_of(rt: &HostRuntime) -> Result<Vec<String>, Refusal> {
     };
     match not_utf8 {
         None => Ok(texts),
-        Some(_) => Err(refusal_of(texts.as_slice())),
+        Some(place) => Err(refusal_of(texts.as_slice(), place)),
     }
 }

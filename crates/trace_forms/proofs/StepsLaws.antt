@@ -1,5 +1,5 @@
 -- Steps that are made or refused, and what is told of their runs.
-use Rattle.std.proofs.Common.{◌≡◌, ◌∙◌, ℕ, ◌<◌, List, ◌∷◌, ◌++◌, length, take, get_or, Option, Some, None, refl, sym, ap, subst, append_assoc}
+use Rattle.std.proofs.Common.{◌≡◌, ◌∙◌, ℕ, ◌<◌, ◌≤◌, List, ◌∷◌, ◌++◌, length, take, get_or, Option, Some, None, refl, sym, ap, subst, append_assoc}
 use Rattle.std.specs.Prelude.{IsSome}
 use Rattle.cell_base.specs.declared.steps.Step.{Step}
 use Rattle.cell_machine.specs.Opening.{Opening}
@@ -39,14 +39,14 @@ refuses_rest m n steps s fault h run is = subst (RefusesRest m steps) (sym is) (
 
 -- of all steps, and of the first so many
 pub refuses_all : (setup : Opening) (steps : List Step) (fault : Fault) → RefusesRest (start setup) steps fault → StepsRefuse setup steps None fault
-refuses_all setup steps (Input (NotARun at)) r = r
+refuses_all setup steps (Input (NotARun at)) r = (tt, r)
 refuses_all setup steps Memory r = tt
 refuses_all setup steps fault r = absurd r
 
-pub refuses_first : (setup : Opening) (steps first : List Step) (count : ℕ) (fault : Fault) → first ≡ take count steps → RefusesRest (start setup) first fault → StepsRefuse setup steps (Some count) fault
-refuses_first setup steps first count (Input (NotARun at)) is r = subst (λ (t : List Step). IsRefusedAt setup t at) is r
-refuses_first setup steps first count Memory is r = tt
-refuses_first setup steps first count fault is r = absurd r
+pub refuses_first : (setup : Opening) (steps first : List Step) (count : ℕ) (fault : Fault) → first ≡ take count steps → count ≤ length steps → RefusesRest (start setup) first fault → StepsRefuse setup steps (Some count) fault
+refuses_first setup steps first count (Input (NotARun at)) is enough r = (enough, subst (λ (t : List Step). IsRefusedAt setup t at) is r)
+refuses_first setup steps first count Memory is enough r = tt
+refuses_first setup steps first count fault is enough r = absurd r
 
 -- where the next of these steps is refused behind those that were made
 pub next_refused : (m l : Ran) (steps : List Step) (i : ℕ) (s d : Step) (fault : Fault) → i < length steps → s ≡ get_or steps i d → l ≡ record m { steps = m.steps ++ take i steps } → RefusesNext l s fault → RefusesRest m steps fault

@@ -165,6 +165,9 @@ pub stops_of : (m n : Ran) (steps : List Step) (r : Option Step) → Makes m ste
 stops_of m n steps None h some = absurd (cc)
 stops_of m n steps (Some s) h some = (s, h)
 
+pub made_of : (m n : Ran) (steps : List Step) (r : Option Step) → Makes m steps n r → r ≡ None → n ≡ record m { steps = m.steps ++ steps }
+made_of m n steps r h none = subst (Makes m steps n) none h
+
 pub none_is : {X : Type 0} (r : Option X) → is_some r ≡ false → r ≡ None
 none_is None e = refl
 none_is (Some x) e = absurd (cc)
@@ -201,4 +204,4 @@ tells_comes files machine record_file ask old new setup steps (Err fault) stood 
 pub goes_comes : (files : List File) (machine record_file choices : Word) (count : ℕ) (old new : Ledger) (setup : Opening) (steps : List Step) (numbers : List ℕ) (result : Result (Vec ℕ Global) Fault) → StandsFor files machine setup
     → HasRecord files record_file steps → HasChoices files choices numbers → Came (Goes numbers) setup steps count result → Comes files (go machine record_file count choices) old new result
 goes_comes files machine record_file choices count old new setup steps numbers (Ok text) stood has chosen t = (setup, steps, numbers, stood, has, chosen, t.0, t.1)
-goes_comes files machine record_file choices count old new setup steps numbers (Err fault) stood has chosen t = inr (inr (inr (setup, steps, stood, has, t)))
+goes_comes files machine record_file choices count old new setup steps numbers (Err fault) stood has chosen t = inr (inr (inr (setup, steps, stood, has, (numbers, chosen, t))))

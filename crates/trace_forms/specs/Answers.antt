@@ -20,7 +20,7 @@ use Rattle.spu_asm.specs.Listings.{Listing}
 use Rattle.trace_forms.specs.Words.{Spoken, alone, choose, asked, go, lined, planned, no_form}
 use Rattle.trace_forms.specs.Choices.{start, with_choices, TakesTurns}
 use Rattle.trace_forms.specs.Told.{first_run, Tells, TellsRecord, Goes}
-use Rattle.trace_forms.specs.Files.{StandsFor, HasRecord, HasChoices, MachineRefuses, RecordRefuses, ChoicesRefuse, RecordedRefuse, SourceRefuses, PlanRefuses, count_of, FailsAtMachine, FailsAtRecord, FailsAtChoices, FailsAtFile, IsOfFiles}
+use Rattle.trace_forms.specs.Files.{StandsFor, HasRecord, HasChoices, MachineRefuses, RecordRefuses, ChoicesRefuse, StepsRefuse, BehindMachine, BehindRecord, BehindChoices, SourceRefuses, PlanRefuses, count_of, FailsAtMachine, FailsAtRecord, FailsAtChoices, FailsAtFile, IsOfFiles}
 use Rattle.trace_forms.specs.Listings.{HasListing, listing_text}
 use Rattle.trace_forms.specs.Plans.{HasPlan}
 
@@ -40,14 +40,17 @@ Writes files (lined source) text = (l : Listing) × HasListing files source l ×
 Writes files (planned machine) text = HasPlan files machine text
 Writes files no_form text = ⊥
 
--- why nothing is written
+-- why nothing is written: a file is refused only behind those before it, and the steps behind all
 abbrev pub Refuses : List File → Spoken → Ledger → Ledger → Fault → Type 0
 Refuses files (alone machine) old new fault = MachineRefuses files machine old new fault
-Refuses files (choose machine choices) old new fault = MachineRefuses files machine old new fault ⊎ ChoicesRefuse files choices old new fault
+Refuses files (choose machine choices) old new fault = MachineRefuses files machine old new fault ⊎ BehindMachine files machine (ChoicesRefuse files choices old new fault)
 Refuses files (asked machine record_file ask) old new fault =
-    MachineRefuses files machine old new fault ⊎ RecordRefuses files record_file old new fault ⊎ RecordedRefuse files machine record_file (count_of ask) fault
+    MachineRefuses files machine old new fault ⊎ BehindMachine files machine (RecordRefuses files record_file old new fault)
+    ⊎ BehindRecord files machine record_file (λ setup steps. StepsRefuse setup steps (count_of ask) fault)
 Refuses files (go machine record_file count choices) old new fault =
-    MachineRefuses files machine old new fault ⊎ RecordRefuses files record_file old new fault ⊎ ChoicesRefuse files choices old new fault ⊎ RecordedRefuse files machine record_file (Some count) fault
+    MachineRefuses files machine old new fault ⊎ BehindMachine files machine (RecordRefuses files record_file old new fault)
+    ⊎ BehindRecord files machine record_file (λ setup steps. ChoicesRefuse files choices old new fault)
+    ⊎ BehindRecord files machine record_file (λ setup steps. BehindChoices files choices (StepsRefuse setup steps (Some count) fault))
 Refuses files (lined source) old new fault = SourceRefuses files source old new fault
 Refuses files (planned machine) old new fault = PlanRefuses files machine old new fault
 Refuses files no_form old new fault = fault ≡ Usage

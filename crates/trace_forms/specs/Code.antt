@@ -9,7 +9,7 @@ use Rattle.trace_forms.specs.declared.fault.Fault.TheVariants.{Usage, Input, Rea
 use Rattle.trace_forms.specs.declared.fault.Status.{Status}
 use Rattle.trace_forms.specs.declared.fault.Status.TheVariants.{Done, Refused}
 
--- the exit code
+-- the exit status
 abbrev pub code_of : Status → ℕ
 code_of Done = 0
 code_of (Refused Usage) = 2

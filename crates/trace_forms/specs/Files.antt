@@ -1,5 +1,5 @@
 -- What the files that the words name stand for, or why they are refused.
-use Rattle.std.specs.Prelude.{◌≡◌, ℕ, ◌+◌, ◌<◌, List, Option, Some, None, Vec, Result, Ok, Err, take, length}
+use Rattle.std.specs.Prelude.{◌≡◌, ℕ, ◌+◌, ◌<◌, ◌≤◌, List, Option, Some, None, Vec, Result, Ok, Err, take, length}
 use Rattle.std.specs.declared.alloc.Global.{Global}
 use Rattle.cell_base.specs.declared.steps.Step.{Step}
 use Rattle.cell_io.specs.Files.{File}
@@ -86,16 +86,30 @@ abbrev pub counted : Option ℕ → List Step → List Step
 counted None steps = steps
 counted (Some count) steps = take count steps
 
--- of these steps, of which so many are asked for: there are fewer, or one of those isn't allowed, the first of that kind
+-- there are as many steps as are asked for
+abbrev pub AreEnough : Option ℕ → List Step → Type 0
+AreEnough None steps = Unit {0}
+AreEnough (Some count) steps = count ≤ length steps
+
+-- of these steps, of which so many are asked for: there are fewer; or there are as many, and one of those isn't allowed, the first of that kind
 abbrev pub StepsRefuse : Opening → List Step → Option ℕ → Fault → Type 0
 StepsRefuse setup steps count (TooShort n) = (count ≡ Some n) × (length steps < n)
-StepsRefuse setup steps count (Input (NotARun at)) = IsRefusedAt setup (counted count steps) at
+StepsRefuse setup steps count (Input (NotARun at)) = AreEnough count steps × IsRefusedAt setup (counted count steps) at
 StepsRefuse setup steps count Memory = Unit {0}
 StepsRefuse setup steps count other = ⊥
 
-abbrev pub RecordedRefuse : List File → Word → Word → Option ℕ → Fault → Type 0
-RecordedRefuse files machine record_file count fault =
-    (setup : Opening) × (steps : List Step) × StandsFor files machine setup × HasRecord files record_file steps × StepsRefuse setup steps count fault
+-- ---- refusals behind files that aren't refused
+
+abbrev pub BehindMachine : List File → Word → Type 0 → Type 0
+BehindMachine files machine P = (setup : Opening) × StandsFor files machine setup × P
+
+-- behind a machine file and a record file
+abbrev pub BehindRecord : List File → Word → Word → (Opening → List Step → Type 0) → Type 0
+BehindRecord files machine record_file P = (setup : Opening) × (steps : List Step) × StandsFor files machine setup × HasRecord files record_file steps × P setup steps
+
+-- behind a choice file
+abbrev pub BehindChoices : List File → Word → Type 0 → Type 0
+BehindChoices files choices P = (numbers : List ℕ) × HasChoices files choices numbers × P
 
 -- ---- what was read
 

@@ -1,4 +1,4 @@
-//! Choice files: numbers between blanks.
+//! Choice files: numbers between white space.
 
 ghost use Rattle.std.specs.Prelude.{◌≡◌, ◌++◌, ◌∷◌, [], IfErr, MatchOption, OnOk};
 ghost use Rattle.std.specs.Option.{ForSome};
@@ -7,12 +7,13 @@ ghost use Rattle.trace_forms.specs.Files.{ChoicesCome, ChoiceTextComes, FailsAtC
 ghost use Rattle.trace_forms.specs.Numbers.{IsNumber, value_of};
 
 use crate::fault::Fault;
+use cell_forms::RECORD_LIMIT;
 use cell_io::{FetchFault, Fetched, Store};
 use std::alloc::{AllocError, Global};
 use std::str;
 
 /// How long a choice file may be, in bytes.
-const CHOICES_LIMIT: usize = 33_554_432;
+const CHOICES_LIMIT: usize = RECORD_LIMIT;
 
 /// The number that a word is.
 fn number_of(word: &str) -> Option<u64>

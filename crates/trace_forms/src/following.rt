@@ -1,6 +1,6 @@
 //! A run and the order of its steps, taken step by step.
 
-ghost use Rattle.std.specs.Prelude.{◌≡◌, ◌+◌, ◌<◌, ◌∷◌, ◌++◌, ◌-◌, ◌↔◌, [], IsTrue, length, IfErr, IfOk, OnOk};
+ghost use Rattle.std.specs.Prelude.{◌≡◌, ◌+◌, ◌<◌, ◌++◌, ◌-◌, ◌↔◌, IsTrue, length, IfErr, IfOk, OnOk};
 ghost use Rattle.cell_machine.specs.Run.{IsRun, Ran};
 ghost use Rattle.race_order.specs.OrderedRuns.{OnTrace, StandsForRun};
 ghost use Rattle.race_order.specs.Rules.{Rule, Ordered};
@@ -13,6 +13,7 @@ use crate::fault::Fault;
 use cell_base::Step;
 use cell_forms::Fault as InputFault;
 use cell_machine::{Effect, Machine};
+use cell_trace::follow;
 use race_order::Orderer;
 
 /// What is said of a step that isn't allowed behind those that a machine has made.
@@ -23,6 +24,17 @@ pub fn not_allowed(machine: &Machine) -> Fault
     Fault::Input(InputFault::NotARun {
         at: machine.steps().len() as u32,
     })
+}
+
+/// Makes steps. Behind a refusal the machine has made those before the first that isn't allowed.
+pub fn make_all(machine: &mut Machine, steps: &[Step]) -> Result<(), Fault>
+    ensures made { OnOk result (machine.new ≡ record machine.old { steps = machine.old.steps ++ steps.now }) }
+    ensures refused { IfErr result (RefusesRest machine.old steps.now) }
+{
+    if follow(machine, steps).is_some() {
+        return Err(not_allowed(machine));
+    }
+    Ok(())
 }
 
 /// Makes a step, takes it into the order, and answers its effect. Behind a refusal the orderer is only dropped.
@@ -51,7 +63,8 @@ pub fn is_before(orderer: &Orderer, machine: &Machine, i: u32) -> bool
     ghost m: { Ran }
     requires same { m ≡ machine.now }
     requires stands { StandsForRun orderer.now m }
-    ensures { i + 1 < length m.steps → OnTrace m (λ trace. IsTrue result ↔ Ordered Rule trace i (length m.steps - 1)) }
+    ensures earlier { IsTrue result → i + 1 < length m.steps }
+    ensures ordered { i + 1 < length m.steps → OnTrace m (λ trace. IsTrue result ↔ Ordered Rule trace i (length m.steps - 1)) }
 {
     i as usize + 1 < machine.steps().len() && orderer.before(i)
 }

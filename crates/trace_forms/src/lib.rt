@@ -16,7 +16,7 @@ mod telling;
 mod words;
 
 pub use fault::{Fault, Status};
-pub use following::{is_before, not_allowed, take};
+pub use following::{is_before, make_all, take};
 pub use program::{trace, trace_form};
 pub use reading::{read_recorded, read_start};
 pub use words::{Form, form_of};

@@ -1,6 +1,6 @@
 //! What is told of runs: records, states, what steps do, and what flow controllers hold.
 
-ghost use Rattle.std.specs.Prelude.{◌≡◌, ◌≤◌, ◌<◌, take, length, IfErr, IfOk, OnOk};
+ghost use Rattle.std.specs.Prelude.{◌≡◌, ◌≤◌, take, length, IfErr, IfOk, OnOk};
 ghost use Rattle.cell_forms.specs.Checks.{TellsEnd};
 ghost use Rattle.cell_forms.specs.Runs.{PrintsSteps};
 ghost use Rattle.trace_forms.specs.Choices.{start, with_choice, with_choices};
@@ -10,12 +10,12 @@ use crate::allowed::allowed_text;
 use crate::before::{before_text, each_text};
 use crate::choosing::chosen;
 use crate::fault::Fault;
-use crate::following::not_allowed;
+use crate::following::{make_all, not_allowed};
 use crate::words::Ask;
 use cell_base::Step;
 use cell_machine::Machine;
 use cell_report::{record_text, states_text};
-use cell_trace::{follow, put_effects, put_flows};
+use cell_trace::{put_effects, put_flows};
 use std::alloc::{AllocError, Global};
 
 /// Writes the states of a machine.
@@ -72,9 +72,7 @@ fn states_behind(alloc: Global, machine: &mut Machine, steps: &[Step]) -> Result
     requires { machine.old ≡ start machine.old.setup }
     ensures { Told machine.old.setup steps.now Ask.States result }
 {
-    if follow(machine, steps).is_some() {
-        return Err(not_allowed(machine));
-    }
+    make_all(machine, steps)?;
     match states_text(alloc, machine) {
         Ok(text) => Ok(text),
         Err(_) => Err(Fault::Memory),
@@ -94,9 +92,7 @@ fn flows_text(alloc: Global, machine: &mut Machine, steps: &[Step]) -> Result<Ve
     requires { machine.old ≡ start machine.old.setup }
     ensures { ToldBehind TellsStanding machine.old.setup steps.now result }
 {
-    if follow(machine, steps).is_some() {
-        return Err(not_allowed(machine));
-    }
+    make_all(machine, steps)?;
     let mut out = Vec::new(alloc);
     put_standing(alloc, &mut out, machine)?;
     Ok(out)
@@ -212,9 +208,7 @@ fn going_behind(
     requires { machine.old ≡ start machine.old.setup }
     ensures { ToldBehind (Goes numbers.now) machine.old.setup steps.now result }
 {
-    if follow(machine, steps).is_some() {
-        return Err(not_allowed(machine));
-    }
+    make_all(machine, steps)?;
     match going_text(alloc, machine, numbers) {
         Ok(text) => Ok(text),
         Err(_) => Err(Fault::Memory),

@@ -4,7 +4,7 @@ ghost use Rattle.std.specs.Prelude.{◌≡◌, map, string_bytes};
 ghost use Rattle.cell_base.specs.Numbers.{decimal_number};
 ghost use Rattle.trace_forms.specs.Words.{spoken, said, asked_by, one_said, file_said, before_said, states_said, go_said};
 
-use cell_base::line_text::number_at;
+use cell_forms::number_of;
 
 /// What is asked of the run that a record has.
 #[derive(Clone, Copy)]
@@ -54,14 +54,6 @@ pub enum Form<'a> {
         machine: &'a str,
     },
     NoForm,
-}
-
-/// The number that a word is in decimal, without a leading zero.
-fn number_of(word: &str) -> Option<u32>
-    ensures { result ≡ decimal_number word.now }
-{
-    let (n, rest) = number_at(word.as_bytes(), u32::MAX)?;
-    rest.is_empty().then_some(n)
 }
 
 /// The form `before` with this word, where it is a number.

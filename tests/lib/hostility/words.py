@@ -11,7 +11,7 @@ ODD = "\udcff"  # stands for the byte FF, which is nowhere in UTF-8
 MACHINE, RECORD = "first.cell", "first.out"
 BOTH = (MACHINE, RECORD)
 NOT_UTF8 = "its name is not UTF-8$"
-FORMS, HUNT_FORMS, TRACER_FORMS = "^cell: usage: cell run", "^hunt: usage: hunt MACHINE", "^run_trace: words: alone M"
+FORMS, HUNT_FORMS, TRACER_FORMS = "^cell: usage: cell run", "^hunt: usage: hunt MACHINE", "^run_trace: words: alone M.*, time M RECORD$"
 Status = Union[int, Tuple[int, ...]]
 
 
@@ -29,7 +29,15 @@ NAMES = [
     refused("a source", ["cell", "asm", f"a{ODD}"], 3, f"^cell: cannot read source 0: {NOT_UTF8}"),
     refused("a hunt's machine file", ["hunt", ODD, "3"], 3, "^hunt: cannot read machine file: the name of a file is not UTF-8$"),
     refused("a machine file of hunt itself", [HUNT, ODD, "3"], 3, "^hunt: cannot read machine file: the name of a file is not UTF-8$"),
-    refused("a record of run_trace", [TRACER, "effects", MACHINE, ODD], 3, "^run_trace: cannot read machine file: the name of a file is not UTF-8$"),
+    refused("an expectation file", ["hunt", MACHINE, "--expect", ODD], 3, "^hunt: cannot read expectation file: the name of a file is not UTF-8$"),
+    refused("a pass file", [HUNT, MACHINE, "3", "--pass", f"p{ODD}"], 3, "^hunt: cannot read pass file: the name of a file is not UTF-8$"),
+    refused("a record of run_trace", [TRACER, "effects", MACHINE, ODD], 3, f"^run_trace: cannot read record file: {NOT_UTF8}"),
+    refused("a machine file of run_trace", [TRACER, "effects", ODD, ODD], 3, f"^run_trace: cannot read machine file: {NOT_UTF8}"),
+    refused("a source of run_trace", [TRACER, "lines", f"a{ODD}"], 3, f"^run_trace: cannot read source 0: {NOT_UTF8}"),
+    refused("a choice file", [TRACER, "choose", MACHINE, ODD], 3, f"^run_trace: cannot read choice file: {NOT_UTF8}"),
+    refused("a choice file behind a record", [TRACER, "go", *BOTH, "1", ODD], 3, f"^run_trace: cannot read choice file: {NOT_UTF8}"),
+    refused("a record to go on from", [TRACER, "go", MACHINE, ODD, "1", ODD], 3, f"^run_trace: cannot read record file: {NOT_UTF8}"),
+    refused("a record to be timed", [TRACER, "time", MACHINE, ODD], 3, f"^run_trace: cannot read record file: {NOT_UTF8}"),
 ]
 
 NO_FORMS = [

@@ -12,7 +12,8 @@ returns-in_err-expected-clause-cause g c =
 pub returns-in_err-expected-clause-comes : goal.returns-in_err-expected-clause-comes
 returns-in_err-expected-clause-comes g c = λ told is.
     let p = err_from_is_err_and c.from_residual-in_err-expected.result c.from_residual-in_err-expected.ensures.1 in
-    rw (p.1, p.2) (expected_refuses told c.args.machine.now (texts_of c.args.expect) (texts_of c.args.pass) _ _ _ c.in_err-expected.field-0.0 c.in_ok-setup.ensures.kept c.in_err-expected.ensures.cause
+    rw (p.1, p.2) (expected_refuses told c.args.machine.now (texts_of c.args.expect) (texts_of c.args.pass) c.in_ok-setup.setup _ _ _ c.in_err-expected.field-0.0 c.in_ok-setup.ensures.kept (c.in_ok-setup.ensures.comes told is).0
+    c.in_err-expected.ensures.cause
     (c.in_err-expected.ensures.comes told (c.read_machine.ensures.same ∙ is)))
 
 pub returns-in_err-passed-clause-cause : goal.returns-in_err-passed-clause-cause
@@ -23,8 +24,9 @@ returns-in_err-passed-clause-cause g c =
 pub returns-in_err-passed-clause-comes : goal.returns-in_err-passed-clause-comes
 returns-in_err-passed-clause-comes g c = λ told is.
     let p = err_from_is_err_and c.from_residual-in_err-passed.result c.from_residual-in_err-passed.ensures.1 in
-    rw (p.1, p.2) (passed_refuses told c.args.machine.now (texts_of c.args.expect) (texts_of c.args.pass) c.as_slice.result.now c.spes.result c.in_ok-setup.setup _ _ _ c.in_err-passed.field-0.0
-    (c.in_ok-expected.ensures.kept ∙ c.in_ok-setup.ensures.kept) (c.in_ok-setup.ensures.comes told is).0 c.spes.ensures.count c.in_err-passed.ensures.cause
+    rw (p.1, p.2) (passed_refuses told c.args.machine.now (texts_of c.args.expect) (texts_of c.args.pass) c.as_slice.result.now c.spes.result c.in_ok-setup.setup _ _ _ _ c.in_err-passed.field-0.0
+    (c.in_ok-expected.ensures.kept ∙ c.in_ok-setup.ensures.kept) (c.in_ok-setup.ensures.comes told is).0
+    (expects told (texts_of c.args.expect) c.in_ok-expected.expected (c.in_ok-expected.ensures.comes told (c.read_machine.ensures.same ∙ is))) c.spes.ensures.count c.in_err-passed.ensures.cause
     (c.in_err-passed.ensures.comes told (c.expected_by.ensures.same ∙ c.read_machine.ensures.same ∙ is)))
 
 pub returns-clause-comes : goal.returns-clause-comes

@@ -1,4 +1,4 @@
 use Rattle.trace_forms.proofs.following.is_before.Goals as goal
 
-pub returns-then-i-steps : goal.returns-then-i-steps
-returns-then-i-steps g c = λ lt. c.before-then-i-steps.ensures.ordered
+pub returns-then-i-steps-clause-ordered : goal.returns-then-i-steps-clause-ordered
+returns-then-i-steps-clause-ordered g c = λ lt. c.before-then-i-steps.ensures.ordered

@@ -1,6 +1,6 @@
 use Rattle.std.proofs.Common.{arith}
 use Rattle.hunt_forms.proofs.HuntsLaws.{has_none}
-use Rattle.hunt_forms.proofs.hunting.hunt_runs.Goals as goal
+use Rattle.hunt_forms.proofs.hunting.make_rounds.Goals as goal
 
 pub loop-progress-init : goal.loop-progress-init
 loop-progress-init g c = record {

@@ -1,6 +1,6 @@
 use Rattle.std.proofs.Common.{◌≤◌, ◌-◌}
 use Rattle.hunt_forms.specs.Hunts.{HasTaken}
-use Rattle.hunt_forms.proofs.hunting.hunt_runs.Given as goal
+use Rattle.hunt_forms.proofs.hunting.make_rounds.Given as goal
 
 abbrev pub invariant-loop-progress : goal.invariant-loop-progress
 invariant-loop-progress g l = record {
