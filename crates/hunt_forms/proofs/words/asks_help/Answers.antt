@@ -1,4 +1,4 @@
-use Rattle.std.proofs.Common.{◌+◌, sym, map, string_bytes, drop, arith}
+use Rattle.std.proofs.Common.{◌≡◌, ◌+◌, ◌∙◌, sym, true, false, map, string_bytes, drop, arith}
 use Rattle.std.specs.Prelude.{codes}
 use Rattle.hunt_forms.specs.Heard.{is_word}
 use Rattle.hunt_forms.specs.Words.{asks_help}
