@@ -17,6 +17,7 @@ FOUND = 1  # the greatest status of an answer that is no refusal
 RUNS, FEW, RUN, SEED = "12", "4", "5", "2"
 # In the place of the files that users have: a place and numbers that choose the steps of a run, and lines that runs are to end with.
 CHOICES, EXPECTED = ("choices", b"0 0\n1 7\n2 3\n0 1\n" * 20), ("expected", b"host 0 of 0\n")
+OWN_FORM = ", time M RECORD\n"  # which run_trace alone has
 FAULTY_SOURCE = "faulty.s", b"_start: il $3\n"
 FAULTY_MACHINE = "faulty.cell", b"cell-machine 1\nlines 1\nspe\n"
 
@@ -118,14 +119,15 @@ def answer_of(question: Question, folder: pathlib.Path) -> Answer:
     done = subprocess.run(command_of(question.words), cwd=folder, capture_output=True, timeout=SECONDS)
     if done.returncode <= FOUND:
         return Answer(done.returncode, done.stdout)
-    return Answer(done.returncode, unnamed(done.stderr, question.words))
+    return Answer(done.returncode, as_library(done.stderr, question.words))
 
 
-def unnamed(line: bytes, words: Sequence[str]) -> bytes:
-    """The error line without the name of a file that `hunt` tells behind it, which the library leaves out."""
+def as_library(line: bytes, words: Sequence[str]) -> bytes:
+    """The error line as the library tells it: without the name of a file that `hunt` puts behind it, or the form that run_trace does."""
     said = line.decode(errors="surrogateescape")
-    names = [f": {word}\n" for word in words if said.startswith("hunt: ") and said.endswith(f": {word}\n")]
-    return (said[:-len(names[0])] + "\n" if names else said).encode(errors="surrogateescape")
+    endings = [f": {word}\n" for word in words] if said.startswith("hunt: ") else [OWN_FORM] if said.startswith("run_trace: words: ") else []
+    ending = next(filter(said.endswith, endings), "")
+    return (said[:-len(ending)] + "\n" if ending else said).encode(errors="surrogateescape")
 
 
 def answers_of(asked: Sequence[Question], folder: pathlib.Path) -> List[Answer]:
