@@ -1,11 +1,12 @@
 #!/usr/bin/env python3
 """Whether a step costs more when more steps were made before it, in machine instructions counted by valgrind.
 
-Usage: bench/growth.py [run] [check]   (both where none is named)
+Usage: bench/growth.py [run] [check] [hunt]   (all of them if none is named)
 
  `run` takes some five
 minutes: it has the runs of transfers. `check` takes some ten: it has the checks of runs in which nobody waits for a command by its tag, and at last the
-processor time of a check of a million steps beside that of transfers. The runs are made on one thread (`run_trace alone`), so that they have the same steps
+processor time of a check of a million steps beside that of transfers. `hunt` prints the processor time a step of one run of a hunt in which a race
+repeats, by the number of steps: where it stays the same, a hunt is linear. The runs of the first two are made on one thread (`run_trace alone`), so that they have the same steps
 each time.
 """
 import celltools.common.starting  # noqa: F401  (before all others)
@@ -13,15 +14,16 @@ import celltools.common.starting  # noqa: F401  (before all others)
 import os
 import pathlib
 import tempfile
-from typing import Callable, List, Sequence, Tuple
+from typing import Callable, Dict, List, Sequence, Tuple
 
 from celltools.common.ending import end
 from celltools.common.repository import built
 from celltools.common.words import Words
-from lib.machines import LINES, SPES, machine_file
+from lib.machines import LINES, SPES, filled, machine_file
 from lib.measuring import STEPS, TRACER, Path, instructions, recorded, usage_of
 
 CELL = built("cell_cli")
+HUNT = built("hunt")
 RUNS = ("bench/transfer.s", "bench/lists.s")
 RUN_BUDGETS = (10_000, 20_000, 40_000, 80_000, 160_000, 800_000, 1_000_000)
 # The sources of such a run, of each processor with the address at which it begins.
@@ -33,6 +35,15 @@ CHECKED = {
 }
 CHECK_BUDGETS = (10_000, 20_000, 40_000, 80_000, 160_000)
 TIMED = 5
+HUNT_BUDGETS = (10_000, 20_000, 40_000, 80_000, 160_000, 320_000, STEPS)
+# Machines in which a race repeats: the source, the processors that have it, and the numbers in it for a budget.
+RACES: Dict[str, Tuple[str, int, Callable[[int], Dict[str, int]]]] = {
+    "GETs that nobody waits for": ("forgotten.s", 1, lambda budget: {"COMMAND": 0x40}),
+    "PUTs that nobody waits for": ("forgotten.s", 1, lambda budget: {"COMMAND": 0x20}),
+    "two that write in turn": ("racing.s", 2, lambda budget: {}),
+    "sixteen that write in turn": ("racing.s", 16, lambda budget: {}),
+    "loads after GETs that were waited for late": ("late.s", 1, lambda budget: {"COUNT": budget // 12}),
+}
 
 
 def growth(folder: str, what: str, budgets: Sequence[int], words_of: Callable[[int], Sequence[Path]]) -> None:
@@ -80,7 +91,15 @@ def checks(folder: str) -> None:
         print(f"check of a million steps of {what}: {took:.2f} s, {took / transfer:.2f} times that", flush=True)
 
 
-PARTS = {"run": runs, "check": checks}
+def hunts(folder: str) -> None:
+    for what, (source, spes, numbers) in RACES.items():
+        for budget in HUNT_BUDGETS:
+            copy = filled(folder, source, f"{spes}.{budget}.{source}", **numbers(budget))
+            took = usage_of([HUNT, machine_file(folder, str(copy), budget, spes), "1"], (0, 1))[1]
+            print(f"hunt of {what}, {budget} steps: {took:.2f} s, {1e6 * took / budget:.2f} microseconds a step", flush=True)
+
+
+PARTS = {"run": runs, "check": checks, "hunt": hunts}
 
 
 def main(words: List[str]) -> int:

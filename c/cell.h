@@ -1,5 +1,5 @@
-/* The library: words and files go in, a text and an exit status come out, as of the programs `cell`, `hunt` and run_trace. docs/EMBEDDING.md has the words.
-   Link libcell_page.a and heap.c, or the shared library that tools/dev/library makes of them. */
+/* The library: words and files go in, a text and an exit status come out, as of the programs `cell`, `hunt` and run_trace. docs/guide/embedding.md has the words.
+   Link libcell_page.a and heap.c, and kept.c for cell_ask; or the shared library that tools/dev/library makes of them. */
 #ifndef CELL_H
 #define CELL_H
 #include <stddef.h>
@@ -28,6 +28,11 @@ enum cell_status {
    than `room`, nothing is put, and `*written` is its length all the same. It reads no file of the disk, prints nothing, and keeps nothing between two calls: it
    may be called from several threads at once. No two of the four ranges may overlap. */
 uint32_t cell_answer(const uint8_t *words, size_t words_count, const uint8_t *files, size_t files_count, uint8_t *out, size_t room, size_t *written);
+
+/* The same for an answer of any length, which is computed once: puts the place of its text into `*text` and its length into `*count`. The text stays until
+   cell_forget is called with both. Without memory for it the status is 7, and `*text` is NULL. Both functions are in kept.c, for Linux; the proof is of cell_answer. */
+uint32_t cell_ask(const uint8_t *words, size_t words_count, const uint8_t *files, size_t files_count, const uint8_t **text, size_t *count);
+void cell_forget(const uint8_t *text, size_t count);
 
 #ifdef __cplusplus
 }

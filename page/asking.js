@@ -1,4 +1,5 @@
-// Asks the workers. A question that takes more seconds than the page's body names, or that the user stops, ends its worker, and a new one takes its place.
+// @ts-check
+// Questions to a worker. A question that takes too long, or that the user stops, ends its worker, and a new one takes its place.
 
 /** Why there is no answer. */
 export class Unanswered extends Error {}
@@ -8,22 +9,25 @@ export class Asker {
   /**
    * @param {string} script
    * @param {WebAssembly.Module} engine
-   * @param {() => void} [changed] is called when it has something to do, and when it has nothing more
+   * @param {() => void} [changed] is called when a question is asked and when none is left
+   * @param {() => number} [seconds] that a question may take
    */
-  constructor(script, engine, changed = () => {}) {
+  constructor(script, engine, changed = () => {}, seconds = () => Infinity) {
     this.changed = changed;
+    this.seconds = seconds;
     this.address = URL.createObjectURL(new Blob([script], { type: 'text/javascript' }));
     this.engine = engine;
-    /** @type {Map<number, { answer: (value: any) => void, refuse: (why: Error) => void, timer: number }>} */
+    /** @type {Map<number, { answer: (value: any) => void, refuse: (why: Error) => void, timer: number | undefined }>} */
     this.open = new Map();
     this.number = 0;
-    this.start();
+    this.worker = this.start();
   }
   start() {
-    this.worker = new Worker(this.address);
-    this.worker.postMessage({ engine: this.engine });
-    this.worker.onmessage = ({ data }) => this.take(data);
-    this.worker.onerror = event => this.stop(`a fault of this page itself: ${event.message}`);
+    const worker = new Worker(this.address);
+    worker.postMessage({ engine: this.engine });
+    worker.onmessage = ({ data }) => this.take(data);
+    worker.onerror = event => this.stop(`the page has an error: ${event.message}`);
+    return worker;
   }
   get isBusy() { return this.open.size > 0; }
 
@@ -31,8 +35,8 @@ export class Asker {
   ask(asked, ...given) {
     const id = ++this.number;
     return new Promise((answer, refuse) => {
-      const most = Number(document.body.dataset.seconds);
-      const timer = setTimeout(() => this.stop(`it took more than ${most} seconds, and was stopped`), most * 1000);
+      const most = this.seconds();
+      const timer = most < Infinity ? setTimeout(() => this.stop(`it took more than ${most} seconds and was stopped`), most * 1000) : undefined;
       this.open.set(id, { answer, refuse, timer });
       this.changed();
       this.worker.postMessage({ id, asked, given });
@@ -47,8 +51,14 @@ export class Asker {
     if (refused === undefined) question.answer(answer);
     else question.refuse(new Unanswered(refused));
   }
-  /** Ends the worker with all its questions. @param {string} why */
+  /** Ends the worker with all its questions; another takes its place. @param {string} why */
   stop(why) {
+    this.end(why);
+    this.worker = this.start();
+    this.changed();
+  }
+  /** Ends the worker with all its questions. @param {string} why */
+  end(why) {
     this.worker.terminate();
     const left = [...this.open.values()];
     this.open.clear();
@@ -56,7 +66,5 @@ export class Asker {
       clearTimeout(timer);
       refuse(new Unanswered(why));
     }
-    this.start();
-    this.changed();
   }
 }

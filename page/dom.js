@@ -1,3 +1,4 @@
+// @ts-check
 // Makes elements, and finds them.
 
 /** @param {string} id @returns {any} */
@@ -23,7 +24,7 @@ export function make(name, attributes = {}, ...held) {
 /** A text in which `words` between backquotes are code. @param {string} text @returns {(Node | string)[]} */
 export const withCode = text => text.split('`').map((part, k) => k % 2 ? make('code', {}, part) : part);
 
-/** Says something to a reader's ear. @param {string} text */
+/** Announces a text to a screen reader. @param {string} text */
 export function say(text) {
   byId('said').textContent = text;
 }
@@ -50,4 +51,28 @@ export function markTab(list, chosen) {
     tab.setAttribute('aria-selected', String(tab === chosen));
     tab.tabIndex = tab === chosen ? 0 : -1;
   }
+}
+// ---- many links that are one stop of the Tab key: the arrow keys go from one to another
+
+/** @param {HTMLElement} list @param {string} selector of the links @returns {HTMLElement[]} */
+const stopsOf = (list, selector) => [...list.querySelectorAll(selector)].map(link => /** @type {HTMLElement} */ (link));
+/** Makes a link the stop of its list. @param {HTMLElement} list @param {string} selector @param {Element} chosen */
+export function takeStop(list, selector, chosen) {
+  for (const link of stopsOf(list, selector)) link.tabIndex = link === chosen ? 0 : -1;
+}
+/** Makes the first link the stop of its list if none is. @param {HTMLElement} list @param {string} selector */
+export function asOneStop(list, selector) {
+  const links = stopsOf(list, selector);
+  if (links.length && !links.some(link => link.tabIndex === 0)) links[0].tabIndex = 0;
+}
+/** Wires the keys of such a list. @param {HTMLElement} list @param {string} selector */
+export function wireStops(list, selector) {
+  list.addEventListener('keydown', event => {
+    const links = stopsOf(list, selector), at = links.findIndex(link => link === document.activeElement);
+    const next = { ArrowDown: at + 1, ArrowUp: at - 1, Home: 0, End: links.length - 1 }[event.key];
+    if (at < 0 || next === undefined || !links[next]) return;
+    event.preventDefault();
+    takeStop(list, selector, links[next]);
+    links[next].focus();
+  });
 }

@@ -1,4 +1,5 @@
-// The engine: the WebAssembly module page/cell.wasm, with the one call `cell_answer` (docs/EMBEDDING.md).
+// @ts-check
+// The engine: the WebAssembly module page/cell.wasm, with the one call `cell_answer` (docs/guide/embedding.md).
 import { latin } from './python/text.js';
 
 /**

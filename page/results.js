@@ -1,22 +1,35 @@
-// What came out, under tabs: how a run ended, its race, its steps, its picture, both orders of the race, and what a hunt found.
+// @ts-check
+// The results, under tabs: the end of a run, its race, its steps, its picture, both orders of the race, and the findings of a hunt.
 import { asTabs, byId, make, markTab, say } from './dom.js';
+import { outcomeOf, outcomeOfHunt } from './outcome.js';
 import { itemOf, linked, placesIn } from './words.js';
 
-/** @typedef {import('./telling.js').Made} Made @typedef {import('./words.js').Ways} Ways */
+/**
+ * @typedef {import('./telling.js').Made} Made @typedef {import('./telling.js').Project} Project @typedef {import('./words.js').Ways} Ways
+ * @typedef {import('./outcome.js').Ending} Ending @typedef {import('./outcome.js').Outcome} Outcome
+ * @typedef {{ file: string, line: number, kind: string }} Mark
+ * @typedef {object} HuntResult a hunt that has ended, with its lines for the page
+ * @property {Project} project
+ * @property {import('./sums.js').Sum} sum
+ * @property {number} asked how many runs were asked for
+ * @property {string} why there are fewer, or ''
+ * @property {import('./sums.js').Line[]} lines
+ * @property {number} zeros in how many runs an SPU ran into zeros
+ */
 
 /**
- * @typedef {object} Page what the page does for it
+ * @typedef {object} Page what the page does for the results
  * @property {(file: string, line: number) => void} show
- * @property {(marks: { file: string, line: number, kind: string }[]) => void} mark
+ * @property {(marks: Mark[]) => void} mark
  * @property {(number: number, panel: string) => void} openRun
  */
 
-const ENDS = { AllStopped: 'ran to its end', Stuck: 'stuck', Budget: 'spent its budget' };
 const statesOf = (text, label = 'the states') => make('pre', { tabindex: '0', 'aria-label': label }, text);
-const count = new Intl.NumberFormat('en').format;
+const count = new Intl.NumberFormat('en').format, percent = new Intl.NumberFormat('en', { style: 'percent', maximumSignificantDigits: 2 }).format;
 
-/** The panels. All but `hunt` are made of a run by the method of the same name. */
+/** The panels. All but `hunt` are drawn for the open run, by the method of the same name. */
 const PANELS = ['result', 'race', 'steps', 'picture', 'orders', 'hunt'];
+const ENDED = { Stuck: 'deadlock', Budget: 'its budget is spent', AllStopped: 'all SPUs have stopped' };
 
 export class Results {
   /**
@@ -28,8 +41,13 @@ export class Results {
     this.page = page;
     this.made = /** @type {Made | null} */ (null);
     this.title = '';
-    this.pair = /** @type {number[] | null} */ (null);
-    this.drawn = new Set(); // the panels that are made of this run
+    this.ended = /** @type {Ending | null} */ (null);
+    this.pair = /** @type {number[] | null | undefined} */ (undefined); // the steps of its race; undefined until it is checked
+    this.drawn = new Set(); // the panels that are drawn for this run
+    this.panel = '';
+    this.marks = /** @type {Record<string, Mark[]>} */ ({}); // of each panel
+    this.hunt = /** @type {{ project: Project, outcome: Outcome | null } | null} */ (null);
+    this.isRunStale = this.isHuntStale = false; // whether the program was changed since
     this.place = 0;
     this.count = 0;
     this.isStepping = false;
@@ -42,29 +60,63 @@ export class Results {
     return { files: this.made ? Object.keys(this.made.project.files) : [], toLine: this.page.show, toStep: this.made ? step => this.toStep(step + 1) : null };
   }
 
-  /** Takes a run in the place of the one before. @param {Made | null} made @param {string} title */
+  /** Opens a run in place of the one before. @param {Made | null} made @param {string} title */
   take(made, title) {
-    this.made = made;
-    this.title = title;
-    this.pair = null;
+    Object.assign(this, { made, title, ended: null, pair: undefined, place: -1, count: 0, isRunStale: false, marks: {} });
     this.drawn.clear();
-    this.place = -1;
-    this.count = 0;
     byId('frame').removeAttribute('srcdoc');
-    byId('stale').hidden = true;
-    for (const panel of PANELS) if (panel !== 'hunt' || !made) byId(`tab-${panel}`).disabled = !made || panel === 'orders' || panel === 'hunt';
-    byId('verdict').hidden = true;
+    for (const panel of PANELS) if (panel !== 'hunt') byId(`tab-${panel}`).disabled = !made || panel === 'orders';
     for (const panel of ['result', 'race', 'step', 'orders']) byId(panel).replaceChildren();
-    byId('nothing').hidden = Boolean(made);
-    if (!made) for (const panel of PANELS) byId(panel).hidden = true;
+    this.page.mark([]);
+    if (!made) this.showNothing();
   }
-  /** Shows a panel, which is made when it is first shown. @param {string} panel */
+  /** Closes the run and the hunt. */
+  close() {
+    this.take(null, '');
+    this.hunt = null;
+    byId('tab-hunt').disabled = true;
+    byId('hunt').replaceChildren();
+  }
+  /** Shows no panel; what is open can be shown again by its tab. */
+  showNothing() {
+    this.panel = '';
+    for (const panel of PANELS) byId(panel).hidden = true;
+    markTab(byId('views'), null);
+    byId('nothing').hidden = false;
+    this.drawHead();
+  }
+  /** Marks the results as those of an earlier text of the program. Their marks may stand at other lines now. */
+  growStale() {
+    this.isRunStale = this.isHuntStale = true;
+    this.marks = {};
+    this.drawHead();
+  }
+  /** Shows the outcome of the run or of the hunt, and whether the program was changed since, by the panel that is shown. */
+  drawHead() {
+    const isHunt = this.panel === 'hunt', ofRun = this.panel && this.ended ? outcomeOf(this.ended, this.pair) : null;
+    const outcome = isHunt ? this.hunt && this.hunt.outcome : ofRun;
+    byId('verdict').hidden = !outcome;
+    byId('verdict').className = outcome ? outcome.kind : '';
+    byId('verdict').textContent = outcome ? outcome.text : '';
+    byId('stale').hidden = !(isHunt ? this.hunt && this.isHuntStale : this.panel && this.isRunStale);
+  }
+  /** Takes the end of the open run, and its race once it is checked. @param {Ending} ended @param {number[] | null} [pair] */
+  takeEnd(ended, pair) {
+    this.ended = ended;
+    if (pair !== undefined) this.pair = pair;
+    this.drawHead();
+    return outcomeOf(ended, this.pair);
+  }
+  /** Shows a panel, which is drawn when it is first shown. @param {string} panel */
   async show(panel) {
     const tab = byId(`tab-${panel}`);
     if (!tab || tab.disabled) return;
     markTab(byId('views'), tab);
+    this.panel = panel;
     for (const name of PANELS) byId(name).hidden = name !== panel;
     byId('nothing').hidden = true;
+    this.page.mark(this.marks[panel] || []);
+    this.drawHead();
     if (this.made && !this.drawn.has(panel) && panel !== 'hunt') {
       this.drawn.add(panel);
       const made = this.made;
@@ -76,64 +128,67 @@ export class Results {
       }
     }
   }
+  /** Marks lines as long as a panel is shown. @param {string} panel @param {Mark[]} marks */
+  mark(panel, marks) {
+    if (this.isRunStale) return;
+    this.marks[panel] = marks;
+    if (this.panel === panel) this.page.mark(marks);
+  }
   /** Says in a panel why it has nothing. @param {string} why @param {string} panel */
   refuse(why, panel) {
     const place = panel === 'steps' ? byId('step') : panel === 'picture' ? byId('picture-said') : byId(panel);
     place.replaceChildren(...why.split('\n').map(line => make('p', { class: 'refused' }, ...linked(line, this.ways))));
     say(why);
   }
-  verdict(text, kind) {
-    byId('verdict').hidden = false;
-    byId('verdict').className = kind;
-    byId('verdict').textContent = text;
-  }
 
   // ---- how it ended
 
   async result(made) {
-    const { word, count: steps, states, waits } = await this.ask('ending', made);
+    const { ended, states, waits } = await this.ask('ending', made);
     if (made !== this.made) return;
-    if (!this.pair) this.verdict(ENDS[word] || word, word === 'AllStopped' && !waits.length ? 'good' : 'warned');
-    const said = `${this.title}: ${count(steps)} steps, and the end word is ${word}.`;
-    const told = waits.length ? [make('h3', {}, 'What waits, or has a fault'), make('ul', {}, ...waits.map(line => itemOf(line, this.ways)))] : [];
-    byId('result').replaceChildren(make('p', {}, said), ...told, make('h3', {}, 'How the machine stands'), statesOf(states.join('\n')));
-    say(`${said} ${waits.join('. ')}`);
+    const outcome = this.takeEnd(ended);
+    const said = `${this.title}: ${count(ended.steps)} steps, ${ENDED[ended.word] || ''} (${ended.word}).`;
+    const told = waits.length ? [make('h3', {}, 'SPUs that wait or have a fault'), make('ul', {}, ...waits.map(line => itemOf(line, this.ways)))] : [];
+    byId('result').replaceChildren(make('p', {}, said), ...this.sentences(outcome), ...told,
+      make('h3', {}, 'State of the machine'), statesOf(states.join('\n')));
+    say(`${said} ${[...outcome.failures, ...outcome.warnings, ...waits].join('. ')}`);
+  }
+  /** The failures and warnings of a run. @param {Outcome} outcome */
+  sentences({ failures, warnings }) {
+    const list = (words, kind, found) => found.length ? [make('p', { class: kind }, ...linked(`${words}: ${found.join('; ')}.`, this.ways))] : [];
+    return [...list('Ended badly', 'refused', failures), ...list('Warning', 'cautioned', warnings)];
   }
 
   // ---- its race
 
   async race(made) {
-    const { verdict, pair, words } = await this.ask('check', made);
+    const { ended, verdict, pair, words } = await this.ask('check', made);
     if (made !== this.made) return;
-    this.pair = pair;
+    const outcome = this.takeEnd(ended, pair), badly = this.sentences(outcome);
+    const checked = words => make('p', {}, `${this.title} ${words}: check returns `, make('code', {}, verdict), '.');
     byId('tab-orders').disabled = !words.length;
+    say([outcome.text, ...words.slice(0, 2).map(({ lines }) => lines.join(', '))].join('. '));
     if (!pair) {
-      this.verdict('no race', 'good');
-      byId('race').replaceChildren(make('p', {}, `${this.title} has no race: check says `, make('code', {}, verdict), '.'),
-        make('p', { class: 'dim' }, 'That speaks of the steps of this run alone. Another run may take another way: hunt.'));
-      say(`no race: ${verdict}`);
+      byId('race').replaceChildren(checked('has no data race'), ...badly,
+        make('p', { class: 'dim' }, 'This holds for the steps of this run. Another run may take another path: Hunt makes many.'));
       return;
     }
-    const [first, second] = pair;
-    this.verdict(`race: steps ${first} and ${second}`, 'bad');
     if (!words.length) {
-      byId('race').replaceChildren(make('p', {}, `${this.title} has a race: check says `, make('code', {}, verdict), '. It has too many steps to be explained here.'));
-      say(`race: steps ${first} and ${second}`);
+      byId('race').replaceChildren(checked('has a data race'), make('p', {}, 'The run has too many steps to explain the race here.'), ...badly);
       return;
     }
-    this.page.mark([...placesIn(words[0].lines), ...placesIn(words[1].lines)].map(place => ({ ...place, kind: 'race' })));
+    this.mark('race', [...placesIn(words[0].lines), ...placesIn(words[1].lines)].map(place => ({ ...place, kind: 'race' })));
     const section = ({ title, lines }, k) => make('section', { class: k < 2 ? 'card' : k === words.length - 1 ? 'card remedy' : '' },
       make('h3', {}, ...linked(title, this.ways)), make('ul', {}, ...lines.map(line => itemOf(line, this.ways))));
-    const head = `${this.title} has a race: nothing orders these two steps, which touch a byte in common.`;
-    byId('race').replaceChildren(make('p', {}, head), ...words.map(section));
-    say(`race: steps ${first} and ${second}. ${words[0].lines.join(', ')}; ${words[1].lines.join(', ')}`);
+    const head = `${this.title} has a data race: these two steps touch the same byte, and neither happens before the other.`;
+    byId('race').replaceChildren(make('p', {}, head), ...badly, ...words.map(section));
   }
   async orders(made) {
     const lines = await this.ask('orders', made);
     if (made !== this.made) return;
     const told = statesOf('', 'both orders of the race'), ways = { ...this.ways, toStep: null };
     told.append(...lines.flatMap(line => [...linked(line, ways), '\n']));
-    const head = 'The two steps in either order, behind the shortest run that leads to them, and what comes out of each.';
+    const head = 'The two steps in either order, after the shortest run that leads to them, with the result of each.';
     byId('orders').replaceChildren(make('p', { class: 'dim' }, head), told);
   }
 
@@ -168,7 +223,7 @@ export class Results {
   async steps() {
     await this.toStep(this.pair ? this.pair[1] : 0);
   }
-  /** Goes behind so many steps. Of several that are asked for quickly the latest is shown. @param {number} place */
+  /** Goes to the state after so many steps. Of several that are asked for quickly the latest is shown. @param {number} place */
   async toStep(place) {
     const { made } = this;
     if (!made) return;
@@ -194,43 +249,66 @@ export class Results {
     this.count = steps;
     byId('slider').max = byId('place').max = String(steps);
     byId('slider').value = byId('place').value = String(place);
-    byId('slider').setAttribute('aria-valuetext', `behind ${place} of ${steps} steps`);
+    byId('slider').setAttribute('aria-valuetext', `after ${place} of ${steps} steps`);
     byId('of').textContent = `of ${count(steps)}`;
     byId('back').disabled = byId('first').disabled = place === 0;
     byId('on').disabled = byId('last').disabled = place === steps;
-    this.page.mark(lines.map(line => ({ ...line, kind: 'now' })));
+    this.mark('steps', lines.map(line => ({ ...line, kind: 'now' })));
     const ways = { ...this.ways, toStep: null }, list = found => make('ul', {}, ...found.map(line => itemOf(line, ways)));
     byId('step').replaceChildren(
-      ...(last.length ? [make('h3', {}, 'The step that was made last'), list(last)] : [make('h3', {}, 'Nothing is done yet')]),
-      make('h3', {}, 'What may come now'), list(next),
+      ...(last.length ? [make('h3', {}, 'Last step'), list(last)] : [make('h3', {}, 'No step is made yet')]),
+      make('h3', {}, 'Possible next steps'), list(next),
       make('details', { open: this.areStatesOpen, ontoggle: event => { this.areStatesOpen = event.target.open; } },
-        make('summary', {}, 'How the machine stands'), statesOf(states)));
-    say(last.length ? last[0] : 'nothing is done yet');
+        make('summary', {}, 'State of the machine'), statesOf(states)));
+    say(last.length ? last[0] : 'no step is made yet');
   }
 
   // ---- a hunt
 
-  /** @param {{ head: string, found: string, lines: any[] }} told @param {string[]} files those of the program */
-  hunted({ head, found, lines }, files) {
-    this.take(null, '');
-    this.huntFiles = files;
-    const is_calm = found.startsWith('none has');
+  /** Shows that a hunt began. The open run stays open. @param {Project} project @param {number} asked how many runs */
+  huntBegins(project, asked) {
+    this.hunt = { project, outcome: null };
+    this.isHuntStale = false;
     byId('tab-hunt').disabled = false;
-    this.verdict(is_calm ? 'nothing found' : found.split(/[,;]/)[0].replace(/ have a race/, ' runs have a race'), is_calm ? 'good' : 'bad');
-    const list = make('ul', { class: 'hunted' }, ...lines.map(line => this.huntLine(line)));
-    byId('hunt').replaceChildren(make('p', {}, `${head}.`), make('p', { class: 'found' }, found), list,
-      make('p', { class: 'dim' }, 'Another run may do what none of these did.'));
+    byId('hunt').replaceChildren(make('p', {}, make('label', {}, 'Runs ', make('progress', { id: 'hunt-progress', max: asked, value: 0 })), ' ',
+      make('span', { id: 'hunt-so-far' }, `0 of ${count(asked)}`)));
     this.show('hunt');
-    say(`${head}. ${found}`);
   }
-  /** A line of a hunt; where it counts runs, with a button for the first of them. @param {{ kind: string, runs: number, first: number, text: string }} found */
+  /** Shows how far a hunt is. @param {import('./sums.js').Sum} sum @param {number} asked */
+  huntGoesOn(sum, asked) {
+    const so_far = outcomeOfHunt({ made: sum.runs, asked, flaws: sum.flaws, zeros: 0 });
+    byId('hunt-progress').value = sum.runs;
+    byId('hunt-so-far').textContent = `${count(sum.runs)} of ${count(asked)}: ${so_far.failures.join('; ') || 'nothing found so far'}`;
+  }
+  /** Takes back that a hunt began which has nothing to report. */
+  huntFails() {
+    this.hunt = null;
+    byId('tab-hunt').disabled = true;
+    byId('hunt').replaceChildren();
+  }
+  /** Shows the findings of a hunt. @param {HuntResult} result */
+  hunted({ project, sum, asked, why, lines, zeros }) {
+    const outcome = outcomeOfHunt({ made: sum.runs, asked, flaws: sum.flaws, zeros }), { classes, once } = sum.coverage;
+    this.hunt = { project, outcome };
+    const ends = `${count(sum.allStopped)} AllStopped, ${count(sum.flaws.stuck.runs)} Stuck, ${count(sum.flaws.budget.runs)} Budget`;
+    const stopped = why ? [make('p', { class: 'cautioned' }, `Ended after ${count(sum.runs)} of ${count(asked)} runs: ${why}.`)] : [];
+    const found = outcome.failures.join('; ') || 'No run has a race, a deadlock, a fault, a halt or a spent budget.';
+    const coverage = `Coverage: ${count(classes)} ${classes === 1 ? 'class' : 'classes'} of equivalent runs, ${count(once)} seen only once: about `
+      + `${percent(once / Math.max(1, sum.runs))} of further runs would be new.`;
+    const head = `${count(sum.runs)} ${sum.runs === 1 ? 'run' : 'runs'}: ${ends}.`;
+    byId('hunt').replaceChildren(make('p', {}, head), ...stopped, make('p', { class: 'found' }, found),
+      ...outcome.warnings.map(words => make('p', { class: 'cautioned' }, `Warning: ${words}.`)), make('p', {}, coverage),
+      make('ul', { class: 'hunted' }, ...lines.map(line => this.huntLine(line))), make('p', { class: 'dim' }, 'Another run may do what none of these did.'));
+    this.drawHead();
+    say(`${outcome.text}. ${why}`);
+  }
+  /** A line of a hunt. One that counts runs has a button for the first of them. @param {import('./sums.js').Line} line */
   huntLine({ kind, runs, first, text }) {
-    const ways = { files: this.huntFiles, toLine: this.page.show, toStep: null };
+    const ways = { files: this.hunt ? Object.keys(this.hunt.project.files) : [], toLine: this.page.show, toStep: null };
     if (kind === 'more') return make('li', { class: 'deeper' }, ...linked(text, ways));
     const is_one = runs === 1, some = `${count(runs)} ${is_one ? 'run' : 'runs'}`;
-    const words = { race: `a race in ${some}: `, end: `${some} ${is_one ? 'ends' : 'end'} so: `, result: `${some} ${is_one ? 'leaves' : 'leave'} one result`,
-      missed: `${some} ${is_one ? 'misses' : 'miss'} ` }[kind];
+    const words = { race: `race in ${some}: `, end: `end of ${some}: `, result: `result of ${some}` }[kind];
     const show = make('button', { class: 'show-run', onclick: () => this.page.openRun(first, kind === 'race' ? 'race' : 'result') }, `Show run ${first}`);
-    return make('li', { class: kind === 'result' ? 'deeper' : kind }, show, ` ${words}`, ...linked(text, ways));
+    return make('li', { class: kind === 'result' ? 'deeper' : kind }, show, ` ${words || ''}`, ...linked(text, ways));
   }
 }

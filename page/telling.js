@@ -1,21 +1,25 @@
-// What the worker tells of a program and its runs: by the engine, and by the tools' own modules.
+// @ts-check
+// The answers of the worker about a program and its runs, from the engine and from the tools' own modules.
 import { $, files, importOf, keep, printedBy } from './python/runtime.js';
 import { programs } from './python/files.js';
 import { decodedText } from './python/text.js';
+import { incidentText } from './outcome.js';
+import { huntLine, partOf } from './sums.js';
 
 /**
  * @typedef {object} Project a machine file with its sources
  * @property {string} machine the name of the machine file
  * @property {Record<string, string>} files
  * @typedef {{ project: Project, record: string, stamp: number }} Made a run that was made, with a number that is no other's
+ * @typedef {import('./outcome.js').Ending} Ending
  */
 
 const MOST_STEPS = 200_000; // of a run that is told of step by step
 const TOO_LARGE = 'this is too large for the page: it ran out of memory or of depth. The tools in a clone have more room';
-const RECORD = 'record.out', OF_TOOLS = '/cell/', PAIR = /^race (\d+) (\d+)$/;
+const OF_TOOLS = '/cell/', PAIR = /^race (\d+) (\d+)$/;
 
-const NOTHING = { stamp: -1, run: /** @type {any} */ (null), steps: /** @type {any} */ (null) };
-/** What was worked out of a run: it is kept as long as that is asked about. */
+const NOTHING = { stamp: -1, record: '', run: /** @type {any} */ (null), steps: /** @type {any} */ (null), ending: /** @type {Ending | null} */ (null) };
+/** What was computed of a run, kept until another run is asked about, with the name of the record's file. */
 let held = NOTHING;
 
 /** Why nothing is told, in words for the user. */
@@ -32,12 +36,17 @@ function attempt(act) {
   }
 }
 
-/** Puts a project where the tools find it, in the place of the one before. @param {Project} project @param {string} [record] */
-function load(project, record) {
+/** Puts the files of a project among those that the tools read, in place of the project before. @param {Project} project */
+function load(project) {
   held = NOTHING;
   for (const name of [...files.keys()]) if (!name.startsWith(OF_TOOLS)) files.delete(name);
   for (const [name, text] of Object.entries(project.files)) if (!name.startsWith(OF_TOOLS)) keep(name, text);
-  if (record !== undefined) keep(RECORD, record);
+}
+/** A name for the file of a record, which no file of the project has. @param {Project} project */
+function recordName({ files: given }) {
+  let name = 'record.out';
+  while (Object.hasOwn(given, name)) name = `run-${name}`;
+  return name;
 }
 /** What the engine answers. @param {Project} project @param {string[]} words */
 function asked(project, words) {
@@ -53,7 +62,7 @@ const lineOf = words => /^(.+?):(\d+): (warning: )?(.*)$/.exec(words);
 export function faults(project) {
   load(project);
   const found = [];
-  for (const line of attempt(() => explained([project.machine])).split('\n')) {
+  for (const line of attempt(() => explainedMachine(project.machine)).split('\n')) {
     const at = lineOf(line);
     if (at) found.push({ file: at[1], line: +at[2], is_warning: Boolean(at[3]), words: at[4] });
     else if (line && !line.startsWith('    ')) found.push({ file: line.split(': ')[0], line: 0, is_warning: false, words: line.slice(line.indexOf(': ') + 2) });
@@ -72,36 +81,54 @@ export function run(project) {
   if (status || !text.startsWith('cell-record')) throw refusalOf(project, text);
   return text;
 }
-const COUNTED = /^(race|end|result|missed) (\d+) (\d+)(?: \|)?(.*)$/, STEP = /^([xpera]) (\d+) at (?=0x)/, SPE = /^(\d+) (?=[a-z])/;
-const KINDS = { x: 'an instruction', p: 'a piece', e: 'the reading of an element', r: 'the end of a command', a: 'an atomic command' };
-/** What a hunt of a project finds. @param {Project} project @param {number} runs */
-export function hunt(project, runs) {
-  load(project);
-  const { text, status } = asked(project, ['hunt', project.machine, '--runs', String(runs)]);
+/** A part of a hunt: so many runs, from one number on. @param {Project} project @param {number} from @param {number} runs */
+export function huntPart(project, from, runs) {
+  const { text, status } = attempt(() => asked(project, ['hunt', project.machine, '--json', '--from', String(from), '--runs', String(runs)]));
   if (status > 1) throw refusalOf(project, text);
+  return attempt(() => partOf(text));
+}
+/**
+ * The lines of a hunt with the places of their instructions, with the reasons of endings, and with what became of SPUs that halted or ran into zeros.
+ * @param {Project} project @param {string[]} lines
+ */
+export function huntWords(project, lines) {
+  load(project);
   return attempt(() => {
     const { explained, Explainer } = importOf('celltools.hunt.words'), { Sites } = importOf('celltools.source.sites');
-    const told = explained(text.trimEnd().split('\n'), Sites(project.machine), Explainer(snapshotOf(project.machine), 1));
-    const [head, found, ...lines] = importOf('celltools.hunt.spent').folded([...told]);
-    return { head: head.replace(' of seed 1', ''), found, lines: lines.map(huntLine) };
+    const told = /** @type {string[]} */ ([...explained(lines, Sites(project.machine), Explainer(snapshotOf(project.machine), 1))]);
+    const { all, zeros } = withIncidents(project, told);
+    return { lines: importOf('celltools.hunt.spent').folded(all).map(huntLine), zeros };
   });
 }
-/** A line of a hunt, by what it counts. @param {string} line */
-function huntLine(line) {
-  const [, kind, runs, first, rest] = COUNTED.exec(line) || [null, 'more', '0', '0', line.replace(/^results (\d+)$/, 'they leave $1 different results')];
-  return { kind, runs: +runs, first: +first, text: rest.trim().split(' | ').map(inWords).join(', ') };
+const ODD_END = /^end (\d+) (\d+) .*(?:\bhalted\b|\bstopped 0x0000\b)/, MOST_ODD = 8; // such ends cost a run each
+/**
+ * The lines with a line after each ending in which an SPU halted or ran into zeros, and in how many runs one ran into zeros.
+ * @param {Project} project @param {string[]} lines
+ */
+function withIncidents(project, lines) {
+  const all = /** @type {string[]} */ ([]);
+  let zeros = 0, left = MOST_ODD;
+  for (const line of lines) {
+    const odd = ODD_END.exec(line);
+    all.push(line);
+    if (!odd || left-- <= 0) continue;
+    const found = incidentsOf(project.machine, recordOfHunt(project, +odd[2])).filter(({ status }) => /^(?:halted|stopped 0x0000)$/.test(status));
+    if (found.some(({ status }) => status === 'stopped 0x0000')) zeros += +odd[1];
+    all.push(...found.map(incident => `    ${incidentText(incident)}`));
+  }
+  return { all, zeros };
 }
-/** A part of such a line: a step, or how a processor stands. @param {string} part */
-const inWords = part => part.replace(STEP, (_, letter, spe) => `${KINDS[letter]} of processor ${spe} at `).replace(SPE, 'processor $1 ');
-/** A file as tools name it that read it from a copy. @param {string} name */
+/** A file as a tool names it that reads a copy of it. @param {string} name */
 const snapshotOf = name => importOf('celltools.run.snapshots').Snapshot(name, name);
+/** The record of a run of a hunt. @param {Project} project @param {number} number */
+function recordOfHunt(project, number) {
+  const record = importOf('celltools.run.hunted').record_of_hunt(snapshotOf(project.machine), number);
+  return decodedText(/** @type {string} */ (files.get($.str(record.path))));
+}
 /** A run of a hunt. @param {Project} project @param {number} number */
 export function runOfHunt(project, number) {
   load(project);
-  return attempt(() => {
-    const record = importOf('celltools.run.hunted').record_of_hunt(snapshotOf(project.machine), number);
-    return decodedText(/** @type {string} */ (files.get($.str(record.path))));
-  });
+  return attempt(() => recordOfHunt(project, number));
 }
 
 // ---- of a run
@@ -109,8 +136,9 @@ export function runOfHunt(project, number) {
 /** @param {Made} made */
 function hold(made) {
   if (held.stamp === made.stamp) return;
-  load(made.project, made.record);
-  held = { stamp: made.stamp, run: null, steps: null };
+  load(made.project);
+  held = { ...NOTHING, stamp: made.stamp, record: recordName(made.project) };
+  keep(held.record, made.record);
 }
 /** How many steps a run has. @param {Made} made */
 const stepsIn = made => Number((/^steps (\d+)$/m.exec(made.record) || [])[1]);
@@ -124,31 +152,66 @@ function refuseLong(made) {
 function drawnRun(made) {
   refuseLong(made);
   hold(made);
-  if (!held.run) held.run = importOf('celltools.picture.run').Run(made.project.machine, RECORD);
+  if (!held.run) held.run = importOf('celltools.picture.run').Run(made.project.machine, held.record);
   return held.run;
 }
 
-/** How a run ended: its end, states, and what waits or has a fault. @param {Made} made */
-export function ending(made) {
+/** The lines of a record that have the states at its end. @param {string} record */
+function statesIn(record) {
+  const lines = record.split('\n');
+  return lines.slice(lines.findIndex(line => line.startsWith('steps ')) + 1).filter(Boolean);
+}
+const STATE = /^spe (\d+) (halted|stopped 0x0000|(?:badword|badchannel|dmafault)(?: \w+)?) pc 0x([0-9a-f]+)/, STORE = 0x40000;
+/**
+ * The SPUs of a run that halted, have a fault or ran into zeros: a `stop 0x0000` that no `stop` instruction of a source placed.
+ * @param {string} machine @param {string} record @returns {import('./outcome.js').Incident[]}
+ */
+function incidentsOf(machine, record) {
+  const odd = statesIn(record).map(line => STATE.exec(line)).filter(found => found !== null);
+  if (!odd.length) return [];
+  const sites = importOf('celltools.source.sites').Sites(machine), steps = record.slice(0, record.indexOf('\nsteps '));
+  return odd.map(found => {
+    const [, number, status, digits] = /** @type {RegExpExecArray} */ (found), spe = +number, isDone = status === 'halted' || status.startsWith('stopped');
+    const at = (parseInt(digits, 16) + STORE - (isDone ? 4 : 0)) % STORE, site = sites.of_processor[spe].get(at);
+    const inList = status.startsWith('dmafault') && isOfElement(steps, spe), place = site && !inList ? `${site.file}:${site.number}` : '';
+    return { spe, status, place: inList ? 'an element of a list' : place || `0x${at.toString(16).padStart(5, '0')}`, text: site ? String(site.text) : '' };
+  }).filter(({ status, text }) => !(status.startsWith('stopped') && /^stop\b/.test(text)));
+}
+/** Whether the last step of an SPU read an element of a list, so that its fault is that of the element. @param {string} steps @param {number} spe */
+function isOfElement(steps, spe) {
+  const found = [...'xpera'].map(kind => ({ kind, at: steps.lastIndexOf(`\n${kind} ${spe} `) })).sort((one, other) => other.at - one.at);
+  return found[0].kind === 'e';
+}
+/** @param {Made} made @returns {Ending} */
+function endingOf(made) {
   hold(made);
+  if (!held.ending) {
+    const word = (statesIn(made.record).find(line => line.startsWith('end ')) || '').slice('end '.length);
+    held.ending = { word, steps: stepsIn(made), incidents: incidentsOf(made.project.machine, made.record) };
+  }
+  return held.ending;
+}
+
+/** How a run ended, with its states and with what its SPUs wait for or failed by. @param {Made} made */
+export function ending(made) {
   return attempt(() => {
-    const lines = made.record.split('\n'), steps = lines.findIndex(line => line.startsWith('steps ')), states = lines.slice(steps + 1).filter(Boolean);
-    const word = (states.find(line => line.startsWith('end ')) || '').slice('end '.length), { faults_of, has_faults } = importOf('celltools.telling.faults');
-    const count = stepsIn(made), is_told = count <= MOST_STEPS;
-    const waits = is_told && (word === 'Stuck' || word === 'Budget') ? importOf('celltools.telling.waiting').waiting_of(made.project.machine, RECORD) : [];
-    return { word, count, states, waits: [...waits, ...(is_told && has_faults(states) ? faults_of(made.project.machine, RECORD) : [])] };
+    const ended = endingOf(made), states = statesIn(made.record), { faults_of, has_faults } = importOf('celltools.telling.faults');
+    const isTold = ended.steps <= MOST_STEPS;
+    const { waiting_of } = importOf('celltools.telling.waiting'), { machine } = made.project, isLeft = ended.word === 'Stuck' || ended.word === 'Budget';
+    const waits = isTold && isLeft ? waiting_of(machine, held.record) : [];
+    return { ended, states, waits: [...waits, ...(isTold && has_faults(states) ? faults_of(machine, held.record) : [])] };
   });
 }
-/** What `check` says of a run, and of a race why; of a run with too many steps not why. @param {Made} made */
+/** The verdict of `check` on a run, and the words for its race unless the run has too many steps. @param {Made} made */
 export function check(made) {
-  hold(made);
   return attempt(() => {
-    const [verdict] = importOf('celltools.run.runs').verdict(made.project.machine, RECORD), pair = PAIR.exec(verdict);
-    if (!pair) return { verdict, pair: null, words: [] };
+    const ended = endingOf(made);
+    const [verdict] = importOf('celltools.run.runs').verdict(made.project.machine, held.record), pair = PAIR.exec(verdict);
+    if (!pair) return { ended, verdict, pair: null, words: [] };
     const places = [+pair[1], +pair[2]];
-    if (stepsIn(made) > MOST_STEPS) return { verdict, pair: places, words: [] };
+    if (stepsIn(made) > MOST_STEPS) return { ended, verdict, pair: places, words: [] };
     const drawn = drawnRun(made), { race_words } = importOf('celltools.picture.story');
-    return { verdict, pair: places, words: race_words(drawn, drawn.race).map(([title, lines]) => ({ title, lines: [...lines] })) };
+    return { ended, verdict, pair: places, words: race_words(drawn, drawn.race).map(([title, lines]) => ({ title, lines: [...lines] })) };
   });
 }
 /** The picture of a run, a page of its own. @param {Made} made */
@@ -159,7 +222,7 @@ export function picture(made) {
 export function orders(made) {
   refuseLong(made);
   hold(made);
-  return attempt(() => bothOrders(made.project.machine, RECORD, RECORD));
+  return attempt(() => bothOrders(made.project.machine, held.record, held.record));
 }
 
 /** The steps of a run, as a debugger has them. @param {Made} made */
@@ -169,7 +232,7 @@ function stepsOf(made) {
   if (!held.steps) {
     const { Run } = importOf('celltools.run.stepping'), { Words } = importOf('celltools.telling.states'), { Sites } = importOf('celltools.source.sites');
     const steps = Run(made.project.machine, '/tmp/steps');
-    steps.follow(RECORD);
+    steps.follow(held.record);
     held.steps = { steps, words: Words(steps, Sites(made.project.machine)), count: steps.ahead };
   }
   return held.steps;
@@ -183,7 +246,7 @@ export function step(made, place) {
     const last = at ? [...words.step(at - 1), ...words.calls(at - 1), ...words.changed(before, state)] : [];
     words.learn(state);
     const next = state.may.length ? state.may.map(head => words.possible(head, state)) : [...words.actors(state)];
-    const states = importOf('states').told(made.project.machine, RECORD, at).join('\n');
+    const states = importOf('states').told(made.project.machine, held.record, at).join('\n');
     return { place: at, count, last, next, states, lines: linesOf(state, words.sites) };
   });
 }
@@ -199,6 +262,12 @@ function linesOf(state, sites) {
 
 // ---- the tools
 
+/** What tools/explain prints of a machine file, whatever its name. @param {string} name */
+function explainedMachine(name) {
+  const report = importOf('celltools.explain.report').Report(), { MOST_BYTES, bytes_of } = importOf('celltools.common.texts'), data = bytes_of(name);
+  if (data.length > MOST_BYTES) return `${name}: the file is too long: at most ${MOST_BYTES.toLocaleString('en')} bytes are read\n`;
+  return printedBy(() => importOf('celltools.explain.machine').explain_machine(name, data, report));
+}
 /** What tools/explain prints of files. @param {string[]} names */
 function explained(names) {
   const report = importOf('celltools.explain.report').Report(), machines = $.dictOf([]);

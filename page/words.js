@@ -1,4 +1,5 @@
-// Words in which places in sources and steps are named, as buttons that go there.
+// @ts-check
+// Words that name places in sources and steps, as buttons that go there.
 import { make, withCode } from './dom.js';
 
 const PLACE = /([\w./-]+\.(?:s|S|cell)):(\d+)|\bstep (\d+)\b/g;

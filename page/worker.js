@@ -1,10 +1,11 @@
-// The worker: takes the engine first, and then answers one question after the other.
+// @ts-check
+// The worker: takes the engine first, then answers one question after the other.
 import { ModuleEngine } from './engine.js';
 import { programs } from './python/files.js';
-import { Refusal, ask, check, ending, faults, hunt, orders, picture, run, runOfHunt, step, tool } from './telling.js';
+import { Refusal, ask, check, ending, faults, huntPart, huntWords, orders, picture, run, runOfHunt, step, tool } from './telling.js';
 
 /** @type {Record<string, (...given: any[]) => any>} */
-const ANSWERS = { faults, run, hunt, runOfHunt, ending, check, picture, orders, step, ask, tool };
+const ANSWERS = { faults, run, huntPart, huntWords, runOfHunt, ending, check, picture, orders, step, ask, tool };
 
 /** @param {{ data: { engine?: WebAssembly.Module, id: number, asked: string, given: any[] } }} message */
 onmessage = ({ data }) => {
@@ -17,6 +18,6 @@ onmessage = ({ data }) => {
     postMessage({ id, answer: ANSWERS[asked](...given) });
   } catch (thrown) {
     const { name, message } = /** @type {Error} */ (thrown);
-    postMessage({ id, refused: thrown instanceof Refusal ? message : `a fault of this page itself: ${name || ''} ${message || thrown}` });
+    postMessage({ id, refused: thrown instanceof Refusal ? message : `the page has an error: ${name || ''} ${message || thrown}` });
   }
 };

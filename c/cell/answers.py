@@ -1,8 +1,9 @@
 """What the library answers, as objects."""
+import array
 import dataclasses
 import json
 import re
-from typing import Any, Dict, Iterator, List, Optional, Tuple
+from typing import Any, Dict, Iterator, List, NamedTuple, Optional, Sequence, Tuple, Union, overload
 
 PROCESSOR = re.compile(r"spe (\d+) (.+) pc 0x([0-9a-f]+) queued (\d+)")
 
@@ -114,9 +115,8 @@ def states_of(lines: List[str]) -> States:
 
 
 def run_of(text: str) -> Run:
-    lines = text.splitlines()
-    place = next(place for place, line in enumerate(lines) if line.startswith("steps "))
-    return Run(text, int(lines[place].split()[1]), states_of(lines[place + 1:]))
+    count, *states = text[text.index("\nsteps ") + 1:].splitlines()
+    return Run(text, int(count.split()[1]), states_of(states))
 
 
 # ---- verdicts
@@ -152,9 +152,8 @@ class Site:
         return f"the host's action {self.action}" if self.processor is None else f"{self.letter} {self.processor} at 0x{self.address:05x}"
 
 
-@dataclasses.dataclass(frozen=True)
-class Count:
-    """How many runs have something, and the first of them, None where none has."""
+class Count(NamedTuple):
+    """How many runs have something, and the number of the first, None if none has it."""
     runs: int
     first: Optional[int]
 
@@ -221,3 +220,40 @@ class Step:
 def step_of(text: str) -> Step:
     line, *fields = text.split(" | ")
     return Step(line, {name: tuple(words) for name, *words in map(str.split, fields)})
+
+
+class Trace(Sequence[Step]):
+    """The steps of a record, in their order. It keeps their text, `text`, and makes a Step each time one is asked for: a million steps take some 100 MB."""
+
+    def __init__(self, text: bytes) -> None:
+        self.text = text
+        self._starts = array.array("Q")  # of the lines
+        start = 0
+        while start < len(text):
+            self._starts.append(start)
+            start = text.index(b"\n", start) + 1
+
+    def __len__(self) -> int:
+        return len(self._starts)
+
+    @overload
+    def __getitem__(self, place: int) -> Step: ...
+
+    @overload
+    def __getitem__(self, place: slice) -> List[Step]: ...
+
+    def __getitem__(self, place: Union[int, slice]) -> Union[Step, List[Step]]:
+        if isinstance(place, slice):
+            return [self._step(start) for start in self._starts[place]]
+        return self._step(self._starts[place])
+
+    def __iter__(self) -> Iterator[Step]:
+        return map(self._step, self._starts)
+
+    def __eq__(self, other: object) -> bool:
+        return isinstance(other, Trace) and self.text == other.text
+
+    __hash__ = None  # type: ignore[assignment]
+
+    def _step(self, start: int) -> Step:
+        return step_of(self.text[start:self.text.index(b"\n", start)].decode())

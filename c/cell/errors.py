@@ -1,6 +1,6 @@
 """What the library refuses, as exceptions."""
 import re
-from typing import Mapping, Optional, Sequence
+from typing import Any, Mapping, Optional, Sequence, Tuple
 
 LINE = re.compile(r"(machine file|record file|script file|expectation file|pass file|source \d+), line (\d+)(?:: (\w+))?")
 MISUSED, NOT_READ, NO_ROOM, FAULTY, NO_RUN, NO_MEMORY = range(2, 8)
@@ -13,17 +13,24 @@ class LibraryMissing(Exception):
 class CellError(Exception):
     """A refusal: `status` is the exit status of the program, and `said` its line."""
 
+    PARAMETERS: Tuple[str, ...] = ("status", "said")  # of which it is made again when it was pickled
+
     def __init__(self, status: int, said: str) -> None:
         super().__init__(said)
         self.status, self.said = status, said
 
+    def __reduce__(self) -> Tuple[Any, ...]:
+        return type(self), tuple(getattr(self, name) for name in self.PARAMETERS)
 
-class Misused(CellError):
-    """The words are no form of the program, or one of them or the name of a file has a line feed, which the library can't take."""
+
+class Misused(CellError, ValueError):
+    """The words are no form of the program, an argument is out of its range, or a word or the name of a file has a line feed, which the library can't take."""
 
 
 class NotRead(CellError):
-    """A file isn't among those that were given: `file` is its name, where the program tells it."""
+    """A file isn't among those that were given: `file` is its name, if the program prints it."""
+
+    PARAMETERS = ("status", "said", "file")
 
     def __init__(self, status: int, said: str, file: Optional[str]) -> None:
         super().__init__(status, said if file is None else f"{said}: {file} isn't among the files")
@@ -31,7 +38,9 @@ class NotRead(CellError):
 
 
 class Faulty(CellError):
-    """A file is too long or has a faulty line: `file` is its name, `line` is counted from 1, and `kind` is what the assembler calls the fault."""
+    """A file is too long or has a faulty line: `file` is its name, `line` is counted from 1, and `kind` is the assembler's name of the fault."""
+
+    PARAMETERS = ("status", "said", "file", "line", "kind")
 
     def __init__(self, status: int, said: str, file: Optional[str], line: Optional[int], kind: Optional[str]) -> None:
         place = f"{file}:{line}" if line else file

@@ -3,19 +3,22 @@ import ctypes
 import functools
 import os
 import pathlib
-from typing import Mapping, NamedTuple, Sequence, Union
+import re
+from typing import Dict, Mapping, NamedTuple, Sequence
 
-from .errors import MISUSED, NO_ROOM, LibraryMissing, Misused
+from .arguments import Bytes, bytes_of, files_of_names, kind_of
+from .errors import MISUSED, NO_MEMORY, LibraryMissing, Misused
 
 FILE = "libcell.so"
 NAMED_BY = "CELL_LIBRARY"  # the variable of the environment that names another library
-FIRST_ROOM = 1 << 20
-
-Bytes = Union[str, bytes]
+OUT_OF_MEMORY = b"cell: out of memory\n"
+MANY = 64  # files, of which the library compares each with each
+SOURCE = re.compile(rb"source[ \t]+([^\s#]+)")
+PART = 1 << 30  # bytes: ctypes copies fewer than 2^31 at once
 
 
 class Answer(NamedTuple):
-    """What the program answers: its exit status, and its output, or its error line where the status is above 1."""
+    """What the program answers: its exit status, and its output, or its error line if the status is above 1."""
     status: int
     text: bytes
 
@@ -24,11 +27,13 @@ class Answer(NamedTuple):
 def loaded(name: str) -> ctypes.CDLL:
     try:
         library = ctypes.CDLL(name)
-        answer = library.cell_answer
+        ask, forget = library.cell_ask, library.cell_forget
     except (OSError, AttributeError) as why:
         raise LibraryMissing(f"{name} can't be loaded: tools/dev/library makes it of c/libcell_page.a, for x86-64 Linux ({why})") from None
-    answer.restype = ctypes.c_uint32
-    answer.argtypes = [ctypes.c_char_p, ctypes.c_size_t] * 2 + [ctypes.c_void_p, ctypes.c_size_t, ctypes.POINTER(ctypes.c_size_t)]
+    ask.restype = ctypes.c_uint32
+    ask.argtypes = [ctypes.c_char_p, ctypes.c_size_t] * 2 + [ctypes.POINTER(ctypes.c_void_p), ctypes.POINTER(ctypes.c_size_t)]
+    forget.restype = None
+    forget.argtypes = [ctypes.c_void_p, ctypes.c_size_t]
     return library
 
 
@@ -37,33 +42,50 @@ def library() -> ctypes.CDLL:
     return loaded(os.environ.get(NAMED_BY) or str(pathlib.Path(__file__).resolve().with_name(FILE)))
 
 
-def bytes_of(text: Bytes) -> bytes:
-    return text.encode("utf-8", "surrogateescape") if isinstance(text, str) else bytes(text)
-
-
-def line_of(text: str) -> bytes:
+def line_of(text: str, argument: str) -> bytes:
     """A word, or the name of a file, as the library takes it: on a line of its own."""
+    if not isinstance(text, str):
+        raise TypeError(f"{argument} is {text!r}, of type {kind_of(text)}: give a str")
     if "\n" in text:
-        raise Misused(MISUSED, "a word or the name of a file has a line feed")
-    return bytes_of(f"{text}\n")
+        raise Misused(MISUSED, f"{argument} has a line feed: {text!r}")
+    return bytes_of(f"{text}\n", argument)
 
 
-def bundle_of(files: Mapping[str, Bytes]) -> bytes:
+def bundle_of(files: Mapping[str, bytes]) -> bytes:
     """The files as the library takes them."""
-    parts = []
+    parts, names = [], set()
     for name, text in files.items():
-        own = bytes_of(text)
-        parts += [line_of(name), b"%d\n" % len(own), own]
+        line = line_of(name, "the name of a file")
+        if line in names:
+            raise Misused(MISUSED, f"files has two names with the same bytes: {name!r}")
+        names.add(line)
+        parts += [line, b"%d\n" % len(text), text]
     return b"".join(parts)
 
 
+def needed(words: Sequence[str], files: Dict[str, bytes]) -> Dict[str, bytes]:
+    """The files that the words may name, and the sources that these name: of many, since the library compares the name of each with all others."""
+    if len(files) <= MANY:
+        return files
+    named = [word for word in words if word in files]
+    sources = {found.decode("utf-8", "surrogateescape") for name in named for found in SOURCE.findall(files[name])}
+    return {name: files[name] for name in dict.fromkeys([*named, *sorted(sources)]) if name in files}
+
+
+def copied(place: int, count: int) -> bytes:
+    """The bytes at a place of the memory."""
+    return b"".join(ctypes.string_at(place + at, min(PART, count - at)) for at in range(0, count, PART))
+
+
 def ask(words: Sequence[str], files: Mapping[str, Bytes]) -> Answer:
-    """What the program answers to these words, with these files. Misused where a word or a name has a line feed."""
-    asked, given = b"".join(map(line_of, words)), bundle_of(files)
-    answer, written, room = library().cell_answer, ctypes.c_size_t(), FIRST_ROOM
-    while True:
-        out = ctypes.create_string_buffer(room)
-        status = answer(asked, len(asked), given, len(given), out, room, ctypes.byref(written))
-        if status != NO_ROOM:
-            return Answer(status, ctypes.string_at(out, written.value))
-        room = written.value  # it tells how many bytes there are
+    """What the program answers to these words, with these files: it is computed once, whatever its length. Misused if a word or a name has a line feed."""
+    asked = b"".join(line_of(word, "a word") for word in words)
+    given = bundle_of(needed(words, files_of_names(files)))
+    text, count = ctypes.c_void_p(), ctypes.c_size_t()
+    status = library().cell_ask(asked, len(asked), given, len(given), ctypes.byref(text), ctypes.byref(count))
+    if text.value is None:
+        return Answer(NO_MEMORY, OUT_OF_MEMORY)
+    try:
+        return Answer(status, copied(text.value, count.value))
+    finally:
+        library().cell_forget(text, count)

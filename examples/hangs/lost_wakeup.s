@@ -1,5 +1,5 @@
 # Waits by events for five values that the host passes on from processor 1, takes all that are there each time, and adds them up. Some runs hang:
-# docs/DEBUGGING.md finds out why.
+# docs/guide/debugging.md finds out why.
 	.text
 _start:	il	$3,0x10		# inbound mailbox
 	wrch	$ch1,$3		# SPU_WrEventMask

@@ -1,5 +1,5 @@
 # A lock for readers and a writer, in the line at 0: how many readers are in, or -1 where the writer is. Processor 0 writes three times, the others read three
-# times each. Many runs spend their budget: docs/DEBUGGING.md finds out why.
+# times each. Many runs spend their budget: docs/guide/debugging.md finds out why.
 	.text
 _start:	lqa	$80,me
 	ila	$81,line

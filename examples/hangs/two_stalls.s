@@ -1,5 +1,5 @@
 # Fetches four blocks by lists, into two buffers in turn. A list stalls behind its first record, so that the work on that one begins while the second one
-# isn't there yet; up to two lists stall at a time. Some runs hang: docs/DEBUGGING.md finds out why.
+# isn't there yet; up to two lists stall at a time. Some runs hang: docs/guide/debugging.md finds out why.
 	.text
 _start:	il	$80,0		# how many blocks are done
 	il	$81,0		# the buffer of the next one, and the tag of its list

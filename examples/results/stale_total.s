@@ -1,4 +1,4 @@
-# Adds what this processor has to a total, the word at 0 of main memory. Many runs leave a wrong one: docs/DEBUGGING.md finds out why.
+# Adds what this processor has to a total, the word at 0 of main memory. Many runs leave a wrong one: docs/guide/debugging.md finds out why.
 	.text
 _start:	lqa	$14,mine
 	ila	$81,line

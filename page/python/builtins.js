@@ -1,3 +1,4 @@
+// @ts-check
 // The functions and types that Python has everywhere.
 import { ByteArray, Bytes, Dict, PySet, Tuple, entries, order, truth, tupleOf } from './values.js';
 import { exceptions, fail, takeNamed } from './classes.js';
@@ -7,7 +8,12 @@ import { Slice, iterated } from './operators.js';
 
 /** The numbers from one to another. */
 export class Range {
-  constructor(from, to, step) { Object.assign(this, { from, to, step }); this.length = Math.max(0, Math.ceil((to - from) / step)); }
+  constructor(from, to, step) {
+    this.from = from;
+    this.to = to;
+    this.step = step;
+    this.length = Math.max(0, Math.ceil((to - from) / step));
+  }
   *[Symbol.iterator]() { for (let at = this.from, left = this.length; left > 0; left--, at += this.step) yield at; }
   __contains__(value) {
     const is_between = this.step > 0 ? value >= this.from && value < this.to : value <= this.from && value > this.to;
@@ -46,7 +52,7 @@ function intOf(word, base) {
   const value = Number.isSafeInteger(small) ? small : exact();
   return sign === '-' ? -value : value;
 }
-const int = Object.assign((value = 0, base = 10) => {
+const int = Object.assign((value = /** @type {any} */ (0), base = 10) => {
   if (typeof value === 'string') return intOf(value, base);
   if (value instanceof Bytes) return intOf(value.s, base);
   return typeof value === 'bigint' ? value : value === null ? fail('TypeError', 'None is no number') : Math.trunc(Number(value));

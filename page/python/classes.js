@@ -1,3 +1,4 @@
+// @ts-check
 // Functions and classes of Python: called without `new`, with arguments by their names; exceptions; named tuples, enumerations and classes of data.
 import { Tuple, eq, partKey } from './values.js';
 
@@ -71,12 +72,12 @@ function* itemByItem() {
 export function classOf(name, bases, define) {
   const base = bases[0] && bases[0].prototype ? bases[0] : null;
   const Fresh = function () {};
-  const made = function (...given) {
+  const made = /** @type {any} */ (function (...given) {
     if (made.$made) return made.$made(made, given);
     const self = new Fresh();
     if (self.__init__) self.__init__(...given);
     return self;
-  };
+  });
   made.prototype = Object.create(base ? base.prototype : INSTANCE);
   if (base) Object.setPrototypeOf(made, base);
   put(made, 'name', { value: name });
@@ -104,7 +105,7 @@ const BASE = classOf('BaseException', [], building => {
 const kindOf = (name, base) => classOf(name, [base], () => {});
 const Exception = kindOf('Exception', BASE), LookupError = kindOf('LookupError', Exception);
 const OSError = classOf('OSError', [Exception], building => {
-  building.$method('__init__', function (...given) {
+  building.$method('__init__', /** @this {any} */ function (...given) {
     [this.errno, this.strerror, this.filename] = given.length > 1 ? given : [null, given[0] ?? null, null];
     this.args = given;
   }, []);

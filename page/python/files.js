@@ -1,3 +1,4 @@
+// @ts-check
 // The files of a worker: texts by their names, and what of them Python's modules do. And the programs, which the engine stands for.
 import { Bytes, Dict, tupleOf } from './values.js';
 import { exceptions, fail, takeNamed } from './classes.js';
@@ -10,9 +11,10 @@ export const TOOLS = '/cell'; // the folder of the repository
 const ABSENT = 2;
 
 const textOf = name => typeof name === 'string' ? name : name.__fspath__();
-/** A name without parts that lead nowhere. @param {any} name */
+/** The name under which a file is kept: its own if there is such a file, otherwise the name without `.` and `..`. @param {any} name */
 function named(name) {
   const text = textOf(name), found = [];
+  if (files.has(text)) return text;
   for (const part of text.split('/')) {
     if (part === '..') found.pop();
     else if (part && part !== '.') found.push(part);
@@ -31,7 +33,9 @@ const write = (name, text) => { if (named(name) !== '/dev/null') files.set(named
 /** A file that is open. */
 class File {
   constructor(name, mode) {
-    Object.assign(this, { name, isBytes: mode.includes('b'), isRead: !/[wa]/.test(mode) });
+    this.name = name;
+    this.isBytes = mode.includes('b');
+    this.isRead = !/[wa]/.test(mode);
     this.kept = this.isRead ? read(name) : '';
   }
   __enter__() { return this; }
@@ -150,7 +154,7 @@ function answered(command) {
 }
 /** Temporary files are many; of these only those that are named. */
 function filesFor(words) {
-  const wanted = new Set(words.map(named)), found = /** @type {Record<string, Uint8Array>} */ ({});
+  const wanted = new Set(words.map(named)), found = /** @type {Record<string, Uint8Array>} */ (Object.create(null)); // a file may be called __proto__
   if (wanted.has(os.devnull)) found[os.devnull] = new Uint8Array();
   for (const [name, text] of files) {
     if (wanted.has(name) || !name.startsWith('/')) found[words.find(word => named(word) === name) || name] = unlatin(text);

@@ -1,3 +1,4 @@
+// @ts-check
 // The modules of Python's library that the tools use, apart from files and programs.
 import { Bytes, Dict, entries, eq, keyOf, lt, tupleOf } from './values.js';
 import { Enum, Named, NamedTuple, classOf, contextmanager, dataclass, fail, functionOf, namedtuple, replaced, takeNamed } from './classes.js';
@@ -61,7 +62,7 @@ function kept(made) {
 }
 const functools = {
   cache: kept, lru_cache: given => given instanceof Named || typeof given !== 'function' ? kept : kept(given), cached_property: made => made,
-  reduce: (made, values, ...start) => [...values].reduce((one, other) => made(one, other), ...start),
+  reduce: (made, values, ...start) => /** @type {any} */ ([...values]).reduce((one, other) => made(one, other), ...start),
   partial: (made, ...given) => (...more) => made(...given, ...more),
 };
 function* groupby(values, key = value => value) {

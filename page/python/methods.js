@@ -1,3 +1,4 @@
+// @ts-check
 // The methods of lists, numbers, sets and dictionaries.
 import { Bytes, Dict, PySet, eq, order, tupleOf } from './values.js';
 import { fail, takeNamed } from './classes.js';

@@ -1,3 +1,4 @@
+// @ts-check
 // What the operators, attributes, calls and assignments of Python do.
 import { ByteArray, Bytes, Dict, PySet, Tuple, entries, eq, keyOf, tupleOf } from './values.js';
 import { fail, functionOf } from './classes.js';
@@ -18,7 +19,7 @@ const exactly = (one, other, plain, exact) => {
 };
 
 export function add(one, other) {
-  if (typeof one === 'number' && typeof other === 'number' || typeof one === 'string' && typeof other === 'string') return one + other;
+  if (typeof one === 'number' && typeof other === 'number' || typeof one === 'string' && typeof other === 'string') return /** @type {any} */ (one) + other;
   if (Array.isArray(one)) return one instanceof Tuple ? tupleOf(...one, ...other) : [...one, ...other];
   if (one instanceof Bytes) return new Bytes(one.s + other.s);
   if (isNumber(one) || isBig(one)) return exactly(one, other, (a, b) => a + b, (a, b) => a + b);
@@ -126,7 +127,11 @@ const unbound = method => (self, ...given) => method.apply(self, given);
 
 /** A part of a list, from a number to another. */
 export class Slice {
-  constructor(lower, upper, step) { Object.assign(this, { lower, upper, step: step ?? 1 }); }
+  constructor(lower, upper, step) {
+    this.lower = lower;
+    this.upper = upper;
+    this.step = step ?? 1;
+  }
   indices(length) {
     const [first, last] = this.step < 0 ? [length - 1, -1] : [0, length], [low, high] = this.step < 0 ? [-1, length - 1] : [0, length];
     const at = (place, other) => place === null ? other : Math.max(low, Math.min(high, place < 0 ? place + length : place));
@@ -149,7 +154,8 @@ export function item(object, key) {
   }
   if (object instanceof Dict) {
     const found = object.map.get(keyOf(key));
-    return found ? found[1] : object.__missing__ ? object.__missing__(key) : fail('KeyError', key);
+    const { __missing__ } = /** @type {any} */ (object);
+    return found ? found[1] : __missing__ ? __missing__.call(object, key) : fail('KeyError', key);
   }
   if (object instanceof Bytes) return key instanceof Slice ? new Bytes(partOf(object.s, key)) : object.s.charCodeAt(key < 0 ? key + object.length : key);
   return object.__getitem__ ? object.__getitem__(key) : fail('TypeError', 'it has no parts');

@@ -1,3 +1,4 @@
+// @ts-check
 // Python's regular expressions by JavaScript's: what differs in the writing is rewritten, and bytes are matched as texts of such characters.
 import { Bytes, tupleOf } from './values.js';
 import { takeNamed } from './classes.js';
@@ -38,7 +39,11 @@ function rewritten(source, flags, isAscii) {
 
 /** What a pattern found. */
 export class Match {
-  constructor(pattern, found, string) { Object.assign(this, { re: pattern, found, string }); }
+  constructor(pattern, found, string) {
+    this.re = pattern;
+    this.found = found;
+    this.string = string;
+  }
   as(text) { return text === undefined ? null : this.re.isBytes ? new Bytes(text) : text; }
   __getitem__(group) { return this.as(typeof group === 'string' ? this.found.groups[group] : this.found[group]); }
   group(...groups) { return groups.length > 1 ? tupleOf(...groups.map(group => this.__getitem__(group))) : this.__getitem__(groups[0] || 0); }
@@ -49,7 +54,7 @@ export class Match {
   within(group) {
     const pattern = new RegExp(this.re.source, 'dy');
     pattern.lastIndex = this.found.index;
-    return pattern.exec(textOf(this.string)).indices[group] || [-1, -1];
+    return /** @type {any} */ (pattern.exec(textOf(this.string))).indices[group] || [-1, -1];
   }
 }
 const textOf = string => string instanceof Bytes ? string.s : string;

@@ -1,3 +1,4 @@
+// @ts-check
 // What the translated modules of the tools are given: all of the above, as `$`, and how one module finds another.
 import * as values from './values.js';
 import * as classes from './classes.js';
@@ -9,7 +10,7 @@ import { LIBRARY } from './library.js';
 import { FILES, TOOLS, files, open, stdout } from './files.js';
 
 /** The modules that aren't imported yet, and those that are. */
-const waiting = new Map(), modules = new Map(Object.entries({ ...LIBRARY, ...FILES, re }));
+const waiting = new Map(), modules = new Map(Object.entries(/** @type {Record<string, any>} */ ({ ...LIBRARY, ...FILES, re })));
 for (const found of modules.values()) if (!found.$isModule) found.$isModule = true;
 // How a program of tools/ starts, reads its words and ends has no place here, nor how it writes files.
 modules.set('celltools.common.starting', { $isModule: true });

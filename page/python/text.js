@@ -1,3 +1,4 @@
+// @ts-check
 // Texts and bytes of Python: their methods, and how values are written.
 import { ByteArray, Bytes, Dict, PySet, Tuple } from './values.js';
 import { Named, fail, takeNamed } from './classes.js';
@@ -5,7 +6,7 @@ import { Named, fail, takeNamed } from './classes.js';
 // ---- how values are written
 
 /** A value as `str` writes it. */
-export function str(value = '') {
+export function str(value = /** @type {any} */ ('')) {
   if (typeof value === 'string') return value;
   if (typeof value === 'number' || typeof value === 'bigint') return String(value);
   return value && value.__str__ ? value.__str__() : repr(value);
@@ -19,7 +20,7 @@ export function repr(value) {
   if (value === null || value === undefined) return 'None';
   if (typeof value === 'boolean') return value ? 'True' : 'False';
   if (typeof value === 'string') return quoted(value);
-  if (value instanceof Tuple && value.__repr__) return value.__repr__(repr);
+  if (value instanceof Tuple && '__repr__' in value) return /** @type {any} */ (value).__repr__(repr);
   if (value instanceof Tuple) return `(${value.map(repr).join(', ')}${value.length === 1 ? ',' : ''})`;
   if (Array.isArray(value)) return `[${value.map(repr).join(', ')}]`;
   if (value instanceof Bytes) return `b${quoted(value.s)}`;
@@ -190,7 +191,7 @@ export const OF_BYTES = {
   splitlines: data => { const lines = data.s.split(/\r\n|[\r\n]/); if (!lines[lines.length - 1]) lines.pop(); return lines.map(asBytes); },
 };
 for (const [name, method] of Object.entries(OF_TEXT)) {
-  if (!(name in OF_BYTES)) OF_BYTES[name] = (data, ...given) => asBytes(method(data.s, ...given.map(asText)));
+  if (!(name in OF_BYTES)) OF_BYTES[name] = (data, ...given) => asBytes(/** @type {any} */ (method)(data.s, ...given.map(asText)));
 }
 
 /** A text of bytes as a text, for people. @param {string} text */

@@ -1,3 +1,4 @@
+// @ts-check
 // The values of Python that JavaScript lacks: tuples, dictionaries and sets by the values of their keys, bytes; and when two values are equal, or one is less.
 
 /** @typedef {any} Value a value of Python: null for None, an array for a list */

@@ -17,9 +17,9 @@ PROGRAMS = ("chromium-headless-shell", "chromium", "chromium-browser", "google-c
 WORDS = ("--headless=new", "--no-sandbox", "--disable-gpu", "--hide-scrollbars", "--remote-debugging-pipe")
 HEIGHT = 900
 TO_BROWSER, FROM_BROWSER = 3, 4  # the files by which it is asked and answers
-SHIFT = 8  # of a key or a click, by the protocol
-NAMED_KEYS = {"Enter": (13, "\r"), "Escape": (27, ""), "Tab": (9, ""), "End": (35, ""), "Backspace": (8, ""), "ArrowLeft": (37, ""),
-              "ArrowRight": (39, "")}  # each with its code and what it types
+CONTROL, SHIFT = 2, 8  # of a key or a click, by the protocol
+NAMED_KEYS = {"Enter": (13, "\r"), "Escape": (27, ""), "Tab": (9, ""), "PageDown": (34, ""), "End": (35, ""), "Home": (36, ""), "Backspace": (8, ""),
+              "ArrowLeft": (37, ""), "ArrowUp": (38, ""), "ArrowRight": (39, ""), "ArrowDown": (40, "")}  # each with its code and what it types
 
 
 Told = Dict[str, Any]  # what the protocol tells, as JSON has it
@@ -69,6 +69,7 @@ class Browser:
         self.session: Optional[str] = None
         self.sessions: Dict[bool, str] = {}
         self.requests: List[str] = []  # the addresses that pages, their frames and workers asked for, from hear_requests on
+        self.dialogs: List[str] = []  # the kinds of dialogs that pages opened and that were accepted, from hear_dialogs on
 
     def end(self) -> None:
         os.close(self.asking)
@@ -92,25 +93,46 @@ class Browser:
         self.call("Network.enable")
         self.call("Target.setAutoAttach", autoAttach=True, waitForDebuggerOnStart=False, flatten=True)
 
+    def hear_dialogs(self) -> None:
+        """Begins to accept the dialogs of the page that is open."""
+        self.dialogs = []
+        self.call("Page.enable")
+
     def hear(self, told: Told) -> None:
         """Takes in what the browser tells without being asked."""
         if told.get("method") == "Network.requestWillBeSent":
             self.requests.append(told["params"]["request"]["url"])
         elif told.get("method") == "Target.attachedToTarget":
-            self.number += 1
-            asked = {"id": self.number, "method": "Network.enable", "params": {}, "sessionId": told["params"]["sessionId"]}
-            self.write(json.dumps(asked).encode() + b"\0")
+            self.send("Network.enable", told["params"]["sessionId"])
+        elif told.get("method") == "Page.javascriptDialogOpening":
+            self.dialogs.append(told["params"]["type"])
+            self.send("Page.handleJavaScriptDialog", told["sessionId"], accept=True)
+
+    def send(self, method: str, session: str, **words: object) -> None:
+        """Sends a request whose answer nobody waits for."""
+        self.number += 1
+        self.write(json.dumps({"id": self.number, "method": method, "params": words, "sessionId": session}).encode() + b"\0")
 
     def key(self, name: str, modifiers: int = 0) -> None:
         """Presses a key and lets it go: one of NAMED_KEYS, or a letter."""
-        code, text = NAMED_KEYS.get(name, (0, name))
+        code, text = NAMED_KEYS[name] if name in NAMED_KEYS else (ord(name.upper()) if name.isalnum() else 0, name)
+        text = "" if modifiers & CONTROL else text
         self.call("Input.dispatchKeyEvent", type="keyDown", key=name, text=text, windowsVirtualKeyCode=code, modifiers=modifiers)
         self.call("Input.dispatchKeyEvent", type="keyUp", key=name, windowsVirtualKeyCode=code, modifiers=modifiers)
+
+    def edit(self, command: str) -> None:
+        """Does an editing command, as a menu does: copy, cut, paste, .."""
+        self.call("Input.dispatchKeyEvent", type="rawKeyDown", key="F13", commands=[command])
+        self.call("Input.dispatchKeyEvent", type="keyUp", key="F13")
 
     def click(self, x: float, y: float) -> None:
         """Clicks at a point of the window."""
         for kind in ("mousePressed", "mouseReleased"):
-            self.call("Input.dispatchMouseEvent", type=kind, x=x, y=y, button="left", clickCount=1)
+            self.mouse(kind, x, y)
+
+    def mouse(self, kind: str, x: float, y: float) -> None:
+        """Presses the mouse button at a point (`mousePressed`), or releases it (`mouseReleased`)."""
+        self.call("Input.dispatchMouseEvent", type=kind, x=x, y=y, button="left", clickCount=1)
 
     def answer(self, script: str) -> Any:
         """What a script answers, at once or by a promise."""

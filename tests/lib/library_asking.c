@@ -1,5 +1,6 @@
 /* Asks the library all questions of standard input, one after the other, and prints the answers: tests/lib/questions.py says how both are packed. With the word
-   `failing`, each allocation of each answer is made to fail in turn, and it is told whether that was answered as want of memory. */
+   `failing`, each allocation of each answer fails in turn, and it prints whether that was answered as memory that ran out. With `kept`, it prints whether cell_ask
+   gives the answer of cell_answer with as many allocations: that program is built with c/kept.c. */
 #include "cell.h"
 #include <stdio.h>
 #include <stdlib.h>
@@ -80,13 +81,32 @@ static int fails_well(const question *asked, uint8_t *out, uint8_t *again) {
     return 1;
 }
 
+#pragma weak cell_ask
+#pragma weak cell_forget
+
+/* Whether cell_ask answers as cell_answer does, and computes it once. */
+static int keeps_well(const question *asked, uint8_t *out) {
+    const uint8_t *text;
+    size_t count;
+    answer wanted = ask(asked, out);
+    long once = made;
+    made = 0;
+    uint32_t status = cell_ask(asked->words, asked->words_count, asked->files, asked->files_count, &text, &count);
+    int is_same = status == wanted.status && count == wanted.count && text && !memcmp(out, text, count) && made == once;
+    if (!is_same) printf("status %u, %zu bytes, %ld of %ld allocations: %.*s\n", (unsigned)status, count, made, once, (int)asked->words_count, (const char *)asked->words);
+    cell_forget(text, count);
+    return is_same;
+}
+
 int main(int count, char **words) {
-    int is_failing = count > 1 && !strcmp(words[1], "failing"), is_well = 1;
+    int is_failing = count > 1 && !strcmp(words[1], "failing"), is_keeping = count > 1 && !strcmp(words[1], "kept"), is_well = 1;
     uint8_t *out = malloc(ROOM), *again = malloc(ROOM);
     question asked;
     while (read_question(&asked)) {
         if (is_failing) {
             is_well &= fails_well(&asked, out, again);
+        } else if (is_keeping) {
+            is_well &= keeps_well(&asked, out);
         } else {
             answer given = ask(&asked, out);
             printf("%u %zu\n", (unsigned)given.status, given.count);

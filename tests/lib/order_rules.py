@@ -1,4 +1,4 @@
-"""Which pairs of a run's steps docs/ORDER.md orders, directly and by chains, and which of them race: told once more, beside
+"""Which pairs of a run's steps docs/reference/order.md orders, directly and by chains, and which of them race: told once more, beside
 tools/celltools/order/graph.py, each rule as a look at one pair of places. Nothing here is fast: every rule looks at every pair of steps of the kinds that it speaks of.
 """
 import re

@@ -1,6 +1,5 @@
 """What the page is asked in node and in a browser: the tools' words, and of the browser what the engine answers, as tests/module asks it in node."""
 import dataclasses
-import os
 import pathlib
 from typing import Any, Dict, Iterator, List, Sequence, Tuple
 
@@ -11,8 +10,13 @@ from lib.questions import Answer, Question, files_of
 Told = Dict[str, Any]  # questions or an answer, as they are sent
 
 SECONDS, MEGABYTES = 120, 4096
-EXAMPLES = ("races/mail_race", "races/list_race", "races/slowpath_race", "fault", "stuck", "counter")
+EXAMPLES = ("examples/races/mail_race", "examples/races/list_race", "examples/races/slowpath_race", "examples/fault", "examples/stuck", "examples/counter",
+            "tests/debugger_words/halting")
+WITNESS = "tests/out/witness"  # how the names of the records begin that tools/witness writes
 FAULTY = 12  # sources of tests/cases that are explained
+# Examples that are hunted in parts, with several races, ends and results; and where the runs are cut, in the order in which the parts come.
+IN_PARTS = ("races/mail_race", "races/list_race", "races/mutex_lost_race", "hangs/reader_stays", "hangs/lost_wakeup", "stuck", "fault")
+PART_RUNS, CUTS = 60, (41, 7, 30)
 
 
 @dataclasses.dataclass(frozen=True)
@@ -27,12 +31,12 @@ class OfTool:
 def of_tools() -> Iterator[OfTool]:
     """What tools tell of some examples, and of sources that are faulty."""
     for name in EXAMPLES:
-        machine, record = f"examples/{name}.cell", f"examples/{name}.out"
+        machine, record = f"{name}.cell", f"{name}.out"
         files = files_of(machine, record)
         yield OfTool("states", (machine, record, "4"), (machine, record, "4"), files)
         yield OfTool("explain", (machine, record), (machine, record), files)
         if name.endswith("_race"):
-            yield OfTool("witness", (machine, record, os.devnull), ("--force", "-o", os.devnull, machine, record), files)
+            yield OfTool("witness", (machine, record, WITNESS), ("--force", "-o", WITNESS, machine, record), files)
     cases = [str(path.relative_to(ROOT)) for path in sorted((ROOT / "tests" / "cases").rglob("*.s")) if path.read_bytes().isascii()]
     for case in cases[::len(cases) // FAULTY]:
         yield OfTool("explain", (case,), (case,), files_of(case))
@@ -40,8 +44,16 @@ def of_tools() -> Iterator[OfTool]:
 
 def told(question: OfTool) -> str:
     """What the tool of this clone tells."""
+    (ROOT / WITNESS).parent.mkdir(exist_ok=True)
     found = forking.ended([f"tools/{question.tool}", *question.command], ROOT, SECONDS, MEGABYTES)
     return found[1].decode() if found else f"no end within {SECONDS} seconds"
+
+
+def hunts_in_parts() -> List[Told]:
+    """As page_sums.js has them."""
+    machines = [f"examples/{name}.cell" for name in IN_PARTS]
+    texts = [{name: data.decode() for name, data in files_of(machine).items()} for machine in machines]
+    return [{"machine": machine, "files": files, "runs": PART_RUNS, "cuts": CUTS} for machine, files in zip(machines, texts)]
 
 
 # ---- how they are sent

@@ -9,7 +9,7 @@ import re
 from typing import Iterator, List, Tuple, Union
 
 INDENT = "    "
-OWN = r"(?:CELL_TRY=1 )?(?:\./cell|\./hunt|tools/\w+|\.ci/run)"
+OWN = r"(?:CELL_TRY=1 )?(?:\./cell|\./hunt|tools/\w+|tests/all|\.ci/run)"
 OTHERS = r"(?:diff|grep|chromium|for)"
 IN_BLOCK = re.compile(rf"(?:{OWN}|{OTHERS})(?: |$)")
 IN_TEXT = re.compile(rf"`({OWN} [^`]+)`")

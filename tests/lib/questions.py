@@ -74,8 +74,8 @@ def of_record(machine: str, record: str) -> Iterator[Question]:
 
 def of_source(source: str) -> Iterator[Question]:
     files = files_of(source)
-    for words in (("asm", source), ("check", source, source), ("trace", "lines", source)):
-        yield Question(words, files)
+    for words in (["asm", source], ["check", source, source], ["trace", "lines", source]):
+        yield Question(tuple(words), files)
 
 
 def of_nothing() -> Iterator[Question]:
@@ -83,8 +83,8 @@ def of_nothing() -> Iterator[Question]:
     for words in (["asm", "none.s"], ["check", "none.cell", "none.out"], ["hunt", "none.cell", FEW], ["trace", "effects", "none.cell", "none.out"], ["frob"],
                   ["hunt"], ["trace", "frob"], ["check", "none.cell"], ["hunt", "none.cell", "0"]):
         yield Question(tuple(words), {})
-    for words, (name, text) in ((("asm",), FAULTY_SOURCE), (("trace", "lines"), FAULTY_SOURCE), (("trace", "plan"), FAULTY_MACHINE)):
-        yield Question((*words, name), {name: text})
+    for front, (name, text) in ((("asm",), FAULTY_SOURCE), (("trace", "lines"), FAULTY_SOURCE), (("trace", "plan"), FAULTY_MACHINE)):
+        yield Question((*front, name), {name: text})
 
 
 def questions() -> List[Question]:

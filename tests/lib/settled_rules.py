@@ -1,7 +1,7 @@
 """Which runs are settled, and which order of a run's steps a number names: told once more in plain Python, beside the proved program.
 
 A run is settled where no processor sees how far its flow controller has come, except by what orders what it sees. Seven clauses say so, under the names that
-they have in run_permute's `Settled`, each of them here as a look at the places of a trace. `before` has of each place the places that are ordered before it, as
+they have in reorder_laws's `Settled`, each of them here as a look at the places of a trace. `before` has of each place the places that are ordered before it, as
 the bits of a number. Nothing here is fast: every clause looks at every place.
 """
 import bisect

@@ -4,7 +4,7 @@ common       how programs start and end, read texts and write files, and where t
 run          asks the proved programs about records and hunts: a run's steps, their effects, and the states behind them
 source       the language of sources: its names, where its lines are placed, and sources of GNU as
 telling      says in words what steps, states, waits and faults are
-order        docs/ORDER.md as a graph, and why nothing orders two steps
+order        docs/reference/order.md as a graph, and why nothing orders two steps
 witness      the two short records of a race
 explain      what is wrong with a file
 hunt         what hunts print

@@ -5,7 +5,7 @@ __doc__ = """Draws the layers of the crates, as crates.txt has them, with the wa
 
 Usage: tools/dev/layers.py           prints the drawing
        tools/dev/layers.py --svg     prints it as a picture, which has what a run does in each layer, too
-       tools/dev/layers.py --write   puts the drawing into docs/ARCHITECTURE.md, in the place of its first block, and the picture into docs/layers.svg
+       tools/dev/layers.py --write   puts the drawing into docs/inside/architecture.md, in the place of its first block, and the picture into docs/inside/layers.svg
 
 In crates.txt a layer begins with a line `# ---- NAME: WHAT`. The comments behind it say what a run does there, and then come its crates. The status is 1
 where a crate uses one that doesn't stand before it.
@@ -28,8 +28,8 @@ from celltools.common.repository import ROOT
 from celltools.common.words import Words
 
 CRATES = ROOT / "crates.txt"
-PAGE = ROOT / "docs" / "ARCHITECTURE.md"
-PICTURE = ROOT / "docs" / "layers.svg"
+PAGE = ROOT / "docs" / "inside" / "architecture.md"
+PICTURE = ROOT / "docs" / "inside" / "layers.svg"
 HEADING = re.compile(r"# ---- ([\w ]+): (.+)")
 CRATE = re.compile(r"(\w+)(?: [^:#]*)?:([^#]*)")
 FIRST_BLOCK = re.compile(r"(?:^    .*\n)+", re.M)

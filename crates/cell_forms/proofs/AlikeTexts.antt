@@ -15,7 +15,7 @@ use Rattle.cell_machine.specs.Moves.{outstanding}
 use Rattle.cell_machine.specs.Next.{next}
 use Rattle.cell_machine.specs.Shows.{AllTwo}
 use Rattle.cell_machine.specs.Run.{Ran, IsRun, IsEnd, HasEnded, CanGoOn, is_quiet, is_quiet_spe, state_of}
-use Rattle.run_permute.specs.Theorem.{IsSameSpe, IsSameEnd}
+use Rattle.reorder_laws.specs.Theorem.{IsSameSpe, IsSameEnd}
 use Rattle.state_lines.specs.Lines.{end_line, spe_line, local_bytes, memory_line, local_line, show_line}
 use Rattle.cell_report.specs.States.{register_lines, spe_text, spes_text, host_text, states_of}
 use Rattle.cell_forms.specs.Checks.{TellsEnd}

@@ -11,7 +11,7 @@ use Rattle.race_check.specs.declared.check.Verdict.TheVariants.{Accepted, Race a
 use Rattle.race_check.specs.Races.{IsVerdict}
 use Rattle.race_check.proofs.Accepted.{first_steps, raced-whole}
 use Rattle.race_check.proofs.Prefixes.{first_of, first-all, run-told}
-use Rattle.run_permute.specs.Places.{until}
+use Rattle.reorder_laws.specs.Places.{until}
 use Rattle.settled.specs.Settlings.{IsSettledSoFar}
 use Rattle.settled.proofs.Alike.{alike-first, flipped, settled-on}
 use Rattle.settled.proofs.Walking.{until-long}

@@ -3,7 +3,7 @@ use Rattle.std.proofs.Common.{◌≡◌, ℕ, List}
 use Rattle.cell_machine.specs.Run.{Ran, IsRun}
 use Rattle.race_check.specs.declared.check.Verdict.TheVariants.{Accepted}
 use Rattle.race_check.specs.Races.{IsVerdict}
-use Rattle.run_permute.specs.Settled.{IsSettled}
+use Rattle.reorder_laws.specs.Settled.{IsSettled}
 use Rattle.reorder.specs.Nth.{EndsAlike, IsReordered}
 use Rattle.cell_forms.specs.declared.fault.Fault.{Fault}
 use Rattle.cell_forms.specs.declared.fault.Fault.TheVariants.{NotSettled, Memory}
@@ -27,7 +27,7 @@ prints_reordering m n x text run accepted settled reordered alike printed = reco
 }
 
 -- nothing is printed of a run that isn't settled
-pub refused_reordering : (m : Ran) (n : ℕ) (before after : Sinks) (fault : Fault) → IsVerdict m Accepted → IsUnsettledOrMemory m fault → after.taken ≡ before.taken → Ends (reordering_of m n) before after (Refused fault)
+pub refused_reordering : (m : Ran) (n : ℕ) (before after : Sinks) (fault : Fault) → IsVerdict m Accepted → IsUnsettledOrMemory m fault → after ≡ before → Ends (reordering_of m n) before after (Refused fault)
 refused_reordering m n before after NotSettled accepted refused same = (record { no_race = accepted; not_settled = refused }, same)
 refused_reordering m n before after Memory accepted refused same = same
 refused_reordering m n before after fault accepted refused same = absurd refused

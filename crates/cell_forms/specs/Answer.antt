@@ -87,7 +87,7 @@ WrotePart work old new = (status : Status) × (text : List ℕ) × Writes work s
 abbrev pub WroteSteps : Ran → Sinks → Sinks → Status → Type 0
 WroteSteps m old new Done = (text : List ℕ) × PrintsSteps m text × Took old.taken new.taken text
 WroteSteps m old new (Refused WriteFault) = Rose old.faults new.faults × ((text : List ℕ) × PrintsSteps m text × TookPart old.taken new.taken text)
-WroteSteps m old new (Refused Memory) = new.taken ≡ old.taken
+WroteSteps m old new (Refused Memory) = new ≡ old
 WroteSteps m old new other = ⊥
 
 -- how work ends: its text went out, or a part of it, or nothing
@@ -95,8 +95,8 @@ abbrev pub Ends : Work → Sinks → Sinks → Status → Type 0
 Ends work old new Done = Wrote work Done old.taken new.taken
 Ends work old new (Race first second) = Wrote work (Race first second) old.taken new.taken
 Ends work old new (Refused WriteFault) = Rose old.faults new.faults × WrotePart work old.taken new.taken
-Ends work old new (Refused Memory) = new.taken ≡ old.taken
-Ends work old new (Refused NotSettled) = LacksOrders work × (new.taken ≡ old.taken)
+Ends work old new (Refused Memory) = new ≡ old
+Ends work old new (Refused NotSettled) = LacksOrders work × (new ≡ old)
 Ends work old new (Refused fault) = ⊥
 
 -- the files settle work, and this is how it ended
@@ -110,10 +110,10 @@ Answers files task old new before after (Race first second) = Ended files task b
 Answers files task old new before after (Refused WriteFault) = Ended files task before after (Refused WriteFault)
 Answers files task old new before after (Refused fault) = RefusesIn files task old new fault
 
--- nothing went out
+-- a refusal leaves the sink as it was, its bytes and its count of faults, but for WriteFault, which comes only where the count rose
 abbrev pub IsQuiet : Sinks → Sinks → Status → Type 0
 IsQuiet old new (Refused WriteFault) = Rose old.faults new.faults
-IsQuiet old new (Refused fault) = new.taken ≡ old.taken
+IsQuiet old new (Refused fault) = new ≡ old
 IsQuiet old new other = Unit {0}
 
 -- where a reading failed

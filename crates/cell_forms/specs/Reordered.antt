@@ -3,7 +3,7 @@ use Rattle.std.specs.Prelude.{ℕ, List}
 use Rattle.cell_machine.specs.Run.{Ran}
 use Rattle.race_check.specs.declared.check.Verdict.TheVariants.{Accepted}
 use Rattle.race_check.specs.Races.{IsVerdict}
-use Rattle.run_permute.specs.Settled.{IsSettled}
+use Rattle.reorder_laws.specs.Settled.{IsSettled}
 use Rattle.reorder.specs.Nth.{EndsAlike, IsReordered}
 use Rattle.cell_forms.specs.declared.fault.Fault.{Fault}
 use Rattle.cell_forms.specs.declared.fault.Fault.TheVariants.{NotSettled, Memory}

@@ -12,7 +12,7 @@ use crate::looks::Looks;
 use cell_base::Step;
 use cell_machine::{Effect, Machine, Setup};
 use race_check::{Search, Verdict};
-use run_record::{NotARun, replay};
+use run_record::{RefusedStep, make_steps};
 use std::alloc::Global;
 
 /// A run that was made again, and the verdict on it; where it is to be reordered, what was looked at, which is of the whole run where that has no race.
@@ -109,9 +109,9 @@ fn make_rest(machine: &mut Machine, steps: &[Step]) -> Result<(), Fault>
     ensures refused { IfErr result (StopsOrMemory machine.old.setup steps.now) }
 {
     let made = machine.steps().len();
-    match replay(machine, &steps[made..]) {
+    match make_steps(machine, &steps[made..]) {
         Ok(()) => Ok(()),
-        Err(NotARun { at }) => Err(Fault::NotARun { at }),
+        Err(RefusedStep { at }) => Err(Fault::NotARun { at }),
     }
 }
 

@@ -4,7 +4,7 @@ ghost use Rattle.std.specs.Prelude.{◌≡◌, ◌∷◌, ◌++◌, [], IfOk, On
 ghost use Rattle.cell_machine.specs.Effects.{effect_in};
 ghost use Rattle.race_check.specs.Races.{IsVerdict};
 ghost use Rattle.race_check.specs.Searches.{HasMadeAtMost, IsClear, run_of};
-ghost use Rattle.run_permute.specs.Places.{until};
+ghost use Rattle.reorder_laws.specs.Places.{until};
 ghost use Rattle.run_walk.specs.Walks.{IsLast, walked};
 ghost use Rattle.settled.specs.Walks.{IsMadeFrom};
 ghost use Rattle.cell_forms.specs.Judging.{LooksAt};

@@ -5,7 +5,7 @@ ghost use Rattle.std.specs.Option.{ForSome};
 ghost use Rattle.cell_io.specs.Store.{NoneFell};
 ghost use Rattle.race_check.specs.Races.{IsVerdict};
 ghost use Rattle.reorder.specs.Nth.{EndsAlike, IsReordered};
-ghost use Rattle.run_permute.specs.Settled.{IsSettled};
+ghost use Rattle.reorder_laws.specs.Settled.{IsSettled};
 ghost use Rattle.cell_forms.specs.Task.{reordering_of};
 ghost use Rattle.cell_forms.specs.Forms.{permute_task};
 ghost use Rattle.cell_forms.specs.Judging.{IsJudged, LooksAt};

@@ -6,6 +6,7 @@
 #![tactic(auto)]
 
 mod actors;
+mod alone;
 mod chooser;
 mod error;
 mod keys;
@@ -19,6 +20,7 @@ mod touched;
 mod touches;
 mod way;
 
+pub use alone::machine_of_seed;
 pub use error::HuntError;
 pub use outcome::{Outcome, outcome_of};
 pub use racing::Racing;

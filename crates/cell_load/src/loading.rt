@@ -17,27 +17,17 @@ use cell_machine::{Setup, SetupError, Show};
 use local_store::StoreError;
 use spu_asm::Image;
 use std::alloc::{AllocError, Global};
-use std::error::Error;
 use std::fmt;
+use thiserror::Error;
 
 /// Why a machine file gives no setup.
-#[derive(Clone, Copy, PartialEq, Eq)]
+#[derive(Clone, Copy, PartialEq, Eq, Error)]
 pub enum LoadError {
     /// The first text word that is no instruction of the table, by processor and then by address.
+    #[error("the word {word:#010x} at {address:#x} of processor {spe} is no instruction")]
     NotInTable { spe: u8, address: u32, word: u32 },
+    #[error("out of memory")]
     Memory,
-}
-
-impl fmt::Display for LoadError {
-    fn fmt<W: fmt::Write>(&self, f: &mut fmt::Formatter<W>) -> fmt::Result {
-        let LoadError::NotInTable { spe, address, word } = *self else {
-            return f.write_str("out of memory");
-        };
-        write!(
-            f,
-            "the word {word:#010x} at {address:#x} of processor {spe} is no instruction"
-        )
-    }
 }
 
 impl fmt::Debug for LoadError {
@@ -45,8 +35,6 @@ impl fmt::Debug for LoadError {
         fmt::Display::fmt(self, f)
     }
 }
-
-impl Error for LoadError {}
 
 impl From<AllocError> for LoadError {
     ghost from_gives = { λ _ e. e ≡ Memory };

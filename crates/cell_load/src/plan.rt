@@ -17,9 +17,9 @@ use crate::line::{Line, Refusal, Stage};
 use crate::source::{SourceName, sources_in};
 use cell_base::line_text::{before_comment, first_line, next_word};
 use std::alloc::{AllocError, AllocFailed, Global};
-use std::error::Error;
 use std::fmt;
 use std::marker::Model;
+use thiserror::Error;
 
 /// What the lines of a machine file say, and the names of its sources.
 #[derive(Drop)]
@@ -52,24 +52,16 @@ impl Plan {
 }
 
 /// Why a text is no machine file. Lines count from 1.
-#[derive(Clone, Copy, PartialEq, Eq)]
+#[derive(Clone, Copy, PartialEq, Eq, Error)]
 pub enum PlanError {
     /// The first faulty line, which is outside the form.
+    #[error("line {line} is outside the form")]
     BadLine { line: u32 },
     /// The first faulty line, of which a number or a count is outside its limits.
+    #[error("line {line} is outside a limit")]
     Limit { line: u32 },
+    #[error("out of memory")]
     Memory,
-}
-
-impl fmt::Display for PlanError {
-    fn fmt<W: fmt::Write>(&self, f: &mut fmt::Formatter<W>) -> fmt::Result {
-        let (line, what) = match *self {
-            PlanError::BadLine { line } => (line, "the form of a machine file"),
-            PlanError::Limit { line } => (line, "a limit"),
-            PlanError::Memory => return f.write_str("out of memory"),
-        };
-        write!(f, "line {line} is outside {what}")
-    }
 }
 
 impl fmt::Debug for PlanError {
@@ -77,8 +69,6 @@ impl fmt::Debug for PlanError {
         fmt::Display::fmt(self, f)
     }
 }
-
-impl Error for PlanError {}
 
 impl<T: Drop> From<AllocFailed<T>> for PlanError {
     ghost from_gives = { λ _ e. e ≡ Memory };

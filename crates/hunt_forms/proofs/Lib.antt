@@ -4,3 +4,5 @@ pub mod FilesLaws
 pub mod HuntsLaws
 pub mod AnswersLaws
 pub mod KeysLaws
+pub mod PlacingLaws
+pub mod SourceLaws

@@ -13,7 +13,7 @@ use Rattle.cell_machine.specs.declared.status.End.TheVariants.{AllStopped, Stuck
 use Rattle.cell_hunt.specs.Runs.{IsRunOfSeed}
 use Rattle.cell_hunt.specs.Outcomes.{IsOutcome}
 use Rattle.cell_hunt.specs.declared.site.Sites.{Sites}
-use Rattle.run_permute.specs.Settled.{IsSettled}
+use Rattle.reorder_laws.specs.Settled.{IsSettled}
 use Rattle.hunt_tally.specs.Reports.{Reported, Sums, hunted, is_flawed}
 use Rattle.hunt_texts.specs.Texts.{hunt_text}
 use Rattle.hunt_texts.specs.Jsons.{hunt_json}

@@ -3,7 +3,10 @@ pub mod Heard
 pub mod Words
 pub mod Lines
 pub mod Expected
+pub mod Naming
 pub mod Passes
+pub mod Placings
+pub mod Sources
 pub mod Code
 pub mod Files
 pub mod Hunts

@@ -1,5 +1,5 @@
 -- What a pass file says: the races that are left out.
-use Rattle.std.specs.Prelude.{◌≡◌, ℕ, ◌==◌, Bool, false, nat_lt, List, [], ◌∷◌, codes, if◌then◌else◌, Option, Some, None, is_none, Result, Ok, Err}
+use Rattle.std.specs.Prelude.{◌≡◌, ℕ, ◌==◌, Bool, false, nat_lt, List, [], ◌∷◌, length, codes, if◌then◌else◌, Option, Some, None, is_none, Result, Ok, Err}
 use Rattle.cell_base.specs.Numbers.{◌>>=◌, word_number}
 use Rattle.cell_base.specs.Words.{lines_of, words_in}
 use Rattle.cell_base.specs.Walk.{walk}
@@ -8,8 +8,11 @@ use Rattle.cell_hunt.specs.declared.site.Sites.{Sites}
 use Rattle.cell_hunt.specs.declared.site.Site.TheVariants.{Exec, Piece, Elem, Retire, Atomic, Host}
 use Rattle.hunt_forms.specs.declared.passes.PassError.{PassError}
 use Rattle.hunt_forms.specs.declared.passes.PassError.TheVariants.{BadLine, Memory}
+use Rattle.cell_machine.specs.Opening.{Opening}
+use Rattle.hunt_reports.specs.declared.origins.Places.{Places}
 use Rattle.hunt_forms.specs.Heard.{is_word}
 use Rattle.hunt_forms.specs.Lines.{without_return}
+use Rattle.hunt_forms.specs.Naming.{is_named}
 
 -- a word, and the words behind it
 abbrev pub word_at : List (List ℕ) → Option (List ℕ × List (List ℕ))
@@ -56,6 +59,10 @@ host_site words = number_in words >>= λ action. Some (Host action.0, action.1)
 unfoldable pub site_in : ℕ → List (List ℕ) → Option (Site × List (List ℕ))
 site_in spes words = word_at words >>= λ w. if is_word w.0 (codes "h") then host_site w.1 else spe_site spes w.0 w.1
 
+-- a site of the machine, and the words behind it
+unfoldable pub named_in : Opening → Places → List (List ℕ) → Option (Site × List (List ℕ))
+named_in setup places words = site_in (length setup.entries) words >>= λ site. if is_named setup places site.0 site.1 then Some site else None
+
 -- `race COUNT FIRST |`, or the bar alone; and the words behind it
 unfoldable pub head_in : List (List ℕ) → Option (List (List ℕ))
 head_in words =
@@ -63,10 +70,10 @@ head_in words =
     if is_word w.0 (codes "race") then (number_in w.1 >>= λ count. number_in count.1 >>= λ first. mark_in (codes "|") first.1)
     else mark_in (codes "|") words
 
--- two sites, each behind a bar; behind each may stand where it is in a source
-unfoldable pub race_in : ℕ → List (List ℕ) → Option Sites
-race_in spes words =
-    head_in words >>= λ rest. site_in spes rest >>= λ first. behind_bar first.1 >>= λ more. site_in spes more >>= λ second.
+-- two sites, each behind a bar; the line of a source may follow each
+unfoldable pub race_in : Opening → Places → List (List ℕ) → Option Sites
+race_in setup places words =
+    head_in words >>= λ rest. named_in setup places rest >>= λ first. behind_bar first.1 >>= λ more. named_in setup places more >>= λ second.
     if is_none (behind_bar second.1) then Some (record { first = first.0; second = second.0 }) else None
 
 -- ---- all lines
@@ -80,20 +87,20 @@ placed_race None = Err tt
 placed_race (Some race) = Ok (Some (race, tt))
 
 -- a line without words, or with a comment alone, is skipped
-abbrev pub words_step : ℕ → List (List ℕ) → Result (Option (Sites × Unit {0})) (Unit {0})
-words_step spes [] = Ok None
-words_step spes (word ∷ words) = if has_hash word then Ok None else placed_race (race_in spes (word ∷ words))
+abbrev pub words_step : Opening → Places → List (List ℕ) → Result (Option (Sites × Unit {0})) (Unit {0})
+words_step setup places [] = Ok None
+words_step setup places (word ∷ words) = if has_hash word then Ok None else placed_race (race_in setup places (word ∷ words))
 
-unfoldable pub line_step : ℕ → Unit {0} → List ℕ → Result (Option (Sites × Unit {0})) (Unit {0})
-line_step spes s line = words_step spes (words_in (without_return line))
+unfoldable pub line_step : Opening → Places → Unit {0} → List ℕ → Result (Option (Sites × Unit {0})) (Unit {0})
+line_step setup places s line = words_step setup places (words_in (without_return line))
 
 -- a pass file may end anywhere
 abbrev pub lacks : Unit {0} → Option (Unit {0})
 lacks s = None
 
--- the races of the lines of a text, where a machine has so many processors; or the first line that names none
-abbrev pub passes_at : ℕ → List ℕ → Result (List Sites) (ℕ × Unit {0})
-passes_at spes text = walk (line_step spes) lacks 1 tt (lines_of text)
+-- the races of the lines of a text, or the first line that names no race of two places of the machine
+abbrev pub passes_at : Opening → Places → List ℕ → Result (List Sites) (ℕ × Unit {0})
+passes_at setup places text = walk (line_step setup places) lacks 1 tt (lines_of text)
 
 -- What a function returned, seen by view, is what reading gives, unless memory ran out.
 abbrev pub PassesGive : {X : Type 0} → (X → List Sites) → Result X PassError → Result (List Sites) (ℕ × Unit {0}) → Type 0

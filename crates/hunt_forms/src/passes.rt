@@ -4,11 +4,14 @@ ghost use Rattle.std.specs.Prelude.{◌≡◌, ◌≤◌, ◌++◌, length, OnOk
 ghost use Rattle.cell_base.specs.Numbers.{Reads};
 ghost use Rattle.cell_base.specs.Words.{words_in};
 ghost use Rattle.cell_base.specs.Walk.{items_of};
-ghost use Rattle.hunt_forms.specs.Passes.{number_in, spe_in, mark_in, behind_bar, site_named, spe_site, host_site, site_in, head_in, race_in, has_hash, line_step, passes_at, PassesGive};
+ghost use Rattle.hunt_forms.specs.Passes.{number_in, spe_in, mark_in, behind_bar, site_named, spe_site, host_site, site_in, named_in, head_in, race_in, has_hash, line_step, passes_at, PassesGive};
 
 use crate::lines::without_return;
+use crate::naming::is_named;
 use cell_base::line_text::{first_line, next_word, word_number};
 use cell_hunt::{Site, Sites};
+use cell_machine::Setup;
+use hunt_reports::Places;
 use std::alloc::{AllocError, AllocFailed, Global};
 
 /// Why a text is no pass file.
@@ -119,6 +122,19 @@ fn site_in(spes: u8, words: &[u8]) -> Option<(Site, &[u8])>
     }
 }
 
+/// A site of the machine, and the words behind it.
+#[tactic(auto, unfolding(crate::specs::Passes::named_in))]
+fn named_in<'a>(setup: &Setup, places: &Places, words: &'a [u8]) -> Option<(Site, &'a [u8])>
+    ensures { Reads (λ x. (x.0, words_in x.1.now)) result (named_in setup.now places.now (words_in words.now)) }
+{
+    let (site, rest) = site_in(setup.spes(), words)?;
+    if is_named(setup, places, site, rest) {
+        Some((site, rest))
+    } else {
+        None
+    }
+}
+
 /// The words behind `race COUNT FIRST |`, or behind the bar alone.
 #[tactic(auto, unfolding(crate::specs::Passes::head_in))]
 fn head_in(words: &[u8]) -> Option<&[u8]>
@@ -133,15 +149,15 @@ fn head_in(words: &[u8]) -> Option<&[u8]>
     mark_in(b"|", rest)
 }
 
-/// Two sites, each behind a bar; behind each may stand where it is in a source.
+/// Two sites, each behind a bar; the line of a source may follow each.
 #[tactic(auto, unfolding(crate::specs::Passes::race_in))]
-fn race_in(spes: u8, words: &[u8]) -> Option<Sites>
-    ensures { result ≡ race_in spes (words_in words.now) }
+fn race_in(setup: &Setup, places: &Places, words: &[u8]) -> Option<Sites>
+    ensures { result ≡ race_in setup.now places.now (words_in words.now) }
 {
     let rest = head_in(words)?;
-    let (first, rest) = site_in(spes, rest)?;
+    let (first, rest) = named_in(setup, places, rest)?;
     let rest = behind_bar(rest)?;
-    let (second, rest) = site_in(spes, rest)?;
+    let (second, rest) = named_in(setup, places, rest)?;
     match behind_bar(rest) {
         None => Some(Sites { first, second }),
         Some(_) => None,
@@ -159,8 +175,8 @@ fn has_hash(word: &[u8]) -> bool
 
 /// The race of a line; None where it is skipped.
 #[tactic(auto, unfolding(crate::specs::Passes::line_step))]
-fn line_step(spes: u8, line: &[u8]) -> Result<Option<(Sites, ())>, ()>
-    ensures { result ≡ line_step spes tt line.now }
+fn line_step(setup: &Setup, places: &Places, line: &[u8]) -> Result<Option<(Sites, ())>, ()>
+    ensures { result ≡ line_step setup.now places.now tt line.now }
 {
     let words = without_return(line);
     let Some((word, _)) = next_word(words) else {
@@ -169,7 +185,7 @@ fn line_step(spes: u8, line: &[u8]) -> Result<Option<(Sites, ())>, ()>
     if has_hash(word) {
         return Ok(None);
     }
-    match race_in(spes, words) {
+    match race_in(setup, places, words) {
         Some(race) => Ok(Some((race, ()))),
         None => Err(()),
     }
@@ -188,17 +204,22 @@ fn keep(races: &mut Vec<Sites>, done: Option<(Sites, ())>) -> Result<(), AllocEr
     }
 }
 
-/// The races of a text of at most 4,194,304 bytes, for a machine of so many processors. `BadLine` names the first line that names none.
-pub fn read_passes(alloc: Global, spes: u8, text: &[u8]) -> Result<Vec<Sites>, PassError>
+/// The races of a text of at most 4,194,304 bytes. `BadLine` names the first line that names no race of two places of the machine.
+pub fn read_passes(
+    alloc: Global,
+    setup: &Setup,
+    places: &Places,
+    text: &[u8],
+) -> Result<Vec<Sites>, PassError>
     requires { length text.now ≤ 4194304 }
-    ensures { PassesGive (λ v. v.items) result (passes_at spes text.now) }
+    ensures { PassesGive (λ v. v.items) result (passes_at setup.now places.now text.now) }
 {
     let mut races = Vec::new(alloc);
     let mut rest = text;
     let mut number: u32 = 1;
     while !rest.is_empty() {
         let (line, after) = first_line(rest);
-        let done = match line_step(spes, line) {
+        let done = match line_step(setup, places, line) {
             Ok(done) => done,
             Err(()) => return Err(PassError::BadLine { line: number }),
         };

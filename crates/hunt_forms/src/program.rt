@@ -18,7 +18,7 @@ use crate::team::{Round, Team, make_alone};
 use crate::threads::{cores_of, make_on_threads};
 use crate::words::{Form, Hunt, form_of};
 use cell_forms::{Fault as InputFault, Status as InputStatus, write_run};
-use cell_hunt::run_of_seed;
+use cell_hunt::machine_of_seed;
 use cell_io::{Sink, SinkFault, Store};
 use cell_machine::Setup;
 use hunt_tally::Hunted;
@@ -202,10 +202,10 @@ fn write_record<K: Sink>(alloc: Global, setup: &Setup, run: u32, seed: u64, out:
     ensures sink_count { K.faults out.old ≤ K.faults out.new }
     ensures ends { EndsBy (TellsRun setup.now run seed) (record { taken = K.taken out.old; faults = K.faults out.old }) (record { taken = K.taken out.new; faults = K.faults out.new }) result }
 {
-    let Ok(made) = run_of_seed(alloc, setup, seed, run) else {
+    let Ok(made) = machine_of_seed(alloc, setup, seed, run) else {
         return Status::Refused(Fault::Memory);
     };
-    match write_run(alloc, made.machine(), out) {
+    match write_run(alloc, &made, out) {
         InputStatus::Done => Status::Clean,
         InputStatus::Refused(InputFault::WriteFault) => Status::Refused(Fault::WriteFault),
         _ => Status::Refused(Fault::Memory),

@@ -9,7 +9,8 @@ ghost use Rattle.hunt_forms.specs.Files.{Comes, FailsBy, IsOfFiles, ExpectedCome
 use crate::fault::{Fault, FileId};
 use crate::input::{Quarry, read_expectation, read_machine, read_pass};
 use cell_io::Store;
-use hunt_reports::Asked;
+use cell_machine::Setup;
+use hunt_reports::{Asked, Places};
 use std::alloc::Global;
 
 /// The lines that are expected, where there is an expectation file.
@@ -36,18 +37,18 @@ fn passed_by<T: Store>(
     alloc: Global,
     files: &mut T,
     name: Option<&str>,
-    spes: u8,
-    programs: &[u8],
+    setup: &Setup,
+    places: &Places,
 ) -> Result<Vec<Vec<u8>>, Fault>
     ensures same { T.files files.new ≡ T.files files.old }
     ensures store_count { NoneFell (T.ledger files.old) (T.ledger files.new) }
     ensures kept { OnOk result (T.ledger files.new ≡ T.ledger files.old) }
     ensures input { IfErr result IsOfFiles }
     ensures cause { IfErr result (FileFailsBy FileId.Pass (texts_of name.entry) (T.ledger files.old) (T.ledger files.new)) }
-    ensures comes { ForSome (T.files files.old) (λ told. PassedComes told (texts_of name.entry) programs.now spes result) }
+    ensures comes { ForSome (T.files files.old) (λ told. PassedComes told (texts_of name.entry) setup.now places.now result) }
 {
     match name {
-        Some(name) => read_pass(alloc, files, name, spes, programs),
+        Some(name) => read_pass(alloc, files, name, setup, places),
         None => Ok(Vec::new(alloc)),
     }
 }
@@ -68,13 +69,13 @@ pub fn read_quarry<T: Store>(
     ensures comes { ForSome (T.files files.old) (λ told.
         Comes told machine.now (texts_of expect.entry) (texts_of pass.entry) (T.ledger files.old) (T.ledger files.new) result) }
 {
-    let (setup, programs) = read_machine(alloc, files, machine)?;
+    let (setup, places) = read_machine(alloc, files, machine)?;
     let expected = expected_by(alloc, files, expect)?;
-    let passed = passed_by(alloc, files, pass, setup.spes(), programs.as_slice())?;
+    let passed = passed_by(alloc, files, pass, &setup, &places)?;
     Ok(Quarry {
         setup,
         asked: Asked {
-            programs,
+            places,
             expected,
             passed,
         },

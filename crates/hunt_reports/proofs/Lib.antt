@@ -1,3 +1,4 @@
+mod OriginLaws
 pub mod Told
 pub mod Ends
 pub mod Lists

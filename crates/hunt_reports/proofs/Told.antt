@@ -6,6 +6,7 @@ use Rattle.std.proofs.lemmas.List.{map_push, take_more}
 use Rattle.std.proofs.lemmas.List.Folds.{list_any-append}
 use Rattle.cell_hunt.specs.declared.racing.Racing.{Racing}
 use Rattle.hunt_tally.specs.Tallies.{Tells, has, firsts, distinct}
+use Rattle.hunt_reports.specs.declared.origins.Places.{Places}
 use Rattle.hunt_reports.specs.Places.{sites_text, key_of}
 use Rattle.hunt_reports.specs.Races.{race_told, is_passed, races_told, leaves_out}
 use Rattle.hunt_reports.specs.Taking.{with_race}
@@ -68,38 +69,38 @@ filter_push p (y ∷ ys) x = by (p y) (filter_push p ys x)
     by false e = e
 
 -- one race more
-pub told_more : (programs : List ℕ) (passed : List (List ℕ)) (races : List Racing) (r : Racing)
-    → with_race passed (race_told programs r) (races_told programs passed races) ≡ races_told programs passed (races ++ r ∷ [])
-told_more programs passed races r =
-    let t : Tells = race_told programs r in
-    let ts : List Tells = filter (λ u. not (is_passed passed u)) (map (race_told programs) races) in
-    let all : filter (λ u. not (is_passed passed u)) (map (race_told programs) (races ++ r ∷ [])) ≡ ts ++ (if not (is_passed passed t) then t ∷ [] else [])
-    = ap (filter (λ u. not (is_passed passed u))) (map_push (race_told programs) races r) ∙ filter_push (λ u. not (is_passed passed u)) (map (race_told programs) races) t in
+pub told_more : (places : Places) (passed : List (List ℕ)) (races : List Racing) (r : Racing)
+    → with_race passed (race_told places r) (races_told places passed races) ≡ races_told places passed (races ++ r ∷ [])
+told_more places passed races r =
+    let t : Tells = race_told places r in
+    let ts : List Tells = filter (λ u. not (is_passed passed u)) (map (race_told places) races) in
+    let all : filter (λ u. not (is_passed passed u)) (map (race_told places) (races ++ r ∷ [])) ≡ ts ++ (if not (is_passed passed t) then t ∷ [] else [])
+    = ap (filter (λ u. not (is_passed passed u))) (map_push (race_told places) races r) ∙ filter_push (λ u. not (is_passed passed u)) (map (race_told places) races) t in
     by (is_passed passed t) t ts ∙ ap distinct (sym all)
   where
     by : (b : Bool) (t : Tells) (ts : List Tells) → (if b then distinct ts else if has t.key (distinct ts) then distinct ts else distinct ts ++ t ∷ []) ≡ distinct (ts ++ (if not b then t ∷ [] else []))
     by true t ts = ap distinct (sym (append-nil ts))
     by false t ts = sym (distinct_push ts t)
 
-pub leaves_more : (programs : List ℕ) (passed : List (List ℕ)) (races : List Racing) (r : Racing)
-    → (leaves_out programs passed races || is_passed passed (race_told programs r)) ≡ leaves_out programs passed (races ++ r ∷ [])
-leaves_more programs passed races r =
-    sym (list_any-append (λ (x : Racing). is_passed passed (race_told programs x)) races (r ∷ []) ∙ ap (λ b. leaves_out programs passed races || b) (or_false (is_passed passed (race_told programs r))))
+pub leaves_more : (places : Places) (passed : List (List ℕ)) (races : List Racing) (r : Racing)
+    → (leaves_out places passed races || is_passed passed (race_told places r)) ≡ leaves_out places passed (races ++ r ∷ [])
+leaves_more places passed races r =
+    sym (list_any-append (λ (x : Racing). is_passed passed (race_told places x)) races (r ∷ []) ∙ ap (λ b. leaves_out places passed races || b) (or_false (is_passed passed (race_told places r))))
 
-pub none_told : (programs : List ℕ) (passed : List (List ℕ)) → [] ≡ races_told programs passed []
+pub none_told : (places : Places) (passed : List (List ℕ)) → [] ≡ races_told places passed []
 unfolding firsts
-none_told programs passed = refl
+none_told places passed = refl
 
-module _ (programs : List ℕ) (passed : List (List ℕ)) (races : List Racing) (i : ℕ) (d : Racing) (key : List ℕ) where
+module _ (places : Places) (passed : List (List ℕ)) (races : List Racing) (i : ℕ) (d : Racing) (key : List ℕ) where
   -- of the races up to a place
-  pub told_step : (old new : List Tells) → i < length races → key ≡ key_of programs (get_or races i d).sites → old ≡ races_told programs passed (take i races)
-      → new ≡ with_race passed (record { key = key; shown = sites_text (get_or races i d).sites }) old → new ≡ races_told programs passed (take (i + 1) races)
+  pub told_step : (old new : List Tells) → i < length races → key ≡ key_of places (get_or races i d).sites → old ≡ races_told places passed (take i races)
+      → new ≡ with_race passed (record { key = key; shown = sites_text (get_or races i d).sites }) old → new ≡ races_told places passed (take (i + 1) races)
   told_step old new inside is so_far made =
-      made ∙ ap (λ k. with_race passed (record { key = k; shown = sites_text (get_or races i d).sites }) old) is ∙ ap (with_race passed (race_told programs (get_or races i d))) so_far
-      ∙ told_more programs passed (take i races) (get_or races i d) ∙ ap (races_told programs passed) (sym (take_more races i d inside))
+      made ∙ ap (λ k. with_race passed (record { key = k; shown = sites_text (get_or races i d).sites }) old) is ∙ ap (with_race passed (race_told places (get_or races i d))) so_far
+      ∙ told_more places passed (take i races) (get_or races i d) ∙ ap (races_told places passed) (sym (take_more races i d inside))
 
-  pub left_step : (old new : Bool) → i < length races → key ≡ key_of programs (get_or races i d).sites → old ≡ leaves_out programs passed (take i races)
-      → new ≡ (old || is_passed passed (record { key = key; shown = sites_text (get_or races i d).sites })) → new ≡ leaves_out programs passed (take (i + 1) races)
+  pub left_step : (old new : Bool) → i < length races → key ≡ key_of places (get_or races i d).sites → old ≡ leaves_out places passed (take i races)
+      → new ≡ (old || is_passed passed (record { key = key; shown = sites_text (get_or races i d).sites })) → new ≡ leaves_out places passed (take (i + 1) races)
   left_step old new inside is so_far made =
-      made ∙ ap (λ k. old || is_passed passed (record { key = k; shown = sites_text (get_or races i d).sites })) is ∙ ap (λ b. b || is_passed passed (race_told programs (get_or races i d))) so_far
-      ∙ leaves_more programs passed (take i races) (get_or races i d) ∙ ap (leaves_out programs passed) (sym (take_more races i d inside))
+      made ∙ ap (λ k. old || is_passed passed (record { key = k; shown = sites_text (get_or races i d).sites })) is ∙ ap (λ b. b || is_passed passed (race_told places (get_or races i d))) so_far
+      ∙ leaves_more places passed (take i races) (get_or races i d) ∙ ap (leaves_out places passed) (sym (take_more races i d inside))

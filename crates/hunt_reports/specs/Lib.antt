@@ -1,6 +1,7 @@
 pub mod Lists
 pub mod Endings
 pub mod Missing
+pub mod Origins
 pub mod Places
 pub mod Races
 pub mod Reports

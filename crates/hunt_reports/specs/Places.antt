@@ -1,10 +1,14 @@
--- Where the steps of a race come from, as text, and by programs in place of processors.
-use Rattle.std.specs.Prelude.{ℕ, ◌+◌, ◌*◌, List, ◌++◌, codes, nat_lt, slice_index_or, if◌then◌else◌}
+-- Where the steps of a race come from, as text, and which races are the same.
+use Rattle.std.specs.Prelude.{ℕ, List, ◌++◌, codes, Option, None, Some, if◌then◌else◌}
 use Rattle.std.specs.Fmt.{decimal}
+use Rattle.std.specs.Ordering.{is_lt, nat_cmp}
+use Rattle.std.specs.Cmp.Lexicographic.{slice_cmp}
 use Rattle.cell_base.specs.Hex.{hex}
 use Rattle.cell_hunt.specs.declared.site.Site.{Site}
 use Rattle.cell_hunt.specs.declared.site.Site.TheVariants.{Exec, Piece, Elem, Retire, Atomic, Host}
 use Rattle.cell_hunt.specs.declared.site.Sites.{Sites}
+use Rattle.hunt_reports.specs.declared.origins.Places.{Places}
+use Rattle.hunt_reports.specs.Origins.{NamedLine, source_line}
 
 -- the letter of the step's line, the processor, and the address of the instruction
 abbrev pub spe_site_text : List ℕ → ℕ → ℕ → List ℕ
@@ -21,41 +25,30 @@ site_text (Host action) = codes " | h " ++ decimal action
 abbrev pub sites_text : Sites → List ℕ
 sites_text sites = site_text sites.first ++ site_text sites.second
 
--- ---- by programs
+-- ---- by lines
 
--- the number of the program of processor p
-abbrev pub program_of : List ℕ → ℕ → ℕ
-program_of programs p = slice_index_or programs p 0
+-- the line of a source that placed an instruction; where no source did, its processor and its address
+abbrev pub place_text : Option NamedLine → ℕ → ℕ → List ℕ
+place_text (Some line) p at = codes " | " ++ line.name ++ codes ":" ++ decimal line.number
+place_text None p at = codes " | " ++ decimal p ++ codes " at 0x" ++ hex 5 at
 
--- the program in place of the processor
-abbrev pub placed : List ℕ → Site → Site
-placed programs (Exec p at) = Exec (program_of programs p) at
-placed programs (Piece p at) = Piece (program_of programs p) at
-placed programs (Elem p at) = Elem (program_of programs p) at
-placed programs (Retire p at) = Retire (program_of programs p) at
-placed programs (Atomic p at) = Atomic (program_of programs p) at
-placed programs (Host action) = Host action
+-- the line of the instruction at an address of processor p
+abbrev pub instruction_text : Places → ℕ → ℕ → List ℕ
+instruction_text places p at = place_text (source_line places p at) p at
 
--- its place in an order: by the kind, then by the program, then by the address or the number
-abbrev pub rank_of : ℕ → ℕ → ℕ → ℕ
-rank_of kind p at = (kind * 256 + p) * 4294967296 + at
+-- the line that a step comes from: that of its instruction, whatever the step does, or the host's action
+abbrev pub origin_text : Places → Site → List ℕ
+origin_text places (Exec p at) = instruction_text places p at
+origin_text places (Piece p at) = instruction_text places p at
+origin_text places (Elem p at) = instruction_text places p at
+origin_text places (Retire p at) = instruction_text places p at
+origin_text places (Atomic p at) = instruction_text places p at
+origin_text places (Host action) = site_text (Host action)
 
-abbrev pub rank : Site → ℕ
-rank (Exec p at) = rank_of 0 p at
-rank (Piece p at) = rank_of 1 p at
-rank (Elem p at) = rank_of 2 p at
-rank (Retire p at) = rank_of 3 p at
-rank (Atomic p at) = rank_of 4 p at
-rank (Host action) = rank_of 5 0 action
+-- two texts, the lesser first
+abbrev pub in_order : List ℕ → List ℕ → List ℕ
+in_order first second = if is_lt (slice_cmp nat_cmp second first) then second ++ first else first ++ second
 
--- the lesser site first
-abbrev pub ordered : Sites → Sites
-ordered sites = if nat_lt (rank sites.second) (rank sites.first) then record { first = sites.second; second = sites.first } else sites
-
--- the key of a race between two sites whose processors are the numbers of programs
-abbrev pub race_key : Sites → List ℕ
-race_key sites = sites_text (ordered sites)
-
--- the key of a race between two sites of a run
-abbrev pub key_of : List ℕ → Sites → List ℕ
-key_of programs sites = race_key (record { first = placed programs sites.first; second = placed programs sites.second })
+-- the key of a race: the lines that its two steps come from, in either order; two races are the same exactly if their keys are
+abbrev pub key_of : Places → Sites → List ℕ
+key_of places sites = in_order (origin_text places sites.first) (origin_text places sites.second)

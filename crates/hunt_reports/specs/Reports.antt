@@ -43,8 +43,8 @@ report_by spes end left races leaves missed kind = record {
 -- the report of a run that ends so in state M, shows these ranges, has these races, and is of this kind
 abbrev pub report_in : State → List Show → End → List Racing → ℕ → Asked → Reported
 report_in M shows end races kind asked =
-    report_by (map ended_in M.spes) end (result_of M shows) (races_told asked.programs.items (bytes_in asked.passed.items) races)
-    (leaves_out asked.programs.items (bytes_in asked.passed.items) races) (missed_in (states_of M shows (Some end)) (bytes_in asked.expected.items)) kind
+    report_by (map ended_in M.spes) end (result_of M shows) (races_told asked.places (bytes_in asked.passed.items) races)
+    (leaves_out asked.places (bytes_in asked.passed.items) races) (missed_in (states_of M shows (Some end)) (bytes_in asked.expected.items)) kind
 
 -- this is the report of the run
 pub record IsReport (run : Ran) (asked : Asked) (r : Reported) : Type 0 where

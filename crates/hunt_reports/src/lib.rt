@@ -4,10 +4,12 @@
 mod asked;
 mod ended;
 mod missing;
+mod origins;
 mod places;
 mod races;
 mod reporting;
 
 pub use asked::Asked;
+pub use origins::{Placed, Places, Placing, Source, SourceLine};
 pub use places::{put_key, put_sites};
 pub use reporting::report_of;

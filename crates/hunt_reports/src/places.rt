@@ -1,11 +1,13 @@
 //! Where the steps of a race come from, as text.
 
-ghost use Rattle.std.specs.Prelude.{◌≡◌, ◌≤◌, [], ◌∷◌, ◌++◌, OnOk};
-ghost use Rattle.hunt_reports.specs.Places.{spe_site_text, site_text, sites_text, program_of, placed, rank_of, rank, ordered, key_of};
+ghost use Rattle.std.specs.Prelude.{◌≡◌, [], ◌∷◌, ◌++◌, IfOk, OnOk};
+ghost use Rattle.hunt_reports.specs.Origins.{named_line};
+ghost use Rattle.hunt_reports.specs.Places.{spe_site_text, site_text, sites_text, place_text, instruction_text, origin_text, in_order, key_of};
 
+use crate::origins::{Places, SourceLine};
 use cell_base::line_text::{put_decimal, put_hex};
 use cell_hunt::{Site, Sites};
-use std::alloc::AllocError;
+use std::alloc::{AllocError, Global};
 
 /// Writes the letter of a step's line, its processor, and the address of its instruction.
 fn put_spe_site(out: &mut Vec<u8>, letter: u8, spe: u8, at: u32) -> Result<(), AllocError>
@@ -43,87 +45,83 @@ pub fn put_sites(out: &mut Vec<u8>, sites: Sites) -> Result<(), AllocError>
     put_site(out, sites.second)
 }
 
-/// The number of the program of a processor.
-fn program_of(programs: &[u8], spe: u8) -> u8
-    ensures { result ≡ program_of programs.now spe }
+/// Writes the line that placed an instruction: by the name of the source, or where no source did by the processor and the address.
+fn put_place(
+    out: &mut Vec<u8>,
+    line: Option<SourceLine<'_>>,
+    spe: u8,
+    at: u32,
+) -> Result<(), AllocError>
+    ensures { OnOk result (out.new.items ≡ out.old.items ++ place_text (named_line line.entry) spe at) }
 {
-    match programs.get(spe as usize) {
-        Some(program) => *program,
-        None => 0,
-    }
-}
-
-/// A site with the number of the program in place of the processor.
-fn placed(programs: &[u8], site: Site) -> Site
-    ensures { result ≡ placed programs.now site }
-{
-    match site {
-        Site::Exec { spe, at } => Site::Exec {
-            spe: program_of(programs, spe),
-            at,
-        },
-        Site::Piece { spe, at } => Site::Piece {
-            spe: program_of(programs, spe),
-            at,
-        },
-        Site::Elem { spe, at } => Site::Elem {
-            spe: program_of(programs, spe),
-            at,
-        },
-        Site::Retire { spe, at } => Site::Retire {
-            spe: program_of(programs, spe),
-            at,
-        },
-        Site::Atomic { spe, at } => Site::Atomic {
-            spe: program_of(programs, spe),
-            at,
-        },
-        Site::Host { action } => Site::Host { action },
-    }
-}
-
-fn rank_of(kind: u8, spe: u8, at: u32) -> u64
-    requires { kind ≤ 5 }
-    ensures { result ≡ rank_of kind spe at }
-{
-    (u64::from(kind) * 256 + u64::from(spe)) * 4_294_967_296 + u64::from(at)
-}
-
-/// The place of a site in an order of all.
-fn rank(site: Site) -> u64
-    ensures { result ≡ rank site }
-{
-    match site {
-        Site::Exec { spe, at } => rank_of(0, spe, at),
-        Site::Piece { spe, at } => rank_of(1, spe, at),
-        Site::Elem { spe, at } => rank_of(2, spe, at),
-        Site::Retire { spe, at } => rank_of(3, spe, at),
-        Site::Atomic { spe, at } => rank_of(4, spe, at),
-        Site::Host { action } => rank_of(5, 0, action),
-    }
-}
-
-/// The same two, the lesser first.
-fn ordered(sites: Sites) -> Sites
-    ensures { result ≡ ordered sites }
-{
-    if rank(sites.second) < rank(sites.first) {
-        Sites {
-            first: sites.second,
-            second: sites.first,
+    out.extend_from_slice(b" | ")?;
+    match line {
+        Some(line) => {
+            out.extend_from_slice(line.name)?;
+            out.push(b':')?;
+            put_decimal(out, line.number)
         }
-    } else {
-        sites
+        None => {
+            put_decimal(out, u32::from(spe))?;
+            out.extend_from_slice(b" at 0x")?;
+            put_hex(out, 5, at)
+        }
     }
 }
 
-/// Writes the key of a race between two sites of a run: both as text, with the numbers of programs in place of the processors, the lesser first.
-pub fn put_key(out: &mut Vec<u8>, programs: &[u8], sites: Sites) -> Result<(), AllocError>
-    ensures { OnOk result (out.new.items ≡ out.old.items ++ key_of programs.now sites) }
+/// Writes the line that placed the instruction at an address of a processor's store.
+fn put_instruction(out: &mut Vec<u8>, places: &Places, spe: u8, at: u32) -> Result<(), AllocError>
+    ensures { OnOk result (out.new.items ≡ out.old.items ++ instruction_text places.now spe at) }
 {
-    let places = Sites {
-        first: placed(programs, sites.first),
-        second: placed(programs, sites.second),
-    };
-    put_sites(out, ordered(places))
+    put_place(out, places.source_line(spe, at), spe, at)
+}
+
+/// Writes the line that a step comes from.
+fn put_origin(out: &mut Vec<u8>, places: &Places, site: Site) -> Result<(), AllocError>
+    ensures { OnOk result (out.new.items ≡ out.old.items ++ origin_text places.now site) }
+{
+    match site {
+        Site::Exec { spe, at } => put_instruction(out, places, spe, at),
+        Site::Piece { spe, at } => put_instruction(out, places, spe, at),
+        Site::Elem { spe, at } => put_instruction(out, places, spe, at),
+        Site::Retire { spe, at } => put_instruction(out, places, spe, at),
+        Site::Atomic { spe, at } => put_instruction(out, places, spe, at),
+        Site::Host { .. } => put_site(out, site),
+    }
+}
+
+/// The line that a step comes from, as text.
+fn origin_of(alloc: Global, places: &Places, site: Site) -> Result<Vec<u8>, AllocError>
+    ensures { IfOk result (λ v. v.items ≡ origin_text places.now site) }
+{
+    let mut text = Vec::new(alloc);
+    put_origin(&mut text, places, site)?;
+    Ok(text)
+}
+
+/// Writes two texts, the lesser first.
+fn put_ordered(out: &mut Vec<u8>, first: &[u8], second: &[u8]) -> Result<(), AllocError>
+    ensures { OnOk result (out.new.items ≡ out.old.items ++ in_order first.now second.now) }
+{
+    if second.cmp(&first).is_lt() {
+        out.extend_from_slice(second)?;
+        out.extend_from_slice(first)
+    } else {
+        out.extend_from_slice(first)?;
+        out.extend_from_slice(second)
+    }
+}
+
+/// Writes the key of a race: the two lines that its steps come from, the lesser first. Two races are the same exactly if their keys are.
+pub fn put_key(
+    alloc: Global,
+    out: &mut Vec<u8>,
+    places: &Places,
+    sites: Sites,
+) -> Result<(), AllocError>
+    ensures { OnOk result (out.new.items ≡ out.old.items ++ key_of places.now sites) }
+{
+    let first = origin_of(alloc, places, sites.first)?;
+    let second = origin_of(alloc, places, sites.second)?;
+    put_ordered(out, first.as_slice(), second.as_slice())
 }

@@ -9,6 +9,7 @@ ghost use Rattle.hunt_reports.specs.Places.{sites_text};
 ghost use Rattle.hunt_reports.specs.Races.{is_passed, races_told, leaves_out};
 ghost use Rattle.hunt_reports.specs.Taking.{with_race};
 
+use crate::origins::Places;
 use crate::places::{put_key, put_sites};
 use cell_hunt::{Racing, Sites};
 use hunt_tally::Telling;
@@ -79,11 +80,11 @@ fn take_race(
 pub fn races_of(
     alloc: Global,
     races: &[Racing],
-    programs: &[u8],
+    places: &Places,
     passed: &[Vec<u8>],
 ) -> Result<Races, AllocError>
-    ensures told { IfOk result (λ r. r.told.items ≡ races_told programs.now (bytes_in passed.now) races.now) }
-    ensures left { IfOk result (λ r. r.leaves_out ≡ leaves_out programs.now (bytes_in passed.now) races.now) }
+    ensures told { IfOk result (λ r. r.told.items ≡ races_told places.now (bytes_in passed.now) races.now) }
+    ensures left { IfOk result (λ r. r.leaves_out ≡ leaves_out places.now (bytes_in passed.now) races.now) }
 {
     let mut made = Races {
         told: Vec::new(alloc),
@@ -92,7 +93,7 @@ pub fn races_of(
     let mut key = Vec::new(alloc);
     for racing in races {
         key.clear();
-        put_key(&mut key, programs, racing.sites)?;
+        put_key(alloc, &mut key, places, racing.sites)?;
         take_race(alloc, &mut made, passed, key.as_slice(), racing.sites)?;
     }
     Ok(made)

@@ -90,12 +90,7 @@ pub fn report_of(alloc: Global, run: &SeedRun, asked: &Asked) -> Result<Report, 
     let ending = ending_text(alloc, end, spes.as_slice())?;
     let left = left_of(alloc, machine)?;
     let missed = missed_of(alloc, machine, asked.expected.as_slice())?;
-    let races = races_of(
-        alloc,
-        run.races(),
-        asked.programs.as_slice(),
-        asked.passed.as_slice(),
-    )?;
+    let races = races_of(alloc, run.races(), &asked.places, asked.passed.as_slice())?;
     Ok(report_by(
         spes.as_slice(),
         end,

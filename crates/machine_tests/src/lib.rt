@@ -1,10 +1,14 @@
-//! Tests of machines by calls of the libraries: of the generator's program, of a machine that threads share, and of what `cell` does.
+//! Tests of machines by calls of the libraries: of the generator's program, of runs that are replayed and reordered, of a machine that threads share, and of what `cell` does.
 #![tactic(auto)]
 
+#[cfg(test)]
+mod failures;
 #[cfg(test)]
 mod forms;
 #[cfg(test)]
 mod generated;
+#[cfg(test)]
+mod runs;
 #[cfg(test)]
 mod threads;
 #[cfg(test)]

@@ -1,13 +1,12 @@
 -- Lists of crowds of which one changes, comes or goes.
 use Rattle.std.proofs.Common.{◌≡◌, ℕ, zero, suc, ◌+◌, ◌≤◌, ◌<◌, List, [], ◌∷◌, ◌++◌, length, get_or, set, take, drop, ◌⊎◌, inl, inr, refl, sym, ap, ◌∙◌, subst, arith, length-set, get_or-set_other}
-use Rattle.std.specs.Prelude.{◌↔◌, Contains, Option, Some, None, slice_index}
-use Rattle.std.specs.List.{remove, swap_remove}
+use Rattle.std.specs.Prelude.{◌↔◌, Contains, Option, Some, None}
+use Rattle.std.specs.List.{swap_remove}
 use Rattle.std.proofs.lemmas.Bool.{cases_eq, cases_lt}
 use Rattle.std.proofs.lemmas.Grind.{get_or-set_at}
 use Rattle.std.proofs.lemmas.List.{get_or_default, take_all, take_more}
-use Rattle.std.proofs.lemmas.List.Elements.{Contains-append_cases, Contains-append_left, Contains-append_right, Contains-get_or, Contains-push, Contains-push_cases}
-use Rattle.std.specs.List.Sorted.{IsPermutation}
-use Rattle.std.proofs.lemmas.List.Sorted.{Contains-permutation, IsPermutation-remove, IsPermutation-swap_remove, IsPermutation-sym}
+use Rattle.std.proofs.lemmas.List.Elements.{Contains-append_left, Contains-get_or, Contains-push, Contains-push_cases}
+use Rattle.std.proofs.lemmas.List.Sorted.{Contains-permutation, IsPermutation-swap_remove, IsPermutation-sym}
 use Rattle.cell_machine.specs.declared.effect.Place.{Place}
 use Rattle.cell_machine.proofs.AllTwo.{whole}
 use Rattle.race_check.specs.declared.entry.Entry.{Entry}
@@ -36,85 +35,63 @@ module _ {X : Type 0} (xs : List X) (i : ℕ) (old new : X) (low : i < length xs
       by (inl e) = inl (sym has.2 ∙ get_or-set_at xs i has.0 new y e low)
       by (inr ne) = inr (has.0, omega (arith, has.1, length-set xs i new), sym (get_or-set_other xs i has.0 new y ne) ∙ has.2)
 
--- without a step that is safe
-pub thinned : (Before : ℕ → ℕ → Type 0) (last : ℕ) (steps : List ℕ) (k : ℕ) → k < length steps → IsSafe Before (slice_index steps k) last → IsThinned Before last steps (remove steps k)
-thinned Before last steps k low safe = record { left = λ s has. left s (Contains-permutation steps (old ∷ remove steps k) s one has); rest = λ s has. Contains-permutation (old ∷ remove steps k) steps s (IsPermutation-sym steps (old ∷ remove steps k) one) (Contains-append_right (old ∷ []) (remove steps k) s has) }
-  where
-    old : ℕ
-    old = slice_index steps k
-
-    one : IsPermutation steps (old ∷ remove steps k)
-    one = IsPermutation-remove steps k old low (sym (get_or_default steps k old 0 low))
-
-    left : (s : ℕ) → Contains (old ∷ remove steps k) s → Contains (remove steps k) s ⊎ IsSafe Before s last
-    left s has = by (Contains-append_cases (old ∷ []) (remove steps k) s has)
-      where
-        by : Contains (old ∷ []) s ⊎ Contains (remove steps k) s → Contains (remove steps k) s ⊎ IsSafe Before s last
-        by (inl here) = inr (subst (λ t. IsSafe Before t last) (is (Contains-push_cases [] old s here)) safe)
-          where
-            is : Contains [] s ⊎ (old ≡ s) → old ≡ s
-            is (inl never) = let low = never.1 in absurd (omega arith)
-            is (inr e) = e
-        by (inr more) = inl more
-
-pub thinned_none : (Before : ℕ → ℕ → Type 0) (last : ℕ) (steps : List ℕ) → IsThinned Before last steps steps
-thinned_none Before last steps = record { left = λ s has. inl has; rest = λ s has. has }
-
 -- more steps were added to a crowd
-pub added_steps : (old new : Crowd) (step : ℕ) (others : List ℕ) → new.entry ≡ old.entry → new.others.items ≡ old.others.items ++ step ∷ [] ++ others → (s : ℕ) → HasStep new s ↔ (HasStep old s ⊎ ((s ≡ step) ⊎ Contains others s))
-added_steps old new step others entry items s = (to, from)
+pub added_steps : (old new : Crowd) (middle : List ℕ) (step : ℕ) (others : List ℕ) → new.entry ≡ old.entry → ((s : ℕ) → Contains middle s ↔ (Contains old.others.list.items s ⊎ (s ≡ step))) → ((s : ℕ) → Contains new.others.list.items s ↔ (Contains middle s ⊎ Contains others s))
+    → (s : ℕ) → HasStep new s ↔ (HasStep old s ⊎ ((s ≡ step) ⊎ Contains others s))
+added_steps old new middle step others same first more s = (to, from)
   where
-    parts : Contains (old.others.items ++ step ∷ []) s ⊎ Contains others s → HasStep old s ⊎ ((s ≡ step) ⊎ Contains others s)
+    at_first : Contains old.others.list.items s ⊎ (s ≡ step) → HasStep old s ⊎ ((s ≡ step) ⊎ Contains others s)
+    at_first (inl was) = inl (inr was)
+    at_first (inr e) = inr (inl e)
+
+    parts : Contains middle s ⊎ Contains others s → HasStep old s ⊎ ((s ≡ step) ⊎ Contains others s)
+    parts (inl c) = at_first ((first s).0 c)
     parts (inr c) = inr (inr c)
-    parts (inl c) = by (Contains-push_cases old.others.items step s c)
-      where
-        by : Contains old.others.items s ⊎ (step ≡ s) → HasStep old s ⊎ ((s ≡ step) ⊎ Contains others s)
-        by (inl was) = inl (inr was)
-        by (inr e) = inr (inl (sym e))
 
     to : HasStep new s → HasStep old s ⊎ ((s ≡ step) ⊎ Contains others s)
-    to (inl e) = inl (inl (e ∙ ap (λ (f : Entry). f.step) entry))
-    to (inr c) = parts (Contains-append_cases (old.others.items ++ step ∷ []) others s (subst (λ xs. Contains xs s) items c))
-
-    back : Contains (old.others.items ++ step ∷ [] ++ others) s → HasStep new s
-    back c = inr (subst (λ xs. Contains xs s) (sym items) c)
+    to (inl e) = inl (inl (e ∙ ap (λ (f : Entry). f.step) same))
+    to (inr c) = parts ((more s).0 c)
 
     from : HasStep old s ⊎ ((s ≡ step) ⊎ Contains others s) → HasStep new s
-    from (inl (inl e)) = inl (e ∙ ap (λ (f : Entry). f.step) (sym entry))
-    from (inl (inr c)) = back (Contains-append_left (old.others.items ++ step ∷ []) others s (Contains-append_left old.others.items (step ∷ []) s c))
-    from (inr (inl e)) = back (Contains-append_left (old.others.items ++ step ∷ []) others s (subst (Contains (old.others.items ++ step ∷ [])) (sym e) (Contains-push old.others.items step)))
-    from (inr (inr c)) = back (Contains-append_right (old.others.items ++ step ∷ []) others s c)
+    from (inl (inl e)) = inl (e ∙ ap (λ (f : Entry). f.step) (sym same))
+    from (inl (inr c)) = inr ((more s).1 (inl ((first s).1 (inl c))))
+    from (inr (inl e)) = inr ((more s).1 (inl ((first s).1 (inr e))))
+    from (inr (inr c)) = inr ((more s).1 (inr c))
 
--- the last step took the place of the entry's, or came behind what was left of the others
-pub taken_first : (Before : ℕ → ℕ → Type 0) (last : ℕ) (old new : Crowd) → new.entry.step ≡ last → new.others ≡ old.others → IsSafe Before old.entry.step last → IsTaken Before last old new
-taken_first Before last old new is same safe = record { left = λ s has. left s has; own = inl (sym is); rest = λ s has. rest s has }
+-- the last step took the place of the entry's, or came to what was left of the others
+pub taken_first : (Before : ℕ → ℕ → Type 0) (last : ℕ) (old new : Crowd) → new.entry.step ≡ last → IsThinned Before last old.others.list.items new.others.list.items → IsSafe Before old.entry.step last → IsTaken Before last old new
+taken_first Before last old new is thin safe = record { left = λ s has. left s has; own = inl (sym is); rest = λ s has. rest s has }
   where
+    kept : (s : ℕ) → Contains new.others.list.items s ⊎ IsSafe Before s last → HasStep new s ⊎ IsSafe Before s last
+    kept s (inl c) = inl (inr c)
+    kept s (inr ordered) = inr ordered
+
     left : (s : ℕ) → HasStep old s → HasStep new s ⊎ IsSafe Before s last
     left s (inl e) = inr (subst (λ t. IsSafe Before t last) (sym e) safe)
-    left s (inr c) = inl (inr (rw same c))
+    left s (inr c) = kept s (thin.left s c)
 
     rest : (s : ℕ) → HasStep new s → HasStep old s ⊎ (s ≡ last)
     rest s (inl e) = inr (e ∙ is)
-    rest s (inr c) = inl (inr (subst (λ v. Contains v.items s) same c))
+    rest s (inr c) = inl (inr (thin.rest s c))
 
-pub taken_behind : (Before : ℕ → ℕ → Type 0) (last : ℕ) (old new : Crowd) (others : List ℕ) → new.entry ≡ old.entry → IsThinned Before last old.others.items others → new.others.items ≡ others ++ last ∷ [] → IsTaken Before last old new
-taken_behind Before last old new others same thin items = record { left = λ s has. left s has; own = inr (subst (λ xs. Contains xs last) (sym items) (Contains-push others last)); rest = λ s has. rest s has }
+pub taken_behind : (Before : ℕ → ℕ → Type 0) (last : ℕ) (old new : Crowd) (others : List ℕ) → new.entry ≡ old.entry → IsThinned Before last old.others.list.items others → ((s : ℕ) → Contains new.others.list.items s ↔ (Contains others s ⊎ (s ≡ last))) → IsTaken Before last old new
+taken_behind Before last old new others same thin added = record { left = λ s has. left s has; own = inr ((added last).1 (inr refl)); rest = λ s has. rest s has }
   where
+    kept : (s : ℕ) → Contains others s ⊎ IsSafe Before s last → HasStep new s ⊎ IsSafe Before s last
+    kept s (inl c) = inl (inr ((added s).1 (inl c)))
+    kept s (inr safe) = inr safe
+
     left : (s : ℕ) → HasStep old s → HasStep new s ⊎ IsSafe Before s last
     left s (inl e) = inl (inl (e ∙ ap (λ (f : Entry). f.step) (sym same)))
-    left s (inr c) = by (thin.left s c)
-      where
-        by : Contains others s ⊎ IsSafe Before s last → HasStep new s ⊎ IsSafe Before s last
-        by (inl kept) = inl (inr (subst (λ xs. Contains xs s) (sym items) (Contains-append_left others (last ∷ []) s kept)))
-        by (inr safe) = inr safe
+    left s (inr c) = kept s (thin.left s c)
+
+    was : (s : ℕ) → Contains others s ⊎ (s ≡ last) → HasStep old s ⊎ (s ≡ last)
+    was s (inl c) = inl (inr (thin.rest s c))
+    was s (inr e) = inr e
 
     rest : (s : ℕ) → HasStep new s → HasStep old s ⊎ (s ≡ last)
     rest s (inl e) = inl (inl (e ∙ ap (λ (f : Entry). f.step) same))
-    rest s (inr c) = by (Contains-push_cases others last s (subst (λ xs. Contains xs s) items c))
-      where
-        by : Contains others s ⊎ (last ≡ s) → HasStep old s ⊎ (s ≡ last)
-        by (inl was) = inl (inr (thin.rest s was))
-        by (inr e) = inr (sym e)
+    rest s (inr c) = was s ((added s).0 c)
 
 pub same_holds : (e f : Entry) (p : Place) (x : ℕ) → HasSameBytes e f → Holds e p x → Holds f p x
 same_holds e f p x same h =
@@ -197,7 +174,7 @@ module _ (crowds : List Crowd) (i : ℕ) (old new : Crowd) (low : i < length cro
 
 -- ---- a crowd behind the others
 
-pub put_behind : (crowds : List Crowd) (new : Crowd) (entry : Entry) (others : List ℕ) → new.entry ≡ entry → new.others.items ≡ others → IsPut entry others crowds (crowds ++ new ∷ [])
+pub put_behind : (crowds : List Crowd) (new : Crowd) (entry : Entry) (others : List ℕ) → new.entry ≡ entry → new.others.list.items ≡ others → IsPut entry others crowds (crowds ++ new ∷ [])
 put_behind crowds new entry others is same = record {
   left = λ s p x has. record { crowd = has.crowd; inside = Contains-append_left crowds (new ∷ []) has.crowd has.inside; step = has.step; there = has.there };
   own = λ s p x step h. record { crowd = new; inside = Contains-push crowds new; step = own s step; there = subst (λ e. Holds e p x) (sym is) h };
@@ -282,7 +259,7 @@ module _ (new : Entry) (crowds : List Crowd) (i : ℕ) (crowd : Crowd) (low : i 
   into : (c : Crowd) → Contains left_over c → Contains crowds c
   into c has = Contains-permutation (crowd ∷ left_over) crowds c (IsPermutation-sym crowds (crowd ∷ left_over) (IsPermutation-swap_remove crowds i crowd low at)) (suc has.0, omega (arith, has.1), has.2)
 
-  pub trimmed_at : (fore behind : Option Entry) (others : List ℕ) (second third : List Crowd) → others ≡ crowd.others.items
+  pub trimmed_at : (fore behind : Option Entry) (others : List ℕ) (second third : List Crowd) → others ≡ crowd.others.list.items
       → IsCut (λ x. x < new.from) crowd.entry fore → IsCutPut fore others left_over second → IsCut (λ x. new.to ≤ x) crowd.entry behind → IsCutPut behind others second third → IsTrimmed new crowds third
   trimmed_at fore behind others second third same front_is front_put back_is back_put = record { left = λ s p x has. left s p x has (out has.crowd has.inside); rest = λ s p x has. rest s p x has }
     where

@@ -1,8 +1,6 @@
 -- The latest of steps that may be unsafe.
-use Rattle.std.proofs.Common.{◌≡◌, ℕ, suc, ◌+◌, ◌-◌, ◌≤◌, ◌<◌, false, Option, Some, None, List, [], ◌∷◌, length, get_or, drop, ◌⊎◌, inl, inr, refl, sym, ap, ◌∙◌, subst, arith}
-use Rattle.std.specs.Prelude.{Contains, IfSome, is_some}
-use Rattle.std.proofs.Math.Seq.{drop-cons}
-use Rattle.std.proofs.lemmas.List.Elements.{Contains-append_cases, Contains-append_left, Contains-append_right, Contains-push, Contains-push_cases}
+use Rattle.std.proofs.Common.{◌≡◌, ℕ, ◌≤◌, false, Option, Some, None, ◌⊎◌, inl, inr, refl, sym, subst, arith}
+use Rattle.std.specs.Prelude.{IfSome, is_some}
 use Rattle.race_check.specs.Crowds.{IsLater, IsSafe, IsUnsafeOne, StepsTell, UpTo}
 
 pub none_of : (o : Option ℕ) → is_some o ≡ false → o ≡ None
@@ -57,48 +55,3 @@ module _ (Before : ℕ → ℕ → Type 0) (last : ℕ) where
       rest : (s : ℕ) → P s ⊎ Q s → IsSafe Before s last ⊎ UpTo later s
       rest s (inl p) = still (IsSafe Before s last) a later s is.first (one.rest s p)
       rest s (inr q) = still (IsSafe Before s last) b later s is.second (other.rest s q)
-
-  pub steps_none : StepsTell Before last (Contains []) None
-  steps_none = record { clash = tt; rest = λ s has. absurd (let low : has.0 < 0 = has.1 in omega arith) }
-
-  -- a step in front of others, and in which of them it is up to the known one
-  module _ (step : ℕ) (others : List ℕ) where
-    only : (s : ℕ) → Contains [] s ⊎ (step ≡ s) → s ≡ step
-    only s (inl c) = absurd (let low : c.0 < 0 = c.1 in omega arith)
-    only s (inr e) = sym e
-
-    either : (s : ℕ) → Contains (step ∷ []) s ⊎ Contains others s → (s ≡ step) ⊎ Contains others s
-    either s (inl c) = inl (only s (Contains-push_cases [] step s c))
-    either s (inr c) = inr c
-
-    one_of : (s : ℕ) → Contains (step ∷ others) s → (s ≡ step) ⊎ Contains others s
-    one_of s c = either s (Contains-append_cases (step ∷ []) others s c)
-
-    there : (s : ℕ) → (s ≡ step) ⊎ Contains others s → Contains (step ∷ others) s
-    there s (inl e) = subst (Contains (step ∷ others)) (sym e) (Contains-append_left (step ∷ []) others step (Contains-push [] step))
-    there s (inr c) = Contains-append_right (step ∷ []) others s c
-
-    pub steps_up : (known : Option ℕ) → UpTo known step → StepsTell Before last (Contains others) known → StepsTell Before last (Contains (step ∷ others)) known
-    steps_up known up tells = record {
-      clash = if_then known (IsUnsafeOne Before last (Contains others)) (IsUnsafeOne Before last (Contains (step ∷ others))) tells.clash (λ s u. record { is = there s (inr u.is); unsafe = u.unsafe });
-      rest = λ s c. by s (one_of s c);
-    }
-      where
-        by : (s : ℕ) → (s ≡ step) ⊎ Contains others s → IsSafe Before s last ⊎ UpTo known s
-        by s (inl e) = inr (subst (UpTo known) (sym e) up)
-        by s (inr c) = tells.rest s c
-
-    pub steps_with : (a known later : Option ℕ) → IsLater a known later → StepsTell Before last (λ s. s ≡ step) a → StepsTell Before last (Contains others) known
-        → StepsTell Before last (Contains (step ∷ others)) later
-    steps_with a known later is here tells =
-        steps_same (λ s. (s ≡ step) ⊎ Contains others s) (Contains (step ∷ others)) later there one_of (steps_both (λ s. s ≡ step) (Contains others) a known later is here tells)
-
-  -- of the steps from a place on, and of those from the place before it on
-  pub steps_from : (steps : List ℕ) (left d : ℕ) (latest : Option ℕ) → 0 < left → left ≤ length steps
-      → StepsTell Before last (Contains (get_or steps (left - 1) d ∷ drop left steps)) latest → StepsTell Before last (Contains (drop (left - 1) steps)) latest
-  steps_from steps left d latest some within tells = subst (λ xs. StepsTell Before last (Contains xs) latest) (sym same) tells
-    where
-      same : drop (left - 1) steps ≡ get_or steps (left - 1) d ∷ drop left steps
-      same =
-          let one : suc (left - 1) ≡ left = omega arith in
-          drop-cons steps (left - 1) d (omega arith) ∙ ap (λ k. get_or steps (left - 1) d ∷ drop k steps) one

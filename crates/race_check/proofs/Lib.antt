@@ -6,6 +6,7 @@ pub mod Prefixes
 pub mod Meets
 pub mod Places
 pub mod Latest
+pub mod StackLaws
 pub mod CrowdLaws
 pub mod LineVisits
 pub mod Lists

@@ -2,6 +2,7 @@ pub mod Races
 pub mod Reorderings
 pub mod Walks
 pub mod Entries
+pub mod Safe
 pub mod Crowds
 pub mod Lines
 pub mod Slots

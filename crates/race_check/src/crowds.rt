@@ -11,6 +11,7 @@ use crate::crowd::Crowd;
 use crate::entry::{Entry, back, front, has_same_bytes, meet};
 use crate::error::RaceError;
 use crate::later::later;
+use crate::stack::Stack;
 use run_walk::Walk;
 use std::alloc::Global;
 
@@ -62,23 +63,36 @@ fn find_near(crowds: &[Crowd], entry: &Entry, near: usize) -> Option<usize>
     find(crowds, entry)
 }
 
-/// Adds the bytes of the entry with its step and the others, to a crowd that has those bytes if there is one.
+/// The place of a crowd that has the entry's bytes, and whose other steps aren't later than these: so these go to their end.
+fn find_earlier(crowds: &[Crowd], entry: &Entry, others: &Stack) -> Option<usize>
+    ensures inside { IfSome result (λ i. i < length crowds.now) }
+    ensures same { IfSome result (λ i. (d : ACrowd) → HasSameBytes (slice_index_or crowds.now i d).entry entry.now) }
+{
+    for (i, crowd) in crowds.iter().enumerate() {
+        if has_same_bytes(&crowd.entry, entry) && crowd.others.are_up_to(entry.step, others) {
+            return Some(i);
+        }
+    }
+    None
+}
+
+/// Adds the bytes of the entry with its step and the others, to a crowd that has those bytes if there is one to whose end they go.
 #[inline(never)]
 fn put(
     alloc: Global,
     crowds: &mut Vec<Crowd>,
     entry: &Entry,
-    others: &[u32],
+    others: &Stack,
 ) -> Result<(), RaceError>
-    ensures put { OnOk result (IsPut entry.now others.now crowds.old.items crowds.new.items) }
+    ensures put { OnOk result (IsPut entry.now others.now.list.items crowds.old.items crowds.new.items) }
     ensures long { OnOk result (length crowds.old.items ≤ length crowds.new.items) }
 {
-    if let Some(i) = find(crowds.as_slice(), entry) {
+    if let Some(i) = find_earlier(crowds.as_slice(), entry, others) {
         let crowds = crowds.as_mut_slice();
         crowds[i].add(entry.step, others)?;
         return Ok(());
     }
-    let others = others.to_vec(alloc)?;
+    let others = others.copy(alloc)?;
     crowds.push(Crowd {
         entry: *entry,
         others,
@@ -92,9 +106,9 @@ fn put_cut(
     alloc: Global,
     crowds: &mut Vec<Crowd>,
     cut: Option<Entry>,
-    others: &[u32],
+    others: &Stack,
 ) -> Result<(), RaceError>
-    ensures put { OnOk result (IsCutPut cut others.now crowds.old.items crowds.new.items) }
+    ensures put { OnOk result (IsCutPut cut others.now.list.items crowds.old.items crowds.new.items) }
     ensures long { OnOk result (length crowds.old.items ≤ length crowds.new.items) }
 {
     if let Some(entry) = cut {
@@ -113,9 +127,8 @@ fn trim_at(alloc: Global, crowds: &mut Vec<Crowd>, i: usize, new: &Entry) -> Res
         return Ok(());
     }
     let crowd = crowds.swap_remove(i);
-    let others = crowd.others.as_slice();
-    put_cut(alloc, crowds, front(&crowd.entry, new.from), others)?;
-    put_cut(alloc, crowds, back(&crowd.entry, new.to), others)?;
+    put_cut(alloc, crowds, front(&crowd.entry, new.from), &crowd.others)?;
+    put_cut(alloc, crowds, back(&crowd.entry, new.to), &crowd.others)?;
     Ok(())
 }
 

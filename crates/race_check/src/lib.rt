@@ -14,6 +14,7 @@ mod later;
 mod line;
 mod search;
 mod shadow;
+mod stack;
 
 pub use check::{Verdict, check_races};
 pub use error::RaceError;

@@ -4,7 +4,7 @@ use Rattle.cell_machine.specs.Opening.{Opening}
 use Rattle.cell_machine.specs.Run.{Ran, IsRun}
 use Rattle.run_walk.specs.Ordered.{IsOrdered}
 use Rattle.race_check.proofs.Prefixes.{is_ordered-up, run-told}
-use Rattle.run_permute.specs.Places.{until}
+use Rattle.reorder_laws.specs.Places.{until}
 use Rattle.settled.proofs.Alike.{Alike, alike-first}
 use Rattle.settled.specs.Lists.{Each}
 use Rattle.reorder.specs.declared.block.Block.{Block}

@@ -17,9 +17,9 @@ use Rattle.race_order.specs.Trace.{Trace}
 use Rattle.race_order.proofs.OrderedRuns.{trace-is, trace-long}
 use Rattle.cell_machine.specs.Opening.{opening}
 use Rattle.run_frames.specs.OrderedLaws.{IsOrdered}
-use Rattle.run_permute.specs.Settled.{IsSettled}
-use Rattle.run_permute.specs.Theorem.{EveryReorderingIsARun, IsRunAgain}
-use Rattle.run_permute.proofs.Whole.{settled-runs-reorder}
+use Rattle.reorder_laws.specs.Settled.{IsSettled}
+use Rattle.reorder_laws.specs.Theorem.{EveryReorderingIsARun, IsRunAgain}
+use Rattle.reorder_laws.proofs.Whole.{settled-runs-reorder}
 use Rattle.settled.specs.Lists.{IsIn}
 use Rattle.reorder.specs.Nth.{EndsAlike, IsNth}
 use Rattle.reorder.proofs.Nths.{nth-keeps-order}

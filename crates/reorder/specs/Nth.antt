@@ -4,7 +4,7 @@ use Rattle.cell_machine.specs.Run.{Ran, state_of}
 use Rattle.cell_machine.specs.State.{State}
 use Rattle.race_check.specs.Reorderings.{at_places}
 use Rattle.run_frames.specs.OrderedLaws.{IsOrdered}
-use Rattle.run_permute.specs.Theorem.{IsSameEnd}
+use Rattle.reorder_laws.specs.Theorem.{IsSameEnd}
 use Rattle.settled.specs.Lists.{IsIn}
 use Rattle.reorder.specs.Lists.{IsRising}
 

@@ -2,7 +2,7 @@
 
 ghost use Rattle.std.specs.Prelude.{◌≡◌, [], IfOk, OnOk, OnErr, Some, length, slice_get};
 ghost use Rattle.cell_machine.specs.Opening.{Opening};
-ghost use Rattle.run_permute.specs.Places.{until};
+ghost use Rattle.reorder_laws.specs.Places.{until};
 ghost use Rattle.run_walk.specs.Walks.{IsLast, walked};
 ghost use Rattle.reorder.specs.Gathered.{Gathers};
 

@@ -5,7 +5,7 @@ ghost use Rattle.cell_machine.specs.Run.{IsRun};
 ghost use Rattle.race_check.specs.Races.{IsVerdict};
 ghost use Rattle.race_check.specs.Reorderings.{at_places};
 ghost use Rattle.race_check.specs.declared.check.Verdict.TheVariants.{Accepted};
-ghost use Rattle.run_permute.specs.Settled.{IsSettled};
+ghost use Rattle.reorder_laws.specs.Settled.{IsSettled};
 ghost use Rattle.settled.specs.Lists.{IsIn};
 ghost use Rattle.reorder.specs.Gathered.{Gathers};
 ghost use Rattle.reorder.specs.Nth.{EndsAlike, IsReordered};

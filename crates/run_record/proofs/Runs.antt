@@ -1,6 +1,6 @@
 -- A part of a run is a run, and the first step that ends one.
-use Rattle.std.proofs.Common.{◌≡◌, ℕ, ◌+◌, ◌<◌, ◌≤◌, Bool, true, false, cond, ltb, List, [], ◌∷◌, ◌++◌, length, take, drop, get_or, Option, Some, None, Result, Ok, Err, refl, sym, ap, subst, ◌∙◌, append_assoc, arith, length-append}
-use Rattle.std.specs.Prelude.{IfOk, IsOk, IsSome, option_and_then}
+use Rattle.std.proofs.Common.{◌≡◌, ℕ, ◌+◌, ◌<◌, ◌≤◌, Bool, true, false, cond, ltb, List, [], ◌∷◌, ◌++◌, length, take, drop, get_or, Option, Some, None, Result, Ok, Err, refl, sym, ap, ap₂, subst, ◌∙◌, append_assoc, arith, length-append}
+use Rattle.std.specs.Prelude.{IfOk, IsOk, IsSome, OnErr, option_and_then}
 use Rattle.std.specs.Result.{is_err}
 use Rattle.std.proofs.lemmas.Bool.{ltb-true, lt-ltb}
 use Rattle.std.proofs.lemmas.List.{take-append-drop, take_more, take-append-le}
@@ -121,7 +121,21 @@ refused_behind setup front steps i m d at r stands run lt made refused counted =
 pub more_behind : (front steps : List Step) (i : ℕ) (d : Step) → i < length steps → (front ++ take i steps) ++ get_or steps i d ∷ [] ≡ front ++ take (i + 1) steps
 more_behind front steps i d lt = append_assoc front (take i steps) (get_or steps i d ∷ []) ∙ ap (λ (t : List Step). front ++ t) (sym (take_more steps i d lt))
 
+-- a machine that made the first i of them has those before the next one's place
+pub kept_before : (setup : Opening) (front steps : List Step) (i : ℕ) (m : Ran) (d : Step) {made : List Step} → m ≡ record { setup = setup; steps = front ++ take i steps } → i < length steps → made ≡ m.steps
+    → m ≡ record { setup = setup; steps = take (length made) (front ++ steps) }
+kept_before setup front steps i m d {made} stands lt same =
+    let so_far : made ≡ front ++ take i steps = same ∙ ap (λ (n : Ran). n.steps) stands in
+    let parts : front ++ steps ≡ (front ++ take i steps) ++ get_or steps i d ∷ drop (i + 1) steps = ap (λ (t : List Step). front ++ t) (cut_at steps i d lt) ∙ sym (append_assoc front (take i steps) (get_or steps i d ∷ drop (i + 1) steps)) in
+    let first : take (length made) (front ++ steps) ≡ front ++ take i steps = ap₂ (λ (ms all : List Step). take (length ms) all) so_far parts ∙ take-append_seam (front ++ take i steps) (get_or steps i d ∷ drop (i + 1) steps) in
+    stands ∙ ap (λ (xs : List Step). let n : Ran = record { setup = setup; steps = xs } in n) (sym first)
+
 -- what was answered where it was no refusal
 pub ok_there : {A E : Type 0} (P : A → Type 0) (r : Result A E) → is_err r ≡ false → IfOk r P → (x : A) × P x × IsOk r
 ok_there P (Ok x) e p = (x, p, refl)
 ok_there P (Err x) e p = absurd (cc)
+
+-- what is so where it was one
+pub err_there : {A E : Type 0} (P : Type 0) (r : Result A E) → is_err r ≡ true → OnErr r P → P
+err_there P (Ok x) e p = absurd (cc)
+err_there P (Err x) e p = p

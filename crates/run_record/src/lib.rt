@@ -6,7 +6,7 @@ mod reading;
 mod recorded;
 mod replaying;
 
-pub use error::{NotARun, RecordError};
+pub use error::{RecordError, RefusedStep, ReplayError};
 pub use reading::read_record;
 pub use recorded::Recorded;
-pub use replaying::replay;
+pub use replaying::{make_steps, replay};

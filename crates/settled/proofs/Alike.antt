@@ -19,7 +19,7 @@ use Rattle.race_order.specs.declared.progress.Progress.{Progress as Come}
 use Rattle.race_order.proofs.Places.{get_take}
 use Rattle.run_walk.specs.Ordered.{IsOrdered}
 use Rattle.race_check.proofs.Prefixes.{first_of, ordered-first, trace_in-first}
-use Rattle.run_permute.specs.Places.{until, Asks, IssuesAtomic}
+use Rattle.reorder_laws.specs.Places.{until, Asks, IssuesAtomic}
 use Rattle.settled.specs.declared.kept.Kept.{Kept}
 use Rattle.settled.specs.declared.watch.Watch.{Watch}
 use Rattle.settled.specs.Lists.{Each, IsIn}

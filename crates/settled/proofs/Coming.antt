@@ -21,8 +21,8 @@ use Rattle.race_order.specs.Told.{trace_in}
 use Rattle.race_order.specs.declared.progress.Progress.{Progress as Come}
 use Rattle.race_order.proofs.Runs.{keeps-status}
 use Rattle.race_check.proofs.Prefixes.{run-told, trace_in-first}
-use Rattle.run_permute.specs.Places.{until, spe_at, Asks}
-use Rattle.run_permute.specs.Settled.{HasNoFault}
+use Rattle.reorder_laws.specs.Places.{until, spe_at, Asks}
+use Rattle.reorder_laws.specs.Settled.{HasNoFault}
 use Rattle.settled.specs.Online.{Does}
 
 short : {X : Type 0} (n : ℕ) (xs : List X) → length (take n xs) ≤ length xs

@@ -28,7 +28,7 @@ use Rattle.run_walk.specs.Walks.{walked}
 use Rattle.settled.specs.declared.made.Made.{Made}
 use Rattle.settled.specs.declared.watch.Watch.{Watch}
 use Rattle.settled.specs.Lists.{AreChanged}
-use Rattle.run_permute.specs.Places.{Asks, IssuesAtomic}
+use Rattle.reorder_laws.specs.Places.{Asks, IssuesAtomic}
 use Rattle.settled.specs.Online.{Does, Pends, IsRequested, IsAtomicIssued, IsStallRead, HasStalledList, IsStalledTag, IsSettledAt, is_read_of, is_write_to}
 use Rattle.settled.specs.Walks.{IsAt, IsMade}
 use Rattle.settled.specs.Watches.{IsTaken, IsAdded, AreKept, AreLeft, Watches, MayOperate, MayTell, does, is_atomic_issue, marked, stalled_from}

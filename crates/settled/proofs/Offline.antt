@@ -36,9 +36,9 @@ use Rattle.race_order.proofs.Elements.{may_at}
 use Rattle.race_check.proofs.Prefixes.{go-on}
 use Rattle.step_frames.proofs.Hosting.{next-leaves}
 use Rattle.run_frames.specs.OrderedLaws.{IsOrdered}
-use Rattle.run_permute.proofs.Recording.{recording, records}
-use Rattle.run_permute.specs.Places.{until, spe_at, Asks, WritesChannel, IssuesQueued}
-use Rattle.run_permute.specs.Settled.{Between, AsksForTags, ReadsTags, ReadsStalls, Acknowledges, ReadsAtomic, CountsNothing, WaitsForTags, IsClosed, HasRoom, ReadsOneStall, AlternatesStalls, ReadsEachAtomic, HasNoFault, IsSettledChannel, KeepsChannels, IsSettled}
+use Rattle.reorder_laws.proofs.Recording.{recording, records}
+use Rattle.reorder_laws.specs.Places.{until, spe_at, Asks, WritesChannel, IssuesQueued}
+use Rattle.reorder_laws.specs.Settled.{Between, AsksForTags, ReadsTags, ReadsStalls, Acknowledges, ReadsAtomic, CountsNothing, WaitsForTags, IsClosed, HasRoom, ReadsOneStall, AlternatesStalls, ReadsEachAtomic, HasNoFault, IsSettledChannel, KeepsChannels, IsSettled}
 use Rattle.settled.specs.Online.{Does, IsShutAt, AreFewOpen, IsStallRead, HasStalledList, IsStalledTag, IsSettledOnline, is_read_of, is_write_to, is_settled_channel}
 use Rattle.settled.proofs.Stalls.{stalled-once}
 use Rattle.settled.proofs.Here.{trace-size}

@@ -20,8 +20,8 @@ use Rattle.race_order.specs.Premises.{IsQueued}
 use Rattle.race_order.specs.Told.{trace_in}
 use Rattle.race_order.specs.declared.progress.Progress.{Progress as Come}
 use Rattle.race_order.proofs.Histories.{same_progress, valid_at}
-use Rattle.run_permute.specs.Places.{Asks, ReadsChannel, IssuesQueued, IssuesAtomic}
-use Rattle.run_permute.specs.Settled.{Between, IsClosed, ReadsOneStall, Acknowledges, ReadsStalls, IsSettled, IsSettledChannel}
+use Rattle.reorder_laws.specs.Places.{Asks, ReadsChannel, IssuesQueued, IssuesAtomic}
+use Rattle.reorder_laws.specs.Settled.{Between, IsClosed, ReadsOneStall, Acknowledges, ReadsStalls, IsSettled, IsSettledChannel}
 use Rattle.settled.proofs.Coming.{does-or, has-moves, moves-has}
 use Rattle.settled.specs.Online.{Does, IsShutAt, AreFewOpen, IsStallRead, IsAtomicIssued, HasStalledList, IsStalledTag, MayQueue, MayReadStall, IsSettledOnline, is_plain, is_read_of, is_write_to, is_settled_channel}
 

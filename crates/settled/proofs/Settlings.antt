@@ -9,8 +9,8 @@ use Rattle.cell_machine.specs.Spe.{Spe, is_faulted}
 use Rattle.run_walk.specs.declared.walk.Walk.{Walk}
 use Rattle.run_walk.specs.Walks.{IsLast, walked}
 use Rattle.race_check.proofs.Prefixes.{first_of, first-all, run-told}
-use Rattle.run_permute.specs.Places.{until}
-use Rattle.run_permute.specs.Settled.{IsSettled}
+use Rattle.reorder_laws.specs.Places.{until}
+use Rattle.reorder_laws.specs.Settled.{IsSettled}
 use Rattle.settled.specs.declared.settling.Settling.{Settling}
 use Rattle.settled.specs.declared.watch.Watch.{Watch}
 use Rattle.settled.specs.Lists.{Each}

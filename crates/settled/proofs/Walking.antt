@@ -19,8 +19,8 @@ use Rattle.race_order.proofs.Places.{get_take, take_step}
 use Rattle.race_order.proofs.Runs.{is-orderly, may-follow}
 use Rattle.race_order.specs.Orderly.{IsWithin}
 use Rattle.race_check.proofs.Prefixes.{run-told, trace-first, trace_in-first, ordered-first}
-use Rattle.run_permute.proofs.Recording.{recording, records}
-use Rattle.run_permute.specs.Places.{until}
+use Rattle.reorder_laws.proofs.Recording.{recording, records}
+use Rattle.reorder_laws.specs.Places.{until}
 use Rattle.settled.specs.declared.made.Made.{Made}
 use Rattle.settled.specs.Walks.{IsAsked, IsMade, IsMadeFrom}
 use Rattle.settled.proofs.Here.{trace-size}

@@ -14,7 +14,7 @@ use Rattle.race_order.specs.Queue.{Has}
 use Rattle.race_order.specs.Told.{trace_in}
 use Rattle.run_frames.specs.OrderedLaws.{IsOrdered}
 use Rattle.race_order.specs.declared.progress.Progress.{Progress}
-use Rattle.run_permute.specs.Places.{Asks, IssuesQueued, IssuesAtomic}
+use Rattle.reorder_laws.specs.Places.{Asks, IssuesQueued, IssuesAtomic}
 
 -- ---- operations
 

@@ -10,7 +10,7 @@ use Rattle.race_order.specs.Told.{trace_in}
 use Rattle.run_walk.specs.declared.walk.Walk.{Walk}
 use Rattle.run_walk.specs.Walks.{Stands, walked}
 use Rattle.settled.specs.declared.made.Made.{Made}
-use Rattle.run_permute.specs.Places.{until, spe_at}
+use Rattle.reorder_laws.specs.Places.{until, spe_at}
 
 -- a place of a run
 pub record Here : Type 0 where

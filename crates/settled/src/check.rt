@@ -1,7 +1,7 @@
 //! Whether a run is settled, when it is made again.
 
 ghost use Rattle.std.specs.Prelude.{◌≡◌, ◌↔◌, [], IfOk, OnOk, IsTrue};
-ghost use Rattle.run_permute.specs.Settled.{IsSettled};
+ghost use Rattle.reorder_laws.specs.Settled.{IsSettled};
 ghost use Rattle.run_walk.specs.Walks.{Stands, walked};
 ghost use Rattle.settled.specs.Settlings.{Follows};
 

@@ -3,8 +3,8 @@
 ghost use Rattle.std.specs.Prelude.{◌≡◌, ◌↔◌, [], IfOk, OnOk, OnErr, IsTrue, Some, length, slice_get};
 ghost use Rattle.cell_machine.specs.Opening.{Opening};
 ghost use Rattle.cell_machine.specs.Run.{Ran};
-ghost use Rattle.run_permute.specs.Places.{until};
-ghost use Rattle.run_permute.specs.Settled.{IsSettled};
+ghost use Rattle.reorder_laws.specs.Places.{until};
+ghost use Rattle.reorder_laws.specs.Settled.{IsSettled};
 ghost use Rattle.run_walk.specs.Walks.{IsLast, walked};
 ghost use Rattle.settled.specs.Settlings.{Follows, IsSettledSoFar};
 ghost use Rattle.settled.specs.Walks.{IsMadeFrom};

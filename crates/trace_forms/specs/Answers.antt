@@ -84,11 +84,11 @@ ReadFails spoken old new Done = Unit {0}
 ReadFails spoken old new (Refused WriteFault) = Unit {0}
 ReadFails spoken old new (Refused fault) = FailsBy spoken old new fault
 
--- nothing went out
+-- a refusal leaves the sink as it was, its bytes and its count of faults, but for WriteFault, which comes only where the count rose
 abbrev pub IsQuiet : Sinks → Sinks → Status → Type 0
 IsQuiet old new Done = Unit {0}
 IsQuiet old new (Refused WriteFault) = Rose old.faults new.faults
-IsQuiet old new (Refused fault) = new.taken ≡ old.taken
+IsQuiet old new (Refused fault) = new ≡ old
 
 -- of an answer to these words, with the store and the sink before and after
 pub record Promises (spoken : Spoken) (store store_after : Stores) (sink sink_after : Sinks) (status : Status) : Type 0 where

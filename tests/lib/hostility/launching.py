@@ -15,6 +15,7 @@ from lib.hostility.rows import Ended, Row, ended, shown
 
 SECONDS = 20
 MEGABYTES = 2048
+NOBODY = 65534
 PATH_WITHOUT_KIT = "/usr/bin:/bin"
 MACHINE = b"cell-machine 1\nlines 1\nbudget 1\nspe\n"
 PROGRAM = """#!/bin/sh
@@ -56,7 +57,7 @@ def unbuilt() -> Iterator[pathlib.Path]:
     with tempfile.TemporaryDirectory(prefix="cell-launching-") as room:
         folder = pathlib.Path(room).resolve()
         shutil.copytree(ROOT / "tools", folder / "tools", ignore=of_others)
-        for name in ("cell", "hunt"):
+        for name in ("cell", "hunt", "VERSION"):
             shutil.copy(ROOT / name, folder)
         for crate in ("cell_cli", "hunt", "run_trace"):
             for part in ("src", "specs", "proofs"):
@@ -169,21 +170,51 @@ def shipped_programs_are_taken() -> Iterator[str]:
                 yield "\n".join([f"{what}: a program of bin/ is run", *shown(found)])
 
 
+def is_closed(path: pathlib.Path) -> bool:
+    """Whether others can't come through a folder."""
+    return not path.stat().st_mode & 0o001
+
+
+def read_only_checkouts_run() -> Iterator[str]:
+    """In a checkout of another user, in which nothing may be written, the programs of bin/ run in place, and nothing is left there."""
+    user = {} if os.geteuid() else {"user": NOBODY, "group": NOBODY, "extra_groups": []}
+    with released() as folder:
+        for path in filter(is_closed, folder.parents):
+            path.chmod(path.stat().st_mode | 0o011)
+        for path in (folder, *folder.rglob("*")):
+            path.chmod(path.stat().st_mode & ~0o222 | 0o055 if path.is_dir() else path.stat().st_mode & ~0o222 | 0o044)
+        try:
+            for words, output in ((("hunt", "first.cell", "4"), b"ran hunt first.cell 4\n"), (("cell", "asm", "first.cell"), b"ran cell_cli asm first.cell\n"),
+                                  (("tools/launch", "--version"), b"cell 1.0.0\n")):
+                found = subprocess.run([folder / words[0], *words[1:]], cwd=folder, capture_output=True, timeout=SECONDS,
+                                       env={"PATH": PATH_WITHOUT_KIT, "CELL_TRY": ""}, **user)  # type: ignore[call-overload]
+                if found.returncode or found.stderr or not found.stdout.startswith(output):
+                    yield "\n".join([f"{' '.join(words)} doesn't run in a checkout that can't be written", *shown(Ended(found.returncode, found.stdout, found.stderr))])
+            if list(folder.glob("crates/*/out")):
+                yield "something was written"
+        finally:
+            for path in (folder, *folder.rglob("*")):
+                path.chmod(path.stat().st_mode | 0o200)
+
+
 def shipped_programs_are_compared() -> Iterator[str]:
-    """Programs that are built here are compared with those of bin/, where the kit is the same."""
+    """Programs that are built here are compared with those of bin/, whichever kit built them; a difference fails only with the kit of bin/."""
     with released() as folder:
         proved = called(folder, "cell", "prove")
         if proved.status or b"byte by byte" not in proved.error:
             yield "\n".join(["what is proved isn't compared with bin/", *shown(proved)])
-        (folder / "bin" / "hunt").write_bytes(b"#!/bin/sh\n")
-        differs = called(folder, "tools/launch", "--compare")
-        if differs.status != 1 or b"hunt of bin/ isn't" not in differs.error:
-            yield "\n".join(["a program of bin/ that differs isn't told", *shown(differs)])
-        manifest = folder / "bin" / "MANIFEST"
-        manifest.write_text(manifest.read_text().replace("kit of tests", "another kit"))
-        other = called(folder, "tools/launch", "--compare")
-        if other.status or b"another kit" not in other.error:
-            yield "\n".join(["programs of another kit are compared", *shown(other)])
+        manifest, hunt = folder / "bin" / "MANIFEST", folder / "bin" / "hunt"
+        own = manifest.read_text()
+        another = own.replace("kit of tests", "another kit")
+        rows = ((another, False, 0, b"byte by byte"), (another, True, 0, b"by another kit: kit of tests; bin/ was built by another kit"),
+                (own, True, 1, b"bin/hunt differs from the program that these sources give"))
+        for kept, is_changed, status, said in rows:
+            manifest.write_text(kept)
+            if is_changed:
+                hunt.write_bytes(b"#!/bin/sh\n")
+            found = called(folder, "tools/launch", "--compare")
+            if found.status != status or said not in found.error:
+                yield "\n".join([f"{kept.splitlines()[0]}, {'one program changed' if is_changed else 'nothing changed'}: wrong answer", *shown(found)])
 
 
 def full_file_is_told() -> Iterator[str]:
@@ -215,4 +246,4 @@ ROWS = [
     Row("no machine file", ["tools/sources", "none.cell"], 2, said="cannot open none.cell|none.cell: No such file"),
 ]
 CHECKS = [first_calls_tell_progress, first_hunt_answers, unbuilt_is_no_refusal, killed_build_leaves_nothing, shipped_programs_are_taken,
-          shipped_programs_are_compared, full_file_is_told, tried_words_are_named_from_the_root]
+          read_only_checkouts_run, shipped_programs_are_compared, full_file_is_told, tried_words_are_named_from_the_root]

@@ -49,7 +49,7 @@ ROWS = [
     mistaken("a machine file", ["tools/listing", "m.cell"], "^listing: m.cell is a machine file: name one of its sources", 1),
     mistaken("a misspelt source", ["tools/from_gas", "n.s"], "^from_gas: n.s: No such file"),
     mistaken("a misspelt file", ["tools/explain", "n.cell"], "^explain: n.cell: No such file"),
-    mistaken("an empty file", ["tools/hunts", "empty.out"], "^hunts: empty.out:1: no line of what `./hunt MACHINE --json` prints"),
+    mistaken("an empty file", ["tools/hunts", "empty.out"], "^empty.out:1: the file is empty: make the part again"),
     mistaken("a target where nothing can be written", ["tools/from_gas", "-o", "/proc/none/whole.s", "s.s"], "^from_gas: /proc/none/whole.s: No such file"),
     mistaken("a machine file with a blank in its name", ["tools/race", "my m.cell", "n.out"], r"there is no n\.out .*: keep .*, \./cell run 'my m\.cell' > FILE$"),
     mistaken("a run of a faulty machine file", ["tools/race", "--run", "1", "bad.cell"], "it is bad.s: tools/explain bad.cell says it in words"),

@@ -105,7 +105,11 @@ COUNTS = [f"{command} {number}" for command in ("step", "back to", "other", "del
     "step p 0 08 0 0", f"step p {LONG} 0 0 0", "step \u0661", "step x", "\x1b[2J", "break \x00", "record \x00", "picture \x00", "help \udcff"]
 THINGS = [f"{command} {thing}" for command in ("last", "watch") for thing in (
     "", "if", "if if", "$128", f"${LONG}", "$3.4", "$3.", "x0", "x1 lost", "mem", "mem $3", "ls", "ls 0", "lost lost", f"stall {LONG}", "stall 32", "event",
-    "event x", "event 0x", f"signal {LONG}", "mailbox \udcff", f"reservation {LONG}", "nowhere", "buffer 0", "\u0661")]
+    "event x", "event 0x", f"signal {LONG}", "mailbox \udcff", f"reservation {LONG}", "nowhere", "buffer 0", "\u0661",
+    "tag 32", f"tag {LONG}", "tag x", f"atomic {LONG}", "atomic x", "halt halt", "x9 halt", "fault 1")]
+ACTORS = [f"{command} {words}" for command in ("hold", "release", "run") for words in (
+    f"x{LONG}", "x9", "m9 until", "until", "until until", "x0 until until", f"x0 until {LONG}", "x0 until if", "h h h h x0 until \udcff",
+    "\udcff until 0x0", "x\u0661", "host x", "all all", "x0 if", "m0 x0 until buffer if $3")]
 CONDITIONS = [f"break 0x0 if {condition}" for condition in (
     "", "and", "$3", "$3 ==", "== $3", "$3 == $4 == $5", "$3 = 1", "$3 == 08", f"$3 < {LONG}", "$3 < -", "$3 < --1", "$3 == -0x", "1 == 1 and", "if",
     "mem == 1", "mem 0 3 > 1", "mem 128 == 1", "x1 $3 == 1", "buffer+08 == 1", "$3.9 == 1", "\udcff == \x00", "pc ! 1", "$3 == \u0661")]
@@ -116,6 +120,7 @@ WORDS = [
     session("odd things, conditions and values", ["step", *THINGS, *CONDITIONS, *VALUES, "undisplay all", "undisplay", "finish", "finish 1", "reverse",
                                                   "tbreak if", "tbreak", "delete all", "back to 1", "where"],
             NO_ESCAPE + r"(?!.*the debugger failed).*> where\nafter 1 step; \d+ steps? ahead\n", 1),
+    session("odd actors", ["step", *ACTORS, "release all", "where"], NO_ESCAPE + r"(?!.*the debugger failed).*1> where\nafter 1 step; 0 steps ahead\n", 1),
     session("odd numbers and names", ["step", *PLACES, *COUNTS, "where"], NO_ESCAPE + r"(?!.*the debugger failed).*1> where\nafter 1 step; 0 steps ahead\n", 1),
     session("a line without end", ["where", "x" * 200_000], r"(?s)0> where\nafter 0 steps", 2, said=r"standard input has a line of more than 100000 bytes"),
     session("odd lines of a script", ["step\r", "# \x85\r step", "\x0cwhere"], r"(?s)1> # \\x85\\x0d step\n1> \\x0cwhere\nafter 1 step; "),

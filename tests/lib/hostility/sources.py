@@ -6,7 +6,8 @@ import tempfile
 from typing import Any, Callable, Dict, Iterator, Optional, Sequence
 
 from celltools.common.repository import ROOT
-from celltools.hunt.outputs import FLAWS
+from celltools.hunt.making import whole
+from celltools.hunt.reading import FLAWS
 from lib.hostility.rows import Row, ended
 
 UNREADABLE = "/proc/self/mem"  # opens, and has no byte at its beginning that may be read
@@ -42,8 +43,12 @@ f:
 LABELS = "^0x00000 start\n0x00004 a\n0x00004 b\n0x00010 c\n0x0008b d\n0x0008d e\n0x00100 f$"
 WHOLE = b"\tstop\t0\t# a.s:1\n"
 OLD = b"\tlnop\t# what stood there\n"
-HUNT = ('{"machine":"m.cell","sum":"0"}\n{"hunt":1,"seed":1,"from":0,"runs":1,"expects":false,"all_stopped":1,"left_out":0'
-        + "".join(f',"{flaw}":{{"runs":0,"first":null}}' for flaw in FLAWS) + '}\n{"kinds":{"0":1}}\n').encode()
+HUNT = b"".join(whole(iter([
+    b'{"part":1,"version":"1.0.0","program":"","machine":"m.cell","sum":"%s"}\n' % (b"0" * 64),
+    b'{"hunt":1,"seed":1,"from":0,"runs":1,"expects":false,"all_stopped":1,"left_out":0'
+    + b"".join(b',"%s":{"runs":0,"first":null}' % flaw.encode() for flaw in FLAWS) + b"}\n",
+    b'{"number":0,"end":"AllStopped","runs":1,"first":0,"places":[],"words":[]}\n', b'[0,1,0,""]\n', b'{"kinds":"AAAAAAAAAAA=","runs":[1]}\n',
+])))
 
 # What a Row does with its folder before and after the call; `more`, below, is all else that a Row has.
 Before = Callable[[pathlib.Path], None]
@@ -109,14 +114,14 @@ def full(tool: str, record: Sequence[str], status: int, **more: Any) -> Row:
 OF_FROM_GAS = [
     rewritten("names that are twice others, set behind their uses", DOUBLED, 0, printed=r"il\t\$3,1073741824"),
     rewritten("200 of them", "".join(f"a{number}=a{number - 1}\n" for number in range(200, 0, -1)), 1, said="^a.s:1: more than 100 "),
-    rewritten("comments that nothing ends", "/* " * 100_000, 1, said=r"^a.s:1: `/\*` is no instruction"),
+    rewritten("comments that nothing ends", "/* " * 100_000, 1, said=r"^a.s:1: `/\*` is neither an instruction"),
     rewritten("blanks within a line", f" il $3,1{' ' * 200_000}+1{' ' * 200_000}\n", 0, printed=r"il\t\$3,2"),
-    rewritten("quotes that nothing ends", ' .data\n .ascii "' + '\\"' * 50_000, 1, said="^a.s:2: strings stand in"),
+    rewritten("quotes that nothing ends", ' .data\n .ascii "' + '\\"' * 50_000, 1, said="^a.s:2: strings are in"),
     rewritten("more bytes than the store has", " .data\n" + " .fill 4096,4,1\n" * 500, 1, said=r"^a.s:18: `\.fill` ends above the local store"),
     rewritten("numbers of 5,000 digits", LONG_NUMBERS, 1, said=r"^a.s:6: `9{24}\.\.` has more than 64 bits"),
-    rewritten("nested parentheses", PARENTHESES, 1, said="^a.s:1: more than 100 parentheses"),
+    rewritten("nested parentheses", PARENTHESES, 1, said="^a.s:1: more than 100 nested parentheses"),
     rewritten("a character of no octal digit", " il $3,'\\8\n il $4,'\\7\n", 0, printed=r"il\t\$3,56.*\n.*\$4,7"),
-    rewritten("a blank beyond ASCII", " il $3,1\n\xa0\n", 1, said=r"^a.s:2: `\\xa0` is no instruction"),
+    rewritten("a blank beyond ASCII", " il $3,1\n\xa0\n", 1, said=r"^a.s:2: `\\xa0` is neither an instruction"),
     Row("from_gas: a name that isn't UTF-8", ["tools/from_gas", "a\udcff\x1b.s"], 0, printed=r"# a\\xff\\x1b\.s:1", files={"a\udcff\x1b.s": b" stop\n"}),
     Row("from_gas: a name in other letters", ["tools/from_gas", "\u0436.s"], 0, printed="# \u0436.s:1", files={"\u0436.s": b" stop\n"}),
     Row("from_gas: a file without an end", ["tools/from_gas", "/dev/zero"], 2, said=r"^from_gas: /dev/zero: it has more than 33,554,432 bytes"),
@@ -135,7 +140,7 @@ OF_TARGETS = [
     written("a file that may not be written", "whole.s", 2, said="^from_gas: whole.s: ", before=make_mode(0o444), after=is_left("whole.s", OLD, 0o444)),
     written("a folder that isn't there", "none/whole.s", 2, said="^from_gas: none/whole.s: No such file"),
     written("a folder", ".", 2, said="^from_gas: .: Is a directory"),
-    Row("hunts --sarif: a file that may not be written", ["tools/hunts", "--sarif", "whole.s", "-"], 2, said="^hunts: whole.s: ", printed="",
+    Row("hunts --sarif: a file that may not be written", ["tools/hunts", "--sarif", "whole.s", "-"], 2, said="^whole.s: ", printed="",
         files={"whole.s": OLD}, standard_input=HUNT, before=make_mode(0o444), after=is_left("whole.s", OLD, 0o444)),
 ]
 
@@ -192,7 +197,24 @@ OF_PLACES = [
         standard_input=f"race | h {DIGITS}\n".encode(), files={"a.cell": MACHINE.encode()}),
 ]
 
-ROWS = [*OF_FROM_GAS, *OF_TARGETS, *OF_EXPLAIN, *OF_PLACES]
+ONE_LINE = f"{MACHINE}code 0 00000000\n".encode()
+OF_HUNTS = [
+    Row("hunt: a pipe that nobody writes", ["hunt", "pipe", "4"], 3, said=r"\Ahunt: pipe: it is a pipe, and nobody writes to it: name a file", printed="",
+        before=make_fifo("pipe")),
+    Row("hunt: a source that is such a pipe", ["hunt", "a.cell", "4", "--json"], 3, said=r"\Ahunt: pipe: it is a pipe, and nobody", printed="",
+        files={"a.cell": f"{MACHINE}source pipe\n".encode()}, before=make_fifo("pipe")),
+    Row("hunt: a machine file in a pipe", ["hunt", "/dev/stdin", "4"], 0, printed=r"\A4 runs of seed 1: 4 AllStopped", standard_input=ONE_LINE),
+    Row("hunt: a machine file in a pipe, as a part", ["hunt", "/dev/stdin", "--runs", "4", "--json"], 0, printed=r'"machine":"/dev/stdin"', standard_input=ONE_LINE),
+    Row("hunt: a source in a pipe", ["hunt", "a.cell", "4"], 3, said=r"\Ahunt: /dev/stdin: this source is a pipe, and one with an absolute name is read twice",
+        printed="", files={"a.cell": f"{MACHINE}source /dev/stdin\n".encode()}, standard_input=b" stop 1\n"),
+    Row("hunts: a pipe that nobody writes", ["tools/hunts", "pipe"], 2, said=r"\Apipe: it is a pipe, and nobody writes to it", printed="", before=make_fifo("pipe")),
+    Row("hunts: a line without an end", ["tools/hunts", "/dev/zero"], 2, said=r"\A(/dev/zero:1: it has more than 268,435,456 bytes|hunts: )", printed="",
+        seconds=120, megabytes=1024),
+    Row("hunts: a folder", ["tools/hunts", "/"], 2, said="^/: Is a directory: name a file", printed=""),
+    Row("hunts: no file", ["tools/hunts", "none"], 2, said="^none: No such file or directory: name a file", printed=""),
+]
+
+ROWS = [*OF_HUNTS, *OF_FROM_GAS, *OF_TARGETS, *OF_EXPLAIN, *OF_PLACES]
 
 
 def a_pipe_is_written_through() -> Iterator[str]:

@@ -3,8 +3,12 @@ import concurrent.futures
 import functools
 import glob
 import os
+import pathlib
 import re
+import shutil
 import subprocess
+import sys
+import tempfile
 from typing import Dict, Iterator, List, Optional, Set, Tuple
 
 from celltools.common.repository import ROOT
@@ -28,8 +32,24 @@ for path in sys.argv[1:]:
 SECONDS = 120
 MEGABYTES = 2048
 CYRILLIC = "\u0436.s"
-# Pythons with which the lines of a hunt aren't completed: too old, of which the output can't be written, and interrupted.
+# Pythons with which no lines of a hunt are named: too old, of which the output can't be written, and interrupted.
 OTHERS = "exit 2", "echo half; exit 4", "echo half; exit 130"
+UNNAMED = r"\Ahunt: no lines of sources are named: tools/site_lines needs the package python3, and ended with status \d+\n\Z"
+NO_PART = r"hunt: --json requires tools/site_lines, which needs the package python3 and ended with status \d+: nothing was run\n\Z"
+# A Python that lacks modules, as Debian's python3-minimal does.
+LACKING = """
+import os, runpy, sys
+class Lacking:
+    def find_spec(self, name, path=None, target=None):
+        if name in {lacked!r}:
+            raise ModuleNotFoundError("No module named " + name, name=name)
+sys.meta_path.insert(0, Lacking())
+sys.argv = sys.argv[2:]
+sys.path[0] = os.path.dirname(sys.argv[0])
+runpy.run_path(sys.argv[0], run_name="__main__")
+"""
+WITHOUT_PYTHON: List[Tuple[List[str], int, str, str]] = [([], 0, UNNAMED, r"(?s)\A4 runs of seed 1: (?!.*half)"), (["--json"], 2, NO_PART, "")]
+LACKED = ("json", "dataclasses", "bisect", "statistics", "difflib")  # which libpython3.11-minimal hasn't
 
 
 def version_of(path: str) -> Optional[Tuple[int, int]]:
@@ -91,14 +111,50 @@ def loading_faults() -> Iterator[str]:
             yield "\n".join([f"{python} loads not all programs of tests/", *(shown(found) if found else [])])
 
 
+def minimal_tells_its_package() -> Iterator[str]:
+    """Under a Python without some modules each tool that needs them ends with status 2 and names the package, also where it would find no race; a hunt names no
+    lines, and with --json runs nothing."""
+    with tempfile.TemporaryDirectory(prefix="cell-minimal-") as room:
+        folder = pathlib.Path(room)
+        (folder / "lacking.py").write_text(LACKING.format(lacked=LACKED))
+        (folder / "python3").write_text(f'#!/bin/sh\nexec {sys.executable} {folder}/lacking.py "$@"\n')
+        (folder / "python3").chmod(0o755)
+        environment = {"PATH": f"{folder}:{os.environ['PATH']}"}
+        calls: List[Tuple[List[str], int, str]] = [
+            (["tools/race", "examples/first.cell", "examples/first.out"], 2, r"race: .*this Python has no module \w+: install the package python3"),
+            (["tools/hunts", "-"], 2, "install the package"),
+            (["hunt", "examples/first.cell", "4", "--json"], 2, NO_PART), (["hunt", "examples/first.cell", "4"], 0, "no lines of sources"),
+        ]  # fmt: skip
+        for words, status, said in calls:
+            found = ended([str(ROOT / words[0]), *words[1:]], ROOT, SECONDS, MEGABYTES, environment=environment)
+            if found is None or found.status != status or not re.search(said, found.error.decode()) or bool(found.output) == bool(status) or TRACEBACK in found.error:
+                yield "\n".join([f"{' '.join(words)} with few modules", *(shown(found) if found else [])])
+
+
+def unreadable_modules_are_told() -> Iterator[str]:
+    """A tool whose modules can't be read, or that finds no Python at all, ends with status 2."""
+    with tempfile.TemporaryDirectory(prefix="cell-unread-") as room:
+        folder = pathlib.Path(room)
+        (folder / "tools").mkdir()
+        shutil.copy(ROOT / "tools" / "race", folder / "tools")
+        alone = ended([str(folder / "tools" / "race")], folder, SECONDS, MEGABYTES)
+        for name in ("sh", "env"):
+            (folder / name).symlink_to(shutil.which(name) or name)
+        without = ended([str(ROOT / "tools" / "race")], folder, SECONDS, MEGABYTES, environment={"PATH": str(folder)})
+        for found, said in ((alone, b"can't start: No module named 'celltools"), (without, b"race: there is no python3: install the package python3\n")):
+            if found is None or found.status != 2 or said not in found.error or TRACEBACK in found.error:
+                yield "\n".join([f"`{said.decode()}` is wanted", *(shown(found) if found else [])])
+
+
 ROWS = [
     Row("a race under plain settings", ["tools/race", "examples/races/reuse_race.cell", "examples/races/reuse_race.out"], 1, printed=r"\Arace 10 14\n",
         before=lambda folder: (folder / "examples").symlink_to(ROOT / "examples"), environment=PLAIN),
     Row("states under plain settings", ["tools/states", "examples/first.cell", "examples/first.out"], 0, printed=r"^end AllStopped\n",
         before=lambda folder: (folder / "examples").symlink_to(ROOT / "examples"), environment=PLAIN),
-    *(Row("a hunt, where its lines aren't completed", ["hunt", "first.cell", "4"], 0, printed=r"(?s)\A4 runs of seed 1: (?!.*half)", examples=["first.cell"],
+    *(Row("a hunt whose lines can't be named", ["hunt", "first.cell", "4", *more], status, said=said, printed=printed, examples=["first.cell"],
           files={"python3": f"#!/bin/sh\n{script}\n".encode()}, before=lambda folder: (folder / "python3").chmod(0o755),
-          environment={"PATH": f".:{os.environ['PATH']}"}) for script in OTHERS),
+          environment={"PATH": f".:{os.environ['PATH']}"}) for script in OTHERS
+      for more, status, said, printed in WITHOUT_PYTHON),
     Row("a name that isn't ASCII", ["tools/from_gas", CYRILLIC], 2, said=rf"\Afrom_gas: {CYRILLIC}: No such file", environment=PLAIN),
 ]
-CHECKS = [each_tool_starts, each_test_loads]
+CHECKS = [each_tool_starts, each_test_loads, minimal_tells_its_package, unreadable_modules_are_told]

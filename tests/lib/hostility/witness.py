@@ -1,4 +1,5 @@
 """Calls of tools/witness: what it writes and what it never writes over, and records that have no race, or of which an order is refused."""
+import os
 import pathlib
 from typing import Any, Callable, Optional
 
@@ -32,6 +33,7 @@ ALIKE = {
     "m.out": b"cell-record 2\nx 0 5\np 0 0 0 0\np 0 1 0 0\nx 0 1\nsteps 8\n",
 }
 WAITS = r"(?s)the second order is refused \([^()]*\): its step 7, x 0 \(step 8 of the record\), isn't allowed there\n.*\n    it waits at channel 29"
+OF_DEVICES = [f"/dev/{name}.{order}" for name in ("full", "new", "linked", "stdin-0") for order in ("first", "second")]
 BOTH, USAGE, TAKEN = "both end AllStopped", "Usage: tools/witness", "is there, so nothing is written"
 
 
@@ -42,6 +44,24 @@ def has_only(*names: str) -> Callable[[pathlib.Path], Optional[str]]:
         changed = [name for name, data in FILES.items() if (folder / name).read_bytes() != data]
         return f"there are {sorted(found)}, and changed are {changed}" if found != {*FILES, *names} or changed else None
     return wrong
+
+
+def leaves_devices(folder: pathlib.Path) -> Optional[str]:
+    """What these rows left among the devices."""
+    found = [name for name in OF_DEVICES if os.path.exists(name)]
+    return f"{found} are there" if found else None
+
+
+def make_pipe(folder: pathlib.Path) -> None:
+    os.mkfifo(folder / "pipe")
+
+
+def link_to_null(folder: pathlib.Path) -> None:
+    (folder / "x.second").symlink_to("/dev/null")
+
+
+def link_among_devices(folder: pathlib.Path) -> None:
+    (folder / "x.first").symlink_to("/dev/linked.first")
 
 
 def keeps_mine(folder: pathlib.Path) -> Optional[str]:
@@ -79,9 +99,24 @@ ROWS = [
     witness("a file that is there, by force", "--force", "m.cell", "m.out", printed=BOTH, files={**FILES, "m.out.second": MINE}, after=are_records),
     witness("the record's own name, by force", "--force", "-o", "m", "m.cell", "m.first", status=2, said="m.first is a file that is read",
             files={**FILES, "m.first": RECORD}),
-    witness("a record that is no plain file", "m.cell", "/dev/null", status=2, said="name those that are to be written by `-o NAME`"),
+    witness("a record that is no plain file", "m.cell", "/dev/null", status=2,
+            said="^witness: /dev/null: it is a device, .*: give the output another name with `-o NAME`$"),
     witness("a record on standard input", "-o", "x", "m.cell", "/dev/stdin", printed=BOTH, standard_input=RECORD, after=has_only("x.first", "x.second")),
     witness("a record that isn't there", "m.cell", "none", status=2, said="cannot read record file", after=has_only()),
+    witness("a device", "-o", "/dev/full", "m.cell", "m.out", status=2, said="^witness: -o /dev/full: it is a device, ", after=leaves_devices),
+    witness("a device, by force", "--force", "-o", "/dev/full", "m.cell", "m.out", status=2, said="^witness: -o /dev/full: it is a device, ",
+            after=leaves_devices),
+    witness("a new name among devices", "-o", "/dev/new", "m.cell", "m.out", status=2, said="^witness: /dev/new.first: /dev is no folder for files",
+            after=leaves_devices),
+    witness("a name in /proc", "-o", "/proc/self/x", "m.cell", "m.out", status=2, said="^witness: /proc/self/x.first: /proc/.* is no folder for files"),
+    witness("a folder", "-o", ".", "m.cell", "m.out", status=2, said="^witness: -o .: it is a folder, ", after=has_only()),
+    witness("a pipe", "-o", "pipe", "m.cell", "m.out", status=2, said="^witness: -o pipe: it is a pipe, ", before=make_pipe, after=has_only("pipe")),
+    witness("a link to a device", "--force", "-o", "x", "m.cell", "m.out", status=2, said="^witness: x.second: it is a device, ", before=link_to_null,
+            after=has_only("x.second")),
+    witness("a link into a folder of devices", "--force", "-o", "x", "m.cell", "m.out", status=2, said="^witness: x.first: /dev is no folder",
+            before=link_among_devices, after=leaves_devices),
+    witness("a run of a hunt of a machine among devices", "--run", "0", "/dev/stdin", status=2, standard_input=MACHINE, after=leaves_devices,
+            said="^witness: /dev/stdin-0.first: /dev is no folder"),
     witness("no race", "first.cell", "first.out", status=2, said="no race: accepted 3", examples=("first.cell", "first.out")),
     witness("an instruction that the other step brings", "m.cell", "m.out", status=1, printed=WAITS, files=BROUGHT, after=has_first_alone),
     witness("a status that nothing orders", "m.cell", "m.out", files=POLLED,

@@ -17,7 +17,7 @@ Status = Union[int, Tuple[int, ...]]
 
 def refused(name: str, words: Sequence[str], status: Status, said: str, files: Dict[str, bytes] = {}) -> Row:
     """A call that is refused at once, with an example's machine file and record, and prints nothing."""
-    return Row(name, words, status, said, printed="", files=files, examples=BOTH, seconds=5, megabytes=512)
+    return Row(name, words, status, said, printed="", files=files, examples=BOTH, seconds=20, megabytes=512)
 
 
 NAMES = [
@@ -57,7 +57,7 @@ NUMBERS = [
     *(refused("a spelling of a place", [TRACER, "before", *BOTH, word], 2, TRACER_FORMS) for word in ("00", "+0", "")),
     *(refused("a spelling of steps", [TRACER, "states", *BOTH, word], 2, TRACER_FORMS) for word in ("03", "+3")),
     *(refused("steps to go on from", [TRACER, "go", *BOTH, word, "c"], 2, TRACER_FORMS, {"c": b""}) for word in ("03", "+3")),
-    Row("an expectation that is named like an option", ["hunt", MACHINE, "1", "--json", "--expect", "-x"], 0, printed=r'\A\{"machine":"first\.cell"',
+    Row("an expectation that is named like an option", ["hunt", MACHINE, "1", "--json", "--expect", "-x"], 0, printed=r'\A\{"part":1,.*"machine":"first\.cell"',
         files={"-x": b""}, examples=BOTH),
     Row("the greatest seed", ["hunt", MACHINE, "1", "18446744073709551615"], 0, printed="^1 runs of seed 18446744073709551615:", examples=BOTH),
     Row("run 0", ["hunt", MACHINE, "record", "0"], 0, printed="^cell-record 2$", examples=BOTH),

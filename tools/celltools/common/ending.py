@@ -1,17 +1,75 @@
-"""How the programs of tools/ and tests/ end: with a status, and without a traceback, whatever a key, a full disk, a closed output or a fault of their own does."""
+"""How the programs of tools/ and tests/ end: with a status, and without a traceback, whatever a key, a full disk, a closed output or a fault of their own does.
+
+All their temporary files are in one folder of the process, which TMPDIR names meanwhile. It is removed at the end, also after a signal.
+"""
 import errno
 import os
 import pathlib
 import signal
 import sys
-from typing import Callable, List, NoReturn
+from types import FrameType
+from typing import Callable, List, NoReturn, Optional
+
+from celltools.common.starting import why_missing
 
 Main = Callable[[List[str]], int]
 STOPPED = 130  # by Ctrl-C
 CLOSED = 141  # what a shell tells of a program whose output was closed early, as by `| head`
 FAILED = 2
 FAULTY = 70  # by a fault of the program itself
+ENDING = (signal.SIGHUP, signal.SIGTERM)  # signals that end a program, besides Ctrl-C
+SIGNALLED = 128  # what a shell adds to a signal's number
 FULL = (errno.ENOSPC, errno.EFBIG, errno.EDQUOT)  # where no more can be written
+
+
+class Ended(BaseException):
+    """A signal that ends the program."""
+
+    def __init__(self, number: int) -> None:
+        super().__init__(number)
+        self.number = number
+
+
+class Room:
+    """The folder of a process for its temporary files. Its name is kept before it is made, so that no signal leaves it behind."""
+
+    def __init__(self) -> None:
+        self.before = os.environ.get("TMPDIR")
+        self.name = ""
+
+    def make(self) -> None:
+        """Makes it, and names it to Python's tempfile and to all programs that are called. If it can't be made, temporary files are made as ever."""
+        for folder in filter(None, (self.before, "/tmp", "/var/tmp")):
+            self.name = os.path.join(folder, f"cell-{os.getpid()}-{os.urandom(8).hex()}")
+            try:
+                os.mkdir(self.name, 0o700)
+            except OSError:
+                self.name = ""
+            else:
+                return name_temporary(self.name)
+
+    def remove(self) -> None:
+        """Removes it with all that is in it."""
+        if not self.name:
+            return
+        name_temporary(self.before)
+        try:
+            os.rmdir(self.name)
+        except OSError:
+            import shutil  # which takes a while to load
+            shutil.rmtree(self.name, ignore_errors=True)
+
+
+def name_temporary(folder: Optional[str]) -> None:
+    """Names the folder for temporary files."""
+    os.environ.pop("TMPDIR", None)
+    if folder is not None:
+        os.environ["TMPDIR"] = folder
+    if "tempfile" in sys.modules:
+        sys.modules["tempfile"].tempdir = None  # type: ignore[attr-defined]
+
+
+ROOM = Room()
 
 
 def end(main: Main, failed: int = FAILED) -> NoReturn:
@@ -28,6 +86,10 @@ def status_of(main: Main, failed: int) -> int:
         return status_or_interrupt(main)
     except KeyboardInterrupt:
         status, said = STOPPED, ""
+    except Ended as why:
+        status, said = SIGNALLED + why.number, ""
+    except ImportError as why:
+        status, said = failed, why_missing(why)
     except BrokenPipeError:
         status, said = CLOSED, ""
     except OSError as why:
@@ -52,14 +114,38 @@ def fault_words(why: OSError) -> str:
 
 
 def status_or_interrupt(main: Main) -> int:
-    """What `main` answers, when all that it printed is written. An interrupt is a KeyboardInterrupt meanwhile, so that temporary files are removed."""
+    """What `main` answers, when all that it printed is written. A signal is an exception meanwhile, so that temporary files are removed."""
     try:
-        signal.signal(signal.SIGINT, signal.default_int_handler)
+        hear_signals()
+        ROOM.make()
         status = status_or_exit(main)
         sys.stdout.flush()
         return status
     finally:
-        signal.signal(signal.SIGINT, signal.SIG_DFL)
+        try:
+            ignore_signals()
+        finally:  # also if a signal came first
+            ROOM.remove()
+            signal.signal(signal.SIGINT, signal.SIG_DFL)
+
+
+def hear_signals() -> None:
+    """Makes exceptions of the signals that end a program, but for those that it was started to ignore, as by nohup."""
+    for number in ENDING:
+        if signal.getsignal(number) is not signal.SIG_IGN:
+            signal.signal(number, end_by)
+    signal.signal(signal.SIGINT, signal.default_int_handler)
+
+
+def end_by(number: int, _: Optional[FrameType]) -> NoReturn:
+    ignore_signals()
+    raise Ended(number)
+
+
+def ignore_signals() -> None:
+    """Lets no further signal disturb the program's end."""
+    for number in (signal.SIGINT, *ENDING):
+        signal.signal(number, signal.SIG_IGN)
 
 
 def status_or_exit(main: Main) -> int:
@@ -73,9 +159,10 @@ def status_or_exit(main: Main) -> int:
 
 
 def end_stopped(fault: "sys.UnraisableHookArgs") -> None:
-    """Ends the program at an interrupt where Python goes on behind an exception, and tells it by a traceback: in a destructor."""
-    if isinstance(fault.exc_value, KeyboardInterrupt):
-        os._exit(STOPPED)
+    """Ends the program at a signal in a destructor: Python would print a traceback and go on."""
+    if isinstance(fault.exc_value, (KeyboardInterrupt, Ended)):
+        ROOM.remove()
+        os._exit(SIGNALLED + fault.exc_value.number if isinstance(fault.exc_value, Ended) else STOPPED)
     sys.__unraisablehook__(fault)
 
 

@@ -8,5 +8,24 @@ PROGRAMS = ("cell_cli", "hunt", "run_trace")  # the proved ones
 
 
 def built(program: str) -> pathlib.Path:
-    """Where one of PROGRAMS is, once it is built."""
+    """The path of one of PROGRAMS, once it is built."""
     return ROOT / "crates" / program / "out" / program
+
+
+def shipped(program: str) -> pathlib.Path:
+    """The path of one of PROGRAMS in bin/, from which it runs in a checkout that can't be written."""
+    return ROOT / "bin" / program
+
+
+def version() -> str:
+    """The version of this product, which the file VERSION has."""
+    return (ROOT / "VERSION").read_text(encoding="ascii").strip()
+
+
+def program_sources(in_place: bool) -> str:
+    """The checksum of the sources of the proved programs: the mark of the build has it, and of those of bin/ the manifest."""
+    mark = built("cell_cli").with_name("built")
+    if mark.is_file() and not in_place:
+        return mark.read_text(encoding="ascii").strip()
+    lines = shipped("MANIFEST").read_text(encoding="ascii").splitlines()
+    return next(line.partition(" ")[2] for line in lines if line.startswith("sources "))

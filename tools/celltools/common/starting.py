@@ -1,8 +1,11 @@
 """How the programs of tools/ and tests/ start: each imports this module before all others. An interrupt then ends it without a word, until `end` of ending.py
 takes over; its modules are found; and its texts are UTF-8 under every locale.
 
-Python tells an interrupt of its own start by a traceback. So the first lines of a tool are for sh, and strings for Python: they start Python with interrupts
-ignored, up to here; and without what is installed beside its own library, which no tool uses and which may take longer to load than the tool.
+Python tells an interrupt of its own start by a traceback. So the first lines of a tool are for sh, and strings for Python: they look for Python, and start it
+with interrupts ignored, up to here; and without what is installed beside its own library, which no tool uses and which may take longer to load than the tool.
+
+A tool that can't start ends with status 2 and a line that says why, never with Python's status 1, which means that something was found. Debian's python3-minimal,
+for example, lacks modules of the standard library.
 """
 # the built-in part of the module `signal`, which is loaded at once
 from _signal import SIG_DFL, SIGINT, signal  # type: ignore[import]
@@ -21,6 +24,8 @@ if TYPE_CHECKING:
 
 OLDEST = (3, 9)  # of the Pythons that the programs are written for
 MISUSED = 2
+STOPPED = 130  # by Ctrl-C
+OWN = ("celltools", "lib")  # packages of this repository
 CLOSED = (os.O_WRONLY, os.O_RDONLY, os.O_WRONLY)  # how a standard file is opened that is closed, so that its use fails
 
 
@@ -52,8 +57,30 @@ def named(name: str, ask: "typing.Callable[..., Answer]", *given: object) -> "An
 def refuse_old() -> None:
     """Ends the program where Python is too old for it."""
     if sys.version_info < OLDEST:
-        print("%s: it wants Python 3.9 or later, and this is %d.%d" % (os.path.basename(sys.argv[0]), *sys.version_info[:2]), file=sys.stderr)
+        print("%s: it requires Python 3.9 or later, and this is %d.%d: install the package python3 of a newer system"
+              % (os.path.basename(sys.argv[0]), *sys.version_info[:2]), file=sys.stderr)
         sys.exit(MISUSED)
+
+
+def why_missing(why: ImportError) -> str:
+    """Why a module can't be loaded, and what to do."""
+    if (why.name or "").partition(".")[0] in OWN:
+        return "its module %s can't be loaded: see that its folder is complete and can be read" % why.name
+    return "this Python has no module %s: install the package python3 (python3-minimal isn't enough)" % (why.name or why)
+
+
+def refuse_unloaded(kind: "typing.Type[BaseException]", why: BaseException, trace: "typing.Any") -> None:
+    """Ends the program at an exception that comes before `end` of ending.py is called: what isn't a missing module is named with its file and line."""
+    if isinstance(why, KeyboardInterrupt):
+        os._exit(STOPPED)
+    said = why_missing(why) if isinstance(why, ImportError) else "%s: %s" % (kind.__name__, why)
+    while trace and trace.tb_next:
+        trace = trace.tb_next
+    place = " in %s, line %d" % (os.path.basename(trace.tb_frame.f_code.co_filename), trace.tb_lineno) if trace and not isinstance(why, ImportError) else ""
+    try:
+        print("%s: can't start%s: %s" % (os.path.basename(sys.argv[0]), place, said), file=sys.stderr, flush=True)
+    finally:
+        os._exit(MISUSED)
 
 
 def find_modules() -> None:
@@ -87,4 +114,4 @@ refuse_old()
 find_modules()
 open_closed()
 name_encodings()
-sys.excepthook = sys.__excepthook__
+sys.excepthook = refuse_unloaded

@@ -6,7 +6,8 @@ from celltools.debugger.calls import open_call
 from celltools.debugger.places import MOST_STEPS, Wrong, actor_of_word, count_of
 from celltools.debugger.session import Session, processor_of_step
 from celltools.debugger.stops import Behind, Stop, Watch, What, found_stops, stop_among
-from celltools.debugger.things import Matter, Target, last_before
+from celltools.debugger.things import KINDS, Matter, Target, last_before
+from celltools.debugger.turns import GREATEST_CHUNK, LEAST_CHUNK, made_by, may_step, name_of, names_of
 from celltools.run.machine_state import Actor, State, actor_of
 from celltools.source.sites import sets_link
 from celltools.telling.states import ENDS
@@ -34,7 +35,7 @@ class Going(Session):
             return self.step_line(" ".join(words))
         if len(words) > 1 or words and number_of(words[0]) is None:
             raise Wrong(f"`{' '.join(words)}` names no step: type a number of steps, an actor (x0, m0, h) with or without one, or a line that `actors` tells")
-        return self.told_move(self.run.place, *self.advance([], count_of(words)))
+        return self.went([], count_of(words))
 
     def step_actor(self, actor: Actor, count: int) -> List[str]:
         """Makes steps of one actor, as long as it has one."""
@@ -100,7 +101,7 @@ class Going(Session):
         if not spe.runs:
             return [f"{self.words.stands(spe)}: it makes no further step; `spe P` looks at another"]
         behind = Behind(self.spe, spe.pc, sets_link(spe.word or 0))
-        return self.told_move(self.run.place, *self.advance([behind, *self.stops.values()], MOST_STEPS))
+        return self.went([behind, *self.stops.values()], MOST_STEPS)
 
     def do_finish(self, words: Sequence[str]) -> List[str]:
         if words:
@@ -108,38 +109,102 @@ class Going(Session):
         call = open_call(self.run, self.sites, self.spe)
         if call is None:
             raise Wrong(f"processor {self.spe} is in no routine that a brsl, brasl or bisl of this run called: `run` goes on")
-        return self.told_move(self.run.place, *self.advance([Behind(self.spe, call, True), *self.stops.values()], MOST_STEPS))
+        return self.went([Behind(self.spe, call, True), *self.stops.values()], MOST_STEPS)
 
     def do_run(self, words: Sequence[str]) -> List[str]:
         words, condition = self.grammar.conditional(words, self.spe)
-        if len(words) > 1 or condition and not words:
-            raise Wrong("type `run`, or `run` and one place to run to: a label, FILE:LINE, an address or a channel")
-        once = [self.stop_at(words[0], range(self.run.spes), condition)] if words else []
-        return self.told_move(self.run.place, *self.advance([*self.stops.values(), *once], MOST_STEPS))
+        actors, places = self.actors_and_places(words)
+        if len(places) > 1 or "until" in words and not places or condition and not places:
+            raise Wrong("type `run`, `run PLACE`, or `run x1 m1 until PLACE` for steps of these actors alone; a place is a label, FILE:LINE, an address"
+                        " or a channel")
+        once = [self.stop_at(places[0], range(self.run.spes), condition)] if places else []
+        return self.went([*self.stops.values(), *once], MOST_STEPS, actors)
+
+    def actors_and_places(self, words: Sequence[str]) -> Tuple[List[Actor], List[str]]:
+        """The actors at the front of the words of `run`, and the others; a label goes before an actor of its name, unless `until` follows."""
+        at = list(words).index("until") if "until" in words else None
+        if at is not None:
+            return self.actors_in(words[:at]), list(words[at + 1:])
+        count = next((k for k, word in enumerate(words) if self.is_place(word) or not actor_of_word(word, self.run.spes)), len(words))
+        return self.actors_in(words[:count]), list(words[count:])
+
+    def is_place(self, word: str) -> bool:
+        return any(self.places.label(word, spe) for spe in range(self.run.spes))
+
+    def actors_in(self, words: Sequence[str]) -> List[Actor]:
+        """The actors that words name."""
+        found = [(word, actor_of_word(word, self.run.spes)) for word in words]
+        for word, actor in found:
+            if actor is None:
+                raise Wrong(f"`{word}` is no actor: type x0 (processor 0), m0 (its MFC) or h (the host)")
+        return [actor for _, actor in found if actor]
+
+    def went(self, whats: Sequence[What], most: int, actors: Sequence[Actor] = ()) -> List[str]:
+        """Goes on by up to so many steps, until one of these stops it: all actors take turns, or only those that are named, or else those that aren't held.
+        Answers what is told of it."""
+        start, left = self.run.place, len(self.run.left)
+        if not actors and not self.held:
+            return self.told_move(start, *self.advance(whats, most))
+        alone = actors or self.not_held()
+        self.spe = next((number for _, number in actors if number is not None), self.spe)
+        stop, is_at_end = self.advance_alone(alone, whats, most)
+        return [*self.told_left(left), *self.told_move(start, stop, is_at_end), *([] if stop else self.told_blocked(actors))]
+
+    def not_held(self) -> List[Actor]:
+        return [actor for actor in self.run.state().actors() if actor not in self.held]
+
+    def told_blocked(self, actors: Sequence[Actor]) -> List[str]:
+        """Says that none of the actors has a step that were to go on alone, if so."""
+        state = self.run.state()
+        if not state.may or may_step(state, actors or self.not_held()):
+            return []
+        if actors:
+            return [f"no step of {names_of(actors)} is allowed now: `actors` lists those that may step"]
+        return [f"all that may step are held, {names_of(may_step(state, self.held))}: `release` lets them step"]
 
     def advance(self, whats: Sequence[What], most: int) -> Tuple[Optional[Stop], bool]:
-        """Makes up to so many steps, until one of these stops it: those that lie ahead, or else the actors take turns. Answers the stop, and whether
-        it came to the end of what lay ahead."""
+        """Makes up to so many steps, until one of these stops it: those that lie ahead, or else all actors take turns. Answers the stop, and whether it came
+        to the end of what lay ahead."""
         if self.run.ahead:
-            return self.advance_ahead(whats, most)
+            return self.advance_ahead(whats, min(most, self.run.ahead))
         for size in self.chunks(most):
             start = self.run.place
             lines, state = self.run.make(list(turns(start, size, 2 * self.run.spes + 1)))
             self.run.take(lines, state)
-            try:
-                stop = self.first_stop(whats, start, start + len(lines))
-            except BaseException:  # a condition that can't be told, or an interrupt: these steps weren't looked at to their end
-                self.run.drop(start)
-                raise
-            if stop:
-                self.run.drop(stop.behind)
+            stop = self.stop_since(start, whats)
             if stop or len(lines) < size:
                 return stop, False
         return None, False
 
-    def advance_ahead(self, whats: Sequence[What], most: int) -> Tuple[Optional[Stop], bool]:
-        """The same for steps that lie ahead."""
-        end = self.run.place + min(most, self.run.ahead)
+    def advance_alone(self, actors: Sequence[Actor], whats: Sequence[What], most: int) -> Tuple[Optional[Stop], bool]:
+        """The same of some actors: what lies ahead is gone on by up to the first step of another."""
+        ahead = self.run.heads[self.run.place:][:most]
+        own = next((k for k, head in enumerate(ahead) if actor_of(head) not in actors), len(ahead))
+        stop, is_at_end = self.advance_ahead(whats, own) if own else (None, False)
+        size, most = LEAST_CHUNK, most - own
+        while most and not stop and not is_at_end:
+            start = self.run.place
+            made, is_whole = made_by(self.run, actors, min(size, most))
+            if not made:
+                break
+            stop, most = self.stop_since(start, whats), most - made
+            size = min(2 * size, GREATEST_CHUNK) if is_whole else LEAST_CHUNK
+        return stop, is_at_end
+
+    def stop_since(self, start: int, whats: Sequence[What]) -> Optional[Stop]:
+        """What stops the run in the steps that were just made from a place on; the steps after the stop are forgotten."""
+        try:
+            stop = self.first_stop(whats, start, self.run.place)
+        except BaseException:  # a condition that can't be told, or an interrupt: these steps weren't looked at to their end
+            self.run.drop(start)
+            raise
+        if stop:
+            self.run.drop(stop.behind)
+        return stop
+
+    def advance_ahead(self, whats: Sequence[What], count: int) -> Tuple[Optional[Stop], bool]:
+        """Goes on by so many steps that lie ahead, until one of these stops it."""
+        end = self.run.place + count
         stop = self.first_stop(whats, self.run.place, end)
         self.run.place = stop.behind if stop else end
         return stop, not stop and not self.run.ahead
@@ -183,6 +248,23 @@ class Going(Session):
             del self.stops[number]
         return lines + (thing.told(self.run, self.run.place - 1) if thing else [])
 
+    # ---- who takes turns
+
+    def do_hold(self, words: Sequence[str]) -> List[str]:
+        """Holds actors, or lists those that are held."""
+        self.held += [actor for actor in self.actors_in(words) if actor not in self.held]
+        return [f"held: {names_of(self.held)} (no step while the others take turns)" if self.held else "no actor is held: `hold x1` holds one"]
+
+    def do_release(self, words: Sequence[str]) -> List[str]:
+        if not words:
+            raise Wrong("type `release` and actors that are held, or `release all`")
+        released = list(self.held) if list(words) == ["all"] else self.actors_in(words)
+        for actor in released:
+            if actor not in self.held:
+                raise Wrong(f"{name_of(actor)} isn't held: `hold` lists those that are")
+        self.held = [actor for actor in self.held if actor not in released]
+        return self.do_hold([])
+
     # ---- going back
 
     def do_back(self, words: Sequence[str]) -> List[str]:
@@ -213,7 +295,7 @@ class Going(Session):
 
     def do_last(self, words: Sequence[str]) -> List[str]:
         if not words:
-            raise Wrong("type `last` and what was done: a range, a register, mailbox, signal, event, stall, reservation, lost or fault; `help last` has more")
+            raise Wrong(f"type `last` and what was done: a range, a register, {', '.join(KINDS)}; `help last` has more")
         thing = self.things.thing(words, self.spe)
         place = last_before(thing, self.run.place)
         if place is None:

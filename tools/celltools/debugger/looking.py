@@ -6,6 +6,7 @@ from celltools.debugger.grammar import with_width
 from celltools.debugger.places import PLAIN_SIZE, STORE, Wrong, processor_of
 from celltools.debugger.session import Session
 from celltools.debugger.stops import Break
+from celltools.debugger.turns import names_of
 from celltools.run.effects import Span
 from celltools.run.machine_state import Spe
 from celltools.source.sites import Site
@@ -25,7 +26,8 @@ class Looking(Session):
         return [self.told_count(), *self.words.where(self.run.state(), self.spe)]
 
     def do_actors(self, words: Sequence[str]) -> Iterable[str]:
-        return self.words.actors(self.run.state())
+        held = [f"held: {names_of(self.held)}"] if self.held else []
+        return [*self.words.actors(self.run.state()), *held]
 
     def do_spe(self, words: Sequence[str]) -> List[str]:
         if len(words) > 1:

@@ -6,7 +6,7 @@ from celltools.debugger.grammar import Condition, Grammar
 from celltools.debugger.places import Places, Wrong
 from celltools.debugger.stops import Break, ChannelBreak, What
 from celltools.debugger.things import KINDS, Things
-from celltools.run.machine_state import State, actor_of
+from celltools.run.machine_state import Actor, State, actor_of
 from celltools.run.stepping import Run
 from celltools.source.channels import NAMES, channel_named
 from celltools.source.sites import Sites
@@ -17,12 +17,13 @@ from celltools.telling.words import counted
 class Session:
     """How a session stands."""
 
-    def __init__(self, run: Run, sites: Sites) -> None:
+    def __init__(self, run: Run, sites: Sites, spe: Optional[int] = None) -> None:
         self.run, self.sites = run, sites
         self.places, self.words = Places(sites), Words(run, sites)
         self.grammar = Grammar(run, self.places)
         self.things = Things(self.grammar, run.trace, sites)
-        self.spe = processor_of_step(run.next_head) or 0  # that is looked at: at first that of the next step
+        self.spe = processor_of_step(run.next_head) or 0 if spe is None else spe  # that is looked at: at first that of the next step
+        self.held: List[Actor] = []  # the actors that make no step while others take turns
         self.stops: Dict[int, What] = {}
         self.count = 0
         self.displays: Dict[int, Tuple[List[str], Optional[int]]] = {}  # what is shown at each stop, with its width

@@ -15,12 +15,14 @@ from celltools.telling.executed import Executed
 from celltools.telling.happenings import Happenings, Key, Kind
 from celltools.telling.states import dump, quad
 
+SETS = (Kind.EVENT, Kind.STALL, Kind.TAG)  # whose keys are sets of bits
 SHOWN = 16  # bytes of a range that are shown
 KINDS = {kind.value: kind for kind in Kind}
 BOXES = ("in", "out", "intr")
 KEYS = {
     Kind.MAILBOX: "in, out or intr", Kind.SIGNAL: "1 or 2", Kind.EVENT: "the bits of an event or its name, as 0x10 or MFC_IN_MBOX_AVAILABLE_EVENT",
-    Kind.STALL: "a tag, from 0 to 31", Kind.RESERVATION: "the address of a line of main memory",
+    Kind.STALL: "a tag, from 0 to 31", Kind.TAG: "a tag, from 0 to 31", Kind.RESERVATION: "the address of a line of main memory",
+    Kind.ATOMIC: "the address of a line of main memory",
 }  # fmt: skip
 
 
@@ -115,8 +117,8 @@ class Matter(Thing):
                 if it.kind == self.kind and self.spe in (None, it.spe) and (self.key is None or self.is_key(it.key))]
 
     def is_key(self, key: Key) -> bool:
-        """Whether a happening's key is the one that is asked for: of events and stalls it is a set of bits."""
-        if isinstance(self.key, int) and isinstance(key, int) and self.kind in (Kind.EVENT, Kind.STALL):
+        """Whether a happening's key is the one that is asked for: of events, stalls and tags it is a set of bits."""
+        if isinstance(self.key, int) and isinstance(key, int) and self.kind in SETS:
             return bool(self.key & key)
         return self.key == key
 
@@ -172,9 +174,9 @@ def key_of(kind: Kind, word: str) -> Key:
     number = VALUES.get(word) if kind == Kind.EVENT and word in VALUES else number_of(word)
     if number is None:
         return None
-    if kind == Kind.STALL:
+    if kind in (Kind.STALL, Kind.TAG):
         return 1 << number if number < 32 else None
-    if kind == Kind.RESERVATION:
+    if kind in (Kind.RESERVATION, Kind.ATOMIC):
         return number // MEMORY_LINE * MEMORY_LINE
     return number if kind == Kind.EVENT or number in (1, 2) else None
 

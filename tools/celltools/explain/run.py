@@ -1,4 +1,4 @@
-"""Warns of what a record tells of its run: faults of processors, and that it is no run of the machine file that is explained before it."""
+"""Warns of what a record tells of its run: faults and halts of processors, and that it is no run of the machine file that is explained before it."""
 import contextlib
 import os
 import pathlib
@@ -10,9 +10,9 @@ from celltools.common.texts import quoted, shown
 from celltools.explain.report import in_latin
 from celltools.run.runs import NO_RUN, Refused, verdict
 from celltools.run.snapshots import Snapshot
-from celltools.telling.faults import FAULTS, faults_of
+from celltools.telling.faults import FAULTS, HALTED, faults_of
 
-FAULT = re.compile(rf"spe (\d{{1,2}}) ((?:{'|'.join(FAULTS)})(?: \w+)?) pc .*".encode())
+FAULT = re.compile(rf"spe (\d{{1,2}}) ((?:{'|'.join((*FAULTS, HALTED))})(?: \w+)?) pc .*".encode())
 
 
 def machine_of(record: str, machines: Dict[str, bytes]) -> Optional[str]:
@@ -32,15 +32,17 @@ def kept(*files: Tuple[str, bytes]) -> Iterator[Tuple[Snapshot, ...]]:
 
 
 def faults_told(data: bytes) -> Dict[int, Tuple[int, str]]:
-    """The processors of which the states tell a fault, each with the number of the line and the status."""
+    """The processors that have a fault or halted by the states, each with the number of the line and the status."""
     lines = ((number, FAULT.fullmatch(line)) for number, line in enumerate(data.split(b"\n"), 1) if line.startswith(b"spe "))
     return {int(fault[1]): (number, in_latin(fault[2])) for number, fault in lines if fault}
 
 
 def of_faults(name: str, data: bytes, faults: Dict[int, str]) -> Iterator[Tuple[str, str]]:
-    """A warning of each fault: what it was, where that is known, or else how that is seen."""
+    """A warning of each fault and each halt: what it was, if that is known, or else how to see it."""
     for spe, (number, status) in faults_told(data).items():
-        yield f"{name}:{number}", shown(faults.get(spe, f"processor {spe} has a fault, {status}: tools/states MACHINE {quoted(name)} says what it was"))
+        is_halt = status == HALTED
+        what, seen = ("halted", "the instruction and its values") if is_halt else (f"has a fault, {status}", "the reason")
+        yield f"{name}:{number}", shown(faults.get(spe, f"processor {spe} {what}: tools/states MACHINE {quoted(name)} prints {seen}"))
 
 
 def run_warnings(name: str, data: bytes, machines: Dict[str, bytes]) -> Iterator[Tuple[str, str]]:

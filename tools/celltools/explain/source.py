@@ -6,6 +6,7 @@ from typing import Collection, Dict, Iterable, Iterator, List, Optional, Sequenc
 from celltools.explain.report import MOST, Report, cell_of, in_latin, short
 from celltools.source.channels import VALUES
 from celltools.source.gas import refused_lines
+from celltools.source.gas_words import ALIGNING, DROPPED, SETS, by_its_case, why_no_directive, why_no_instruction
 from celltools.source.language import CHANNEL, DATA, FORMS, NAME, NUMBER, REGISTER, RELATIVE_FORMS, SECTIONS, SKIPPED, STORE, STRINGS
 from celltools.source.language import cut, is_text_section, number_in, operand_forms, without_comments
 
@@ -24,14 +25,7 @@ KINDS = {
     "Undefined": "no line defines the label (there is no linker)",
     "OutOfRange": "a value outside its range",
 }
-FLOATING = set(
-    "fa fs fm fma fms fnms dfa dfs dfm dfma dfms dfnms dfnma frest frsqest fi csflt cflts cuflt cfltu frds fesd fceq fcmeq"
-    " fcgt fcmgt dfceq dfcmeq dfcgt dfcmgt dftsv fscrwr fscrrd".split()
-)
-REWRITTEN = set(
-    ".zero .comm .lcomm .set .equ .equiv .half .balign .fill .hidden .previous .pushsection .popsection .internal"
-    " .protected hbrp syncc".split()
-)
+REWRITTEN = {*ALIGNING, *SETS, *DROPPED, *".zero .comm .lcomm .half .fill .previous .pushsection .popsection hbrp syncc".split()}  # by from_gas
 LABELS = re.compile(r"\s*((?:[A-Za-z_.][\w.]*\s*:\s*)*)(.*)", re.S | re.A)
 WORD = re.compile(r"[\w.$]+")
 CLOSED = re.compile(r'"[^"\\]*(?:\\.[^"\\]*)*("?)')  # a string, and whether something closes it
@@ -172,13 +166,12 @@ def why_name(statement: str) -> str:
         return "names have no values but labels" + BY_TOOL
     if word.lower() in OPERANDS or word.lower() in SECTIONS | SKIPPED | STRINGS | set(DATA):
         return f"`{word}`: mnemonics and directives are written in small letters"
-    if word in FLOATING:
-        return f"`{word}` is a floating-point instruction: the machine knows the integer part alone"
     if word.lower() in REWRITTEN:
         return f"`{word}` is no word of the language" + BY_TOOL
-    if word.startswith("."):
-        return f"`{word}` is no directive of the language (those of debugging go where a compiler has no -g)"
-    return f"`{word}` is no mnemonic of the integer part"
+    directive = by_its_case(word)
+    if directive.startswith(".") and not word.startswith("."):
+        return f"`{word}`: a directive begins with a dot" + BY_TOOL
+    return why_no_directive(directive) if directive.startswith(".") else why_no_instruction(word.lower())
 
 
 def why_directive(statement: str, in_text: bool) -> Optional[str]:

@@ -9,6 +9,7 @@ MOST_PLACES = 4  # of a processor
 END = re.compile(r"end (\d+) \d+ ([^|]*)(?: \| (.*))?", re.A)
 PART = re.compile(r"(\d+) (.*)", re.A)
 PLACE = re.compile(r"running at (0x[0-9a-f]+)(?: (.+))?")
+ENDED = re.compile(r"(halted|badword|badchannel|dmafault \w+)(?: .+)?")  # by an instruction whose place is known of a few runs alone
 BEHIND = ("missed ", "left out ")  # the lines behind the ends
 Block = List[str]
 
@@ -31,8 +32,10 @@ def is_spent(block: Block) -> bool:
 
 
 def place_words(status: str) -> str:
-    """A processor's status, with the line of its instruction in place of the address where it is known."""
-    found = PLACE.fullmatch(status)
+    """A processor's status: of one that runs with the line of its instruction in place of the address, if it is known."""
+    found, ended = PLACE.fullmatch(status), ENDED.fullmatch(status)
+    if ended:
+        return ended[1]
     return f"running at {found[2] or found[1]}" if found else status
 
 

@@ -1,21 +1,17 @@
 """What ./hunt adds to what its program prints: behind each place of an instruction the file and the line that placed it, and under each ending that isn't as it
 should be what its processors wait for, or what their faults were. Of the objects of --json it adds the same as members, `places` and `words`."""
-import hashlib
 import re
-from typing import Iterator, List, Optional
+from typing import Iterator, List, Mapping, NamedTuple, Optional, Sequence
 
-from celltools.common.texts import bytes_of
-from celltools.hunt.outputs import Explained, Json, has_fault
+from celltools.hunt.endings import STOPPED, Explained, has_fault, has_halt
 from celltools.run.hunted import record_of_hunt
-from celltools.run.plans import sources_of
 from celltools.run.runs import Refused
 from celltools.run.snapshots import Snapshot
 from celltools.source.sites import Sites
-from celltools.telling.faults import faults_of
+from celltools.telling.faults import addresses_of_faults, faults_of
 from celltools.telling.waiting import waiting_of
 
 SITE = re.compile(r"\b(?:[xpear] (\d+) at 0x([0-9a-f]+)|(\d+) running at 0x([0-9a-f]+)|h (\d+))\b", re.A)
-FINE = "AllStopped"
 
 
 def place_of(sites: Sites, part: str) -> Optional[str]:
@@ -27,9 +23,14 @@ def place_of(sites: Sites, part: str) -> Optional[str]:
     try:
         if action is not None:
             return f"{sites.machine}:{sites.script[int(action)][0]}"
-        site = sites.at(int(step_of or spe_of), int(step_at or spe_at, 16))
+        return place_at(sites, int(step_of or spe_of), int(step_at or spe_at, 16))
     except (IndexError, ValueError):  # also of a number with more digits than Python reads
         raise Refused(f"`{part}` is no site of {sites.machine}: give the machine file that was hunted") from None
+
+
+def place_at(sites: Sites, spe: int, address: int) -> Optional[str]:
+    """The file and the line that placed an instruction; None if no line did."""
+    site = sites.at(spe, address)
     return site.origin or f"{site.file}:{site.number}" if site.number else None
 
 
@@ -38,48 +39,52 @@ def places_of(sites: Sites, line: str) -> List[Optional[str]]:
     return [place_of(sites, part) for part in line.split(" | ")[1:]]
 
 
-def named(sites: Sites, line: str) -> str:
+def with_places(line: str, places: Sequence[Optional[str]]) -> str:
     """The line with the places of its parts."""
     head, *parts = line.split(" | ")
-    return " | ".join([head, *(f"{part} {place}" if place else part for part, place in zip(parts, places_of(sites, line)))])
+    return " | ".join([head, *(f"{part} {place}" if place else part for part, place in zip(parts, places))])
+
+
+class Ending(NamedTuple):
+    """What is added to an ending: lines of words, and the places of faults and halts, by the processors."""
+    words: Sequence[str] = ()
+    places: Mapping[int, Optional[str]] = {}
 
 
 class Explainer:
-    """Says of endings what their processors wait for and what their faults were, by making the first run of each once more."""
+    """Says of endings what their processors wait for, and what their faults were and where, by making the first run of each once more."""
 
     def __init__(self, machine: Snapshot, seed: int) -> None:
         self.machine, self.seed, self.explained = machine, seed, Explained()
 
-    def words(self, ending: str, run: int) -> List[str]:
+    def of(self, ending: str, run: int, sites: Sites) -> Ending:
         """What there is to say of the ending of a run; nothing of one where all has stopped as it should, nor where too many were explained."""
         if not self.explained.takes(ending):
-            return []
+            return Ending()
         record = record_of_hunt(self.machine, run, self.seed)
-        waiting = [] if ending.startswith(FINE) else waiting_of(self.machine, record)
-        return [*waiting, *(faults_of(self.machine, record) if has_fault(ending) else [])]
+        waiting = [] if ending.startswith(STOPPED) else waiting_of(self.machine, record)
+        faults = faults_of(self.machine, record) if has_fault(ending) else []
+        addresses = addresses_of_faults(self.machine, record) if has_fault(ending) or has_halt(ending) else {}
+        return Ending([*waiting, *faults], {spe: place_at(sites, spe, address) for spe, address in addresses.items()})
 
 
-def sum_of_files(machine: str, others: List[str]) -> str:
-    """A checksum of a machine file, its sources, and other files, by their bytes and in this order."""
-    whole = hashlib.sha256()
-    for name in [machine, *sources_of(machine), *others]:
-        whole.update(hashlib.sha256(bytes_of(name)).digest())
-    return whole.hexdigest()
+def end_places(sites: Sites, ending: str, found: Ending) -> List[Optional[str]]:
+    """The places of an ending's processors: of one that runs where it is, and of one with a fault or a halt where that came."""
+    return [place or found.places.get(spe) for spe, place in enumerate(places_of(sites, ending))]
 
 
-def completed(members: Json, sites: Sites, explainer: Explainer) -> Json:
-    """An object of --json with its places and words."""
-    if "race" in members and "key" in members:
-        return {**members, "places": places_of(sites, members["race"])}
-    if "end" in members and "result" not in members:
-        return {**members, "places": places_of(sites, members["end"]), "words": explainer.words(members["end"], members["first"])}
-    return members
+def end_line(sites: Sites, line: str, found: Ending) -> str:
+    """The line of an ending with the places of its processors."""
+    return with_places(line, end_places(sites, line, found))
 
 
 def explained(lines: List[str], sites: Sites, explainer: Explainer) -> Iterator[str]:
     """The lines of the text with their places, and with words under endings."""
     for line in lines:
-        yield named(sites, line)
         if line.startswith("end "):
             _, _, run, ending = line.split(" ", 3)
-            yield from (f"    {words}" for words in explainer.words(ending, int(run)))
+            found = explainer.of(ending, int(run), sites)
+            yield end_line(sites, line, found)
+            yield from (f"    {words}" for words in found.words)
+        else:
+            yield with_places(line, places_of(sites, line))

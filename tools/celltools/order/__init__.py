@@ -1,1 +1,1 @@
-"""docs/ORDER.md as a graph, and why nothing orders two steps."""
+"""docs/reference/order.md as a graph, and why nothing orders two steps."""

@@ -1,4 +1,4 @@
-"""What orders the steps of a run: docs/ORDER.md as a graph of which the paths are the order, made in one pass over the run.
+"""What orders the steps of a run: docs/reference/order.md as a graph of which the paths are the order, made in one pass over the run.
 
 A node is a step, by its place, or a set of nodes, by a number below 0: the steps of a command, the commands of a tag so far, and so on. A rule leads from a
 step to the nodes that it orders directly before that step; so each step has few edges, however many steps a set has. That the steps of a program come one
@@ -124,7 +124,7 @@ class Order:
         self.join(flow, member)
 
     def waits(self, flow: Flow, command: Command) -> Tuple[Pair, Pair]:
-        """The earlier commands that go before one: docs/ORDER.md, Queue."""
+        """The earlier commands that go before one: docs/reference/order.md, Queue."""
         marked = command.mark in ("fence", "barrier")
         of_tag = flow.of_tag[command.tag][1][-1] if command.tag in flow.of_tag else (None, None)
         return (of_tag if marked else flow.barred.get(command.tag, (None, None)), flow.all if command.kind == "barrier" else flow.barriers)

@@ -1,4 +1,4 @@
-"""Why nothing orders two steps that race, and what would: what their sides did between them, held against the rules of docs/ORDER.md."""
+"""Why nothing orders two steps that race, and what would: what their sides did between them, held against the rules of docs/reference/order.md."""
 import functools
 import re
 from typing import List, Optional, Sequence, Union

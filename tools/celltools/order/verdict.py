@@ -47,7 +47,7 @@ def told(machine: Path, record: Path, files: str) -> Tuple[List[str], bool]:
     states = ask_tracer("states", machine, record)
     faults = faults_of(machine, record) if has_faults(states) else []
     if said[0].startswith("race "):
-        return [*told_race(machine, record, *map(int, said[0].split()[1:3])), *(paragraph("faults", faults) if faults else [])], True
+        return [*told_race(machine, record, *map(int, said[0].split()[1:3])), *(paragraph("faults and halts", faults) if faults else [])], True
     end = end_of([*record_lines(record), *states])
     more = [END_WORDS[end].format(files=files)] if end in END_WORDS else []
     return [f"no race: {said[0]}", *more, *faults], False

@@ -6,7 +6,7 @@ from typing import Dict, List
 IMPORT = re.compile(r"^import (?:\{([^}]*)\}|\* as (\w+)) from '([^']+)';\n", re.M)
 DECLARED = re.compile(r"^export (?:async )?(?:function\*?|const|class) ([\w$]+)", re.M)
 LISTED = re.compile(r"^export \{([^}]*)\};\n", re.M)
-COMMENT = re.compile(r"^\s*(?://.*|/\*\*.*\*/)\n|^/\*\*\n(?: \*.*\n)* \*/\n", re.M)
+COMMENT = re.compile(r"^\s*(?://.*|/\*\*(?:[^*]|\*(?!/))*\*/)\n", re.M)
 
 
 class Unmade(Exception):

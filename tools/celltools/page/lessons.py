@@ -1,4 +1,4 @@
-"""The lessons and examples of the page, from docs/GALLERY.md and docs/READING.md, with the files that they name."""
+"""The lessons and examples of the page, from docs/guide/gallery.md and docs/guide/own-program.md, with the files that they name."""
 import re
 from typing import Any, Dict, Iterator, List, Optional
 
@@ -41,7 +41,7 @@ def machine_of(name: str) -> str:
 def lessons() -> Iterator[Entry]:
     """The groups of the gallery, each with its lessons."""
     group: Optional[Entry] = None
-    for part in re.split(r"^(?=##)", (ROOT / "docs" / "GALLERY.md").read_text(encoding="utf-8"), flags=re.M):
+    for part in re.split(r"^(?=##)", (ROOT / "docs" / "guide" / "gallery.md").read_text(encoding="utf-8"), flags=re.M):
         heading, lesson = GROUP.match(part), LESSON.match(part)
         if heading:
             if group and group["examples"]:
@@ -57,7 +57,7 @@ def lesson_of(title: str, text: str) -> Entry:
     """A lesson, from its part of the page."""
     record, mends = RECORD.search(text), MENDS.search(text)
     if record is None or mends is None:
-        raise Unmade(f"docs/GALLERY.md: `{title}` has no command of tools/picture, or no **What mends it** with the program's name in parentheses")
+        raise Unmade(f"docs/guide/gallery.md: `{title}` has no command of tools/picture, or no **What mends it** with the program's name in parentheses")
     words = [plain(said) for said in text[:record.start()].split("\n\n") if said.strip() and not said.startswith("    ")]
     return example(record[1], title, words, capital(plain(mends[2])), mends[1])
 
@@ -81,7 +81,7 @@ def beginning(text: str) -> str:
 
 def others() -> Iterator[Entry]:
     """The examples that READING has, those that hang, and the mended programs."""
-    rows = ROW.findall((ROOT / "docs" / "READING.md").read_text(encoding="utf-8"))
+    rows = ROW.findall((ROOT / "docs" / "guide" / "own-program.md").read_text(encoding="utf-8"))
     found = ((re.findall(r"`(\w+)`", names), capital(plain(what))) for names, what in rows)
     named = [(name, what if len(names) == 1 else f"{capital(name)}, one of {what[:1].lower()}{what[1:]}") for names, what in found for name in names]
     yield {"title": "Examples", "examples": [example(name, what, head_of(name)) for name, what in named if (ROOT / machine_of(name)).is_file()]}
@@ -96,9 +96,9 @@ def mended(groups: List[Entry]) -> Entry:
 
 
 def own_program() -> Dict[str, str]:
-    """The program of README that a reader writes, by its files."""
-    text = (ROOT / "README.md").read_text(encoding="utf-8")
-    section = text[text.index("## Your own program"):]
+    """The program of own-program.md that a reader writes, by its files."""
+    text = (ROOT / "docs" / "guide" / "own-program.md").read_text(encoding="utf-8")
+    section = text[text.index("## Write it"):]
     return {name: re.sub(r"^    ", "", block.strip("\n") + "\n", flags=re.M) for name, block in OWN.findall(section) if name.startswith("ten.")}
 
 

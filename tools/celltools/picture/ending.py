@@ -4,9 +4,10 @@ import enum
 from typing import TYPE_CHECKING, Callable, Dict, Iterator, List, Optional, Tuple
 
 from celltools.order.graph import HOST
+from celltools.run.effects import Key
+from celltools.telling.ends import Last, first_to_see
 from celltools.telling.faults import faults_of
 from celltools.telling.waiting import waiting_of
-from celltools.run.effects import Key
 from celltools.telling.words import name_of, with_article
 
 if TYPE_CHECKING:
@@ -31,6 +32,7 @@ class Ending:
     words: str        # beside the verdict
     title: str        # of what is told
     said: List[Said]  # of a run that ended well nothing
+    last: Optional[int]  # the last step of the processor at which to look first, if one failed or waits
 
     @property
     def told(self) -> Dict[str, object]:
@@ -43,7 +45,22 @@ def ending_of(run: "Run") -> Ending:
     words = list(words_of(run))
     is_well = words == ["AllStopped"]
     level = Level.BAD if run.pair or spes_that(run, "is_fault") else Level.GOOD if is_well else Level.WARNED
-    return Ending(level, ", ".join(words), TITLES.get(run.end.word, "How it ended"), [] if is_well else list(said_of(run)))
+    return Ending(level, ", ".join(words), TITLES.get(run.end.word, "How it ended"), [] if is_well else list(said_of(run)), last_to_see(run))
+
+
+def last_to_see(run: "Run") -> Optional[int]:
+    """The last step of the processor at which to look first: of one that halted or has a fault, or of a run that is stuck of one that waits."""
+    waiting = spes_that(run, "is_running") if run.end.word == "Stuck" else []
+    found = first_to_see([Last(last_step(run, spe), spe) for spe in spes_that(run, "has_failed")], [Last(last_step(run, spe), spe) for spe in waiting])
+    return max(0, found.place) if found else None
+
+
+def last_step(run: "Run", spe: int) -> int:
+    """The last step of a processor; of one that has a fault also that of its flow controller, which makes none after it. -1 if it made none."""
+    own = last_of(run, spe)
+    if not run.end.spes[spe].is_fault:
+        return -1 if own is None else own
+    return next((place for place in range(run.count - 1, -1, -1) if run.trace.steps[place].spe == spe), -1)
 
 
 def words_of(run: "Run") -> Iterator[str]:
@@ -81,9 +98,7 @@ def agreed(spes: List[int], verb: str) -> str:
 def said_of(run: "Run") -> Iterator[Said]:
     """What each processor, command and the host waits for, has or did at the end."""
     yield from of_processors(run, "is_running", waiting_of)
-    yield from of_processors(run, "is_fault", faults_of)
-    for spe in spes_that(run, "is_halted"):
-        yield f"processor {spe} halted: the condition of a halt instruction held", last_of(run, spe)
+    yield from of_processors(run, "has_failed", faults_of)
     for spe, number in sorted(run.end.outstanding):
         steps = run.steps_of((spe, number))
         yield command_wait(run, (spe, number)), steps[-1] if steps else run.trace.issues[spe, number]

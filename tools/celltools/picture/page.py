@@ -53,10 +53,11 @@ def nearest(keys: List[int], focus: int) -> List[int]:
 
 
 def focus_of(run: Run) -> int:
-    """The step at which the page opens: a race, the end of a run that didn't end well, or the beginning."""
+    """The step at which the page opens: a race; the last step of the processor that halted, has a fault, or waits in a run that is stuck; the end of another
+    run that didn't end well; or the beginning."""
     if run.pair:
         return run.pair[1]
-    return 0 if run.ending.level is Level.GOOD else max(0, run.count - 1)
+    return 0 if run.ending.level is Level.GOOD else max(0, run.count - 1 if run.ending.last is None else run.ending.last)
 
 
 def sites_of(run: Run) -> Tuple[List[SourceLine], Code]:

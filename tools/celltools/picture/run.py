@@ -29,6 +29,7 @@ class Status:
         self.is_running = self.text == "running"
         self.is_halted = self.text == "halted"
         self.is_fault = self.text.startswith(FAULTS)
+        self.has_failed = self.is_fault or self.is_halted
 
 
 class End:

@@ -7,13 +7,13 @@ import subprocess
 import sys
 from typing import TYPE_CHECKING, Iterable, List, Sequence, Union
 
-from celltools.common.repository import LAUNCH, built
+from celltools.common.repository import LAUNCH, built, shipped
 from celltools.common.texts import bytes_of, quoted
 
 Path = Union[str, "os.PathLike[str]"]
 if TYPE_CHECKING:
     Done = subprocess.CompletedProcess[str]
-UNPROVED = 3  # what it answers where the programs are to be run unproved
+BUILT, UNPROVED, IN_PLACE = 0, 3, 4  # statuses of tools/launch --build: built, to be run unproved, to be run from bin/
 
 # What to do next, by what `cell` says of a run.
 ADVICE = [
@@ -117,19 +117,22 @@ def why_no_run(said: str, machine: Path, record: Path) -> str:
 
 
 @functools.cache  # the sources are looked at once, however often a program is asked
-def prepare() -> bool:
-    """Sees that the programs are built, which tells how far it is where they aren't. Whether they are proved: False where they are to be run unproved."""
+def prepare() -> int:
+    """Builds the programs unless they are built, with its progress on standard error. Returns BUILT, UNPROVED or IN_PLACE."""
     status = subprocess.run([LAUNCH, "--build"], stdin=subprocess.DEVNULL).returncode
-    if status not in (0, UNPROVED):
+    if status not in (BUILT, UNPROVED, IN_PLACE):
         raise Refused("the programs that it asks aren't built")
     if status == UNPROVED:
         print("running UNPROVED code, since CELL_TRY is set", file=sys.stderr)
-    return status == 0
+    return status
 
 
 def command_of(program: str) -> List[Path]:
-    """How the words begin by which a program is called: it is asked itself where it is proved, since the sources have been looked at."""
-    return [built(program)] if prepare() else [LAUNCH, program]
+    """The first words of a program's call. A proved program is called by its path: the sources have been looked at."""
+    status = prepare()
+    if status == UNPROVED:
+        return [LAUNCH, program]
+    return [shipped(program) if status == IN_PLACE else built(program)]
 
 
 def asked(program: str, *words: Path) -> "Done":

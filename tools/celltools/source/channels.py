@@ -8,6 +8,7 @@ NAMES = {
     23: "MFC_WrTagUpdate", 24: "MFC_RdTagStat", 25: "MFC_RdListStallStat", 26: "MFC_WrListStallAck", 27: "MFC_RdAtomicStat", 28: "SPU_WrOutMbox",
     29: "SPU_RdInMbox", 30: "SPU_WrOutIntrMbox",
 }  # fmt: skip
+ABSENT = {7: "SPU_WrDec", 8: "SPU_RdDec", 9: "MFC_WrMSSyncReq", 13: "SPU_RdMachStat", 14: "SPU_WrSRR0", 15: "SPU_RdSRR0"}  # of the Cell, and not here
 EVENT_STATUS, EVENT_MASK_WRITE, EVENT_ACK, EVENT_MASK_READ, COMMAND = 0, 1, 2, 11, 21
 SIGNAL_REGISTERS = {3: 1, 4: 2}  # by the channels that read them
 

@@ -1,29 +1,25 @@
-"""Rewrites sources of GNU as for SPUs, a compiler's or hand-written, in the language of docs/ASSEMBLER.md: statement by statement."""
-import bisect
+"""Rewrites sources of GNU as for SPUs, a compiler's or hand-written, in the language of docs/reference/assembler.md: statement by statement."""
 import collections
 import itertools
 import re
-from typing import Counter, Dict, Iterator, List, Match, NamedTuple, Optional, Sequence, Set, Tuple, Union
+from typing import Counter, Dict, List, Match, NamedTuple, Optional, Sequence, Set, Tuple, Union
 
-from celltools.common.texts import decoded, shown
+from celltools.common.texts import shown
 from celltools.source.channels import VALUES, channel_named
 from celltools.source.gas_expressions import ATOM, CHARACTERS, NUMERIC_LABEL, Expression, Known, Unwritable, Value, combined
-from celltools.source.language import CHANNEL, DATA, FORMS, NAME, NUMBER, REGISTER, RELATIVE_FORMS, SECTIONS, STORE, STRINGS
-from celltools.source.language import cut, hiding, is_text_section, operand_forms, without_comments
+from celltools.source.gas_source import Source, Statement
+from celltools.source.gas_words import ALIGNING, DROPPED, LAST_REGISTER, LAZY, REGISTERS, SETS, why_absent, why_no_directive, why_no_instruction
+from celltools.source.language import CHANNEL, DATA, FORMS, NAME, NUMBER, PIECE, REGISTER, RELATIVE_FORMS, SECTIONS, STORE, STRINGS
+from celltools.source.language import cut, is_text_section, operand_forms
 
-# Directives that say nothing about the bytes of a program.
-DROPPED = set(
-    ".file .global .globl .type .size .ident .local .extern .weak .loc .hidden .internal .protected .title .version"
-    " .eject .psize .list .nolist .sbttl .symver".split()
-)
-SETS = (".set", ".equ", ".equiv")
-OF_PREPROCESSOR = {".macro": "#define", ".endm": "#define", ".include": "#include", ".if": "#if", ".else": "#else", ".endif": "#endif"}
 OF_SECTIONS = SECTIONS | {".pushsection", ".popsection", ".previous"}
 RENAMED = {".zero": ".space", ".half": ".hword", "hbrp": "lnop", "syncc": "sync"}
-BLANKS = " \t\n\r\f\v"
-STATEMENT = re.compile(r"((?:[\w.$]+\s*:\s*)*)(?:([\w.$]+)\s*(=(?!=))?\s*(.*))?", re.S | re.A)
-WORD = re.compile(r"\S+", re.A)
-LINE_MARK = re.compile(r'#[ \t]+(\d{1,9})[ \t]+"((?:[^"\\]|\\.)*)"[ \t\d\r]*', re.A)  # of a C preprocessor
+OF_REGISTERS = ("rt", "ra", "rb", "rc")
+SHORT_NUMBER = re.compile(r"[0-9]{1,9}")
+WITHOUT_DISPLACEMENT = re.compile(rf"\(\s*(?:\$.*|{'|'.join(REGISTERS)})\s*\)", re.S | re.I)
+WORD_BYTES = 4
+ONES = {1: 0x01010101, 2: 0x00010001, 4: 1}  # which repeat one, two or four bytes in a word
+MOST_SHOWN, FAR = 40, 20  # characters of a statement in a message, and how many times as many are looked at
 MOST_REPEATS = 4096
 MOST_ALIGNED = 12
 MOST_FILLED = 8  # bytes of what a `.fill` repeats
@@ -35,130 +31,11 @@ Placed = Tuple[bool, int, int]  # of a label: whether it stands in the text, and
 Common = Tuple[int, int, str]  # its size, the power of two of its alignment, and where it comes from
 
 
-class Statement(NamedTuple):
-    """A statement: its labels, its instruction or directive, and what stands behind it."""
-    labels: List[str]
-    word: str
-    rest: str
-
-
-Entry = Tuple[int, int, Statement]  # a statement with its line and its column
-
-
 class Fault(NamedTuple):
     """A statement that can't be rewritten: the line of the text, where it comes from, and why."""
     at: int
     place: str
     reason: str
-
-
-def statements(text: str) -> Iterator[Entry]:
-    """Each statement of a source with the number of its line and its column there, which is 0 where it has the line for itself."""
-    lines = zip(without_comments(text).split("\n"), blanked(text).split("\n"))
-    for number, (line, same) in enumerate(lines, 1):
-        parts = cut(line, ";")
-        for part, column in zip(parts, columns(same) if len(parts) > 1 else [0]):
-            part = part.strip(BLANKS)
-            found = STATEMENT.fullmatch(part)
-            heads, word, equal, rest = found.groups() if found else ("", WORD.findall(part)[0], None, "")
-            labels = [label.strip() for label in heads.split(":")[:-1]]
-            if equal:
-                word, rest = ".set", f"{word},{rest}"
-            for rest in operands_apart(word, rest or ""):
-                yield number, column, Statement(labels, word or "", rest)
-                labels = []
-
-
-def blanked(text: str) -> str:
-    """The text with blanks in place of comments, each as long as it is."""
-    kept: List[str] = []
-    at = 0
-    for start, end in hiding(text):
-        if text[start] in "#/":
-            kept += [text[at:start], re.sub(r"[^\n]", " ", text[start:end])]
-            at = end
-    return "".join([*kept, text[at:]])
-
-
-def columns(line: str) -> List[int]:
-    """The column of each statement of a line, from 1."""
-    found: List[int] = []
-    at = 1
-    for part in cut(line, ";"):
-        found.append(at + len(part) - len(part.lstrip(BLANKS)))
-        at += len(part) + 1
-    return found
-
-
-def marks(text: str) -> Dict[int, Tuple[str, int]]:
-    """The line marks of a C preprocessor by the numbers of their lines: each the file and the line from which the next line comes."""
-    found = ((number, LINE_MARK.fullmatch(line)) for number, line in enumerate(text.split("\n"), 1) if line.startswith("#"))
-    return {number: (decoded(re.sub(r"\\(.)", r"\1", mark[2]).encode("latin1")), int(mark[1])) for number, mark in found if mark}
-
-
-def comments(text: str) -> Dict[int, str]:
-    """What the comments of each line say, by the line's number."""
-    said: Dict[int, List[str]] = collections.defaultdict(list)
-    number, at = 1, 0
-    for start, end in hiding(text):
-        number += text.count("\n", at, start)
-        at = start
-        if text[start] in "#/":
-            bare = text[start + 2 : end - 2] if text[start] == "/" else text[start + 1 : end]
-            for k, line in enumerate(bare.split("\n")):
-                said[number + k].append(line.strip(" \t\r*"))
-    return {number: " ".join(filter(None, words)) for number, words in said.items()}
-
-
-def operands_apart(word: str, rest: str) -> List[str]:
-    """The operands, each by itself where a directive has several and `.` among them: it is the address of its own."""
-    parts = cut(rest, ",") if word in DATA else []
-    return parts if len(parts) > 1 and any("." in ATOM.findall(part) for part in parts) else [rest]
-
-
-class Source:
-    """One source: its statements, and which names it defines, gives to others, or sets to a value."""
-
-    def __init__(self, name: str, text: str) -> None:
-        self.name, self.marks = name, marks(text)
-        self.marked = sorted(self.marks)
-        self.statements: List[Entry] = []
-        self.comments = {number: said for number, said in comments(text).items() if number not in self.marks}
-        self.labels: Set[str] = set()
-        self.shared: Set[str] = set()
-        self.kept_local: Set[str] = set()
-        self.sets: Dict[str, str] = {}
-        for number, column, statement in statements(text):
-            if statement.word == ".end":
-                break
-            self.statements.append((number, column, statement))
-            self.labels.update(label for label in statement.labels if not label.isdecimal())
-            names = [part.strip() for part in cut(statement.rest, ",")]
-            if statement.word in (".global", ".globl", ".weak"):
-                self.shared.update(names)
-            elif statement.word == ".local":
-                self.kept_local.update(names)
-            elif statement.word in SETS and names[1:] == ["."]:
-                self.labels.add(names[0])
-            elif statement.word in SETS and len(names) == 2:
-                self.sets[names[0]] = names[1]
-            elif statement.word in (".comm", ".lcomm"):
-                (self.kept_local if statement.word == ".lcomm" else self.shared).add(names[0])
-
-    def origin(self, number: int) -> Tuple[str, int]:
-        """The file and the line that a line of the text comes from."""
-        last = bisect.bisect_right(self.marked, number) - 1
-        if last < 0:
-            return self.name, number
-        name, line = self.marks[self.marked[last]]
-        return name, line + number - self.marked[last] - 1
-
-    def has_marks_before(self, number: int) -> bool:
-        return bool(self.marked) and self.marked[0] < number
-
-    def own(self) -> Set[str]:
-        """The names that mean something in this file alone."""
-        return (self.labels | self.kept_local) - (self.shared - self.kept_local)
 
 
 def length(lines: Sequence[str]) -> int:
@@ -229,7 +106,9 @@ class Writer(Known):
         try:
             self.statement(statement)
         except Unwritable as why:
-            self.faults.append(Fault(self.line, self.place_in_source(), str(why)))
+            reason = str(why)
+            shown_text = "" if "`" in reason else f": `{cut_short(f'{statement.word} {statement.rest}')}`"
+            self.faults.append(Fault(self.line, self.place_in_source(), reason + shown_text))
 
     def place_in_source(self) -> str:
         """Where a statement comes from: with its column where several stand on the line, and the line is as its author wrote it."""
@@ -270,6 +149,7 @@ class Writer(Known):
         self.sets: Dict[str, Union[str, Value]] = {name: value for name, value in source.sets.items() if not is_of_its_place(value)}
         self.open_sets: Set[str] = set()
         self.worked_out: Dict[str, Value] = {}  # the values of names on which others may rest, as they were when they were looked up
+        self.lazy: Dict[str, str] = {}  # what `.eqv` gave names
         self.counts: Counter[str] = collections.Counter()
         self.numeric: Dict[Tuple[str, int], str] = {}
         self.here: Optional[str] = None
@@ -292,7 +172,7 @@ class Writer(Known):
             return 0
         one, two = (self.earlier.places.get(name) for name in (left, right))
         if one is None or two is None or one[:2] != two[:2]:
-            raise Unwritable(f"the distance of `{left}` and `{right}` isn't known here")
+            raise Unwritable(f"the distance of `{left}` and `{right}` isn't known here: both have to be in one section, without `.org` between them")
         return one[2] - two[2]
 
     def numeric_label(self, digits: str, count: int) -> str:
@@ -316,10 +196,15 @@ class Writer(Known):
             self.here = self.here or self.fresh(f".Lhere{len(self.lines)}")
             self.places[self.here] = self.place()
             return Value(self.here, 0)
+        if word in self.lazy:
+            return self.evaluated(word, self.lazy[word], depth)
         if word in self.sets or word in self.source.sets:
             return self.set_value(word, depth)
         if word in VALUES and word not in self.names:
             return Value(None, VALUES[word])
+        absent = None if word in self.names else why_absent(word)
+        if absent:
+            raise Unwritable(absent)
         return Value(self.renamed(word), 0)
 
     def set_value(self, name: str, depth: int) -> Value:
@@ -335,6 +220,11 @@ class Writer(Known):
 
     def work_out(self, name: str, text: str, depth: int) -> Value:
         """The value that a later line gives a name."""
+        self.worked_out[name] = self.evaluated(name, text, depth)
+        return self.worked_out[name]
+
+    def evaluated(self, name: str, text: str, depth: int) -> Value:
+        """The value that an expression gives a name now."""
         if name in self.open_sets:
             raise Unwritable(f"`{name}` is set to a value of itself")
         self.left_to_work_out -= 1
@@ -342,10 +232,9 @@ class Writer(Known):
             raise Unwritable(f"more than {MOST_WORKED_OUT} values of names that later lines set have to be worked out")
         self.open_sets.add(name)
         try:
-            self.worked_out[name] = Expression(text, self, depth).value()
+            return Expression(text, self, depth).value()
         finally:
             self.open_sets.discard(name)
-        return self.worked_out[name]
 
     def later_value(self, name: str) -> Value:
         """The value to which a later line sets a name."""
@@ -358,7 +247,7 @@ class Writer(Known):
     def constant(self, text: str, what: str) -> int:
         value = Expression(text, self).value()
         if value.name or value.number < 0:
-            raise Unwritable(f"{what} has to be a number that isn't negative")
+            raise Unwritable(f"{what} is a number from 0 on, and not `{cut_short(text)}`")
         return value.number
 
     def expression(self, text: str, is_distance: bool = False) -> str:
@@ -375,22 +264,47 @@ class Writer(Known):
             return text if NUMBER.fullmatch(text) else str(number)
         return f"{value.name}{value.number:+d}"[: None if value.number else -2] + (half[0] if half else "")
 
-    def operand(self, text: str, is_distance: bool) -> str:
-        text = text.strip()
-        if found := re.fullmatch(r"(.*)\(\s*(\$\w+)\s*\)", text, re.S):
-            return f"{self.expression(found[1] or '0')}({found[2].lower()})"
-        return text.lower() if text.startswith("$") else self.expression(text, is_distance)
+    def register(self, text: str) -> str:
+        """A register, with `$` or without: a number, a name, or an expression that has no label."""
+        bare = text.removeprefix("$").strip()
+        if bare.lower() in REGISTERS:
+            return REGISTERS[bare.lower()]
+        value = Value(None, int(bare)) if SHORT_NUMBER.fullmatch(bare) else Expression(bare, self).value()
+        if value.name or not 0 <= value.number <= LAST_REGISTER:
+            raise Unwritable(f"`{text}` is no register: type $0 to ${LAST_REGISTER}, $lr or $sp")
+        return f"${value.number}"
+
+    def displaced(self, text: str) -> str:
+        """A displacement, and a register in parentheses."""
+        at = last_group(text)
+        if at is None or not (at or WITHOUT_DISPLACEMENT.fullmatch(text)):
+            return self.operand(text, "", False)
+        return f"{self.expression(text[:at] or '0')}({self.register(text[at + 1 : -1].strip())})"
 
     def channel(self, text: str) -> str:
         """A channel, by its name or its number."""
-        number = channel_named(text.strip())
-        return self.operand(text, False) if number is None else f"$ch{number}"
+        number = channel_named(text)
+        if number is not None:
+            return f"$ch{number}"
+        absent = why_absent(text)
+        if absent:
+            raise Unwritable(absent)
+        return self.expression(text.removeprefix("$"))
+
+    def operand(self, text: str, kind: str, is_distance: bool) -> str:
+        """An operand of some kind, as the forms of the instruction table name them."""
+        if kind == "channel":
+            return self.channel(text)
+        if kind in OF_REGISTERS:
+            return self.register(text)
+        if kind.endswith("(ra)"):
+            return self.displaced(text)
+        return text.lower() if text.startswith("$") else self.expression(text, is_distance)
 
     def operands(self, rest: str, form: str) -> List[str]:
         """The operands of an instruction, as many as there are."""
         kinds = itertools.chain(FORMS[form][0].split(","), itertools.repeat(""))
-        parts = zip(cut(rest, ","), kinds)
-        return [self.channel(part) if kind == "channel" else self.operand(part, form in RELATIVE_FORMS) for part, kind in parts]
+        return [self.operand(part.strip(), kind, form in RELATIVE_FORMS) for part, kind in zip(cut(rest, ","), kinds)]
 
     # Statements
 
@@ -439,10 +353,10 @@ class Writer(Known):
         if word in DATA or word in STRINGS:
             return self.data(word, rest)
         if word in SETS:
-            return self.set_name(rest)
+            return self.set_name(rest, word == LAZY)
         if word in (".comm", ".lcomm"):
             return self.common(rest)
-        if word in (".align", ".p2align", ".balign"):
+        if word in ALIGNING:
             return self.alignment(word, rest)
         if word in (".space", ".skip", ".fill"):
             return self.filling(word, rest)
@@ -450,20 +364,27 @@ class Writer(Known):
             return [f"\t.org\t{self.constant(rest, 'the address')}"]
         if word in DROPPED or word.startswith(".cfi_"):
             return []
-        raise Unwritable(f"there is no `{word}` in this language{by_preprocessor(word)}")
+        raise Unwritable(why_no_directive(word))
 
     def instruction(self, word: str, rest: str) -> List[str]:
         form = self.forms.get(word)
         if form is None:
-            raise Unwritable(f"`{word}` is no instruction of the integer part")
+            raise Unwritable(self.reason_against(word))
         if form in ("OptionalRegister", "Bare"):
             return [f"\t{word}"]
         if form == "Code" and not rest:
             rest = "0"
         operands = self.operands(rest, form)
         if not fits_form(operands, FORMS[form][0].split(",")):
-            raise Unwritable(f"`{word}` takes {FORMS[form][0]}")
+            raise Unwritable(f"`{word}` takes {FORMS[form][0]}, and not `{cut_short(rest)}`")
         return [f"\t{word}\t{','.join(operands)}"]
+
+    def reason_against(self, word: str) -> str:
+        """Why a word isn't rewritten that is no instruction: it may be a macro of the source."""
+        if word not in self.source.macros:
+            return why_no_instruction(word)
+        name, line = self.source.origin(self.source.macros[word])
+        return f"`{word}` is the macro of {name}:{line}, and there are no macros in this language"
 
     def section_line(self, word: str, rest: str) -> List[str]:
         """Changes the section."""
@@ -496,7 +417,7 @@ class Writer(Known):
     def refuse_small(self, word: str) -> None:
         """Refuses what places fewer than four bytes, where it stands in the text."""
         if (word in STRINGS or DATA[word][0] < 4) and is_text_section(*self.section):
-            raise Unwritable(f"`{word}` stands in data only")
+            raise Unwritable(f"`{word}` is for data, and this is text: place it after `.data`, or write `.long`")
 
     def data(self, word: str, rest: str) -> List[str]:
         self.refuse_small(word)
@@ -504,9 +425,13 @@ class Writer(Known):
             return [f"\t{word}\t{string(part.strip())}" for part in cut(rest, ",")]
         return [f"\t{word}\t{','.join(self.expression(part) for part in cut(rest, ','))}"]
 
-    def set_name(self, rest: str) -> List[str]:
-        """Sets a name to a value, from here on; a name that is set to the present address is a label."""
+    def set_name(self, rest: str, is_lazy: bool) -> List[str]:
+        """Sets a name to a value, or to one that is worked out at each use, from here on; a name that is set to the present address is a label."""
         name, text = ([part.strip() for part in cut(rest, ",")] + [""])[:2]
+        if is_lazy:
+            self.lazy[name] = text
+            self.worked_out.clear()
+            return []
         if text == ".":
             self.places[self.renamed(name)] = self.place()
             return [f"{self.renamed(name)}:"]
@@ -528,20 +453,33 @@ class Writer(Known):
     def alignment(self, word: str, rest: str) -> List[str]:
         power, fill, most = ([part.strip() for part in cut(rest, ",")] + ["", ""])[:3]
         number = self.constant(power or "0", "an alignment")
-        if word == ".balign":
+        if word.startswith(".balign"):
             number = power_of_two(number)
         if number > MOST_ALIGNED:
             raise Unwritable(f"the greatest alignment is 2^{MOST_ALIGNED}")
+        if fill and is_text_section(*self.section):
+            return self.filled_text(word, 1 << number, fill, most)
         self.refuse_padding(word, 1 << number, fill, most)
         return [f"\t.align\t{number}"]
 
+    def filled_text(self, word: str, size: int, fill: str, most: str) -> List[str]:
+        """The words of text up to a multiple of so many bytes: each has a value once, twice or four times, by the bytes that the directive fills with."""
+        value, count = Expression(fill, self).value(), -self.place()[2] % max(size, WORD_BYTES)
+        if value.name:
+            raise Unwritable(f"`{word}`: `{fill}` is no number, and text is filled with one")
+        if not count or most and 0 < self.constant(most, "the most bytes of an alignment") < count:
+            return []
+        part = value.number % (1 << 8 * ALIGNING[word])
+        return [f"\t.long\t{','.join([str(part * ONES[ALIGNING[word]])] * (count // WORD_BYTES))}"]
+
     def refuse_padding(self, word: str, size: int, fill: str, most: str) -> None:
-        """Refuses a value to fill with that is another than the language's, and in data an alignment that isn't made where it takes more than so many bytes."""
-        in_text = is_text_section(*self.section)
-        if fill and (in_text or Expression(fill, self).value() != Value(None, 0)):
-            raise Unwritable(f"`{word}` with a value to fill with: text is filled with `lnop`, and data with zeros")
-        if most and not in_text and 0 < self.constant(most, "the most bytes of an alignment") < size - 1:
-            raise Unwritable(f"`{word}` that isn't made where it takes more than {most} bytes")
+        """Refuses in data a value to fill with other than 0, and an alignment that isn't made where it takes more than so many bytes."""
+        if is_text_section(*self.section):
+            return
+        if fill and Expression(fill, self).value() != Value(None, 0):
+            raise Unwritable(f"`{word}`: data is filled with zeros, and not with `{fill}`: write the bytes by `.fill`")
+        if most and 0 < self.constant(most, "the most bytes of an alignment") < size - 1:
+            raise Unwritable(f"`{word}`: an alignment is always made, also if it takes more than {most} bytes: leave the last number out")
 
     def filling(self, word: str, rest: str) -> List[str]:
         """Bytes of one value: as zeros that are skipped, or written out."""
@@ -552,13 +490,13 @@ class Writer(Known):
             size = self.constant(parts[1], "a size") if len(parts) > 1 else 1
             parts = parts[1:]
         if size > MOST_FILLED:
-            raise Unwritable(f"`{word}` with more than {MOST_FILLED} bytes at a time, of which GNU as takes {MOST_FILLED}")
+            raise Unwritable(f"`{word}`: a number to repeat has at most {MOST_FILLED} bytes, and not {size}")
         value = Expression(parts[1], self).value() if len(parts) > 1 else Value(None, 0)
         if count == 0 or value == Value(None, 0):
             return [f"\t.space\t{count * size}"]
         words = {1: ".byte", 2: ".short", 4: ".long"}  # of a greater size GNU as takes four bytes of the value
         if value.name or size not in words or count > MOST_REPEATS:
-            raise Unwritable(f"`{word}` with this value, size or count")
+            raise Unwritable(f"`{word}`: at most {MOST_REPEATS:,} numbers of 1, 2 or 4 bytes are written out, and not `{cut_short(rest)}`")
         self.refuse_small(words[size])
         if self.place()[2] + count * size > STORE:
             raise Unwritable(f"`{word}` ends above the local store, {STORE:,} bytes")
@@ -576,15 +514,27 @@ class Writer(Known):
             self.notes += [origin] * 3
 
 
-def by_preprocessor(word: str) -> str:
-    """What a C preprocessor has in place of a directive, as an ending of the sentence."""
-    way = next((way for start, way in OF_PREPROCESSOR.items() if word.startswith(start)), None)
-    return f": write `{way}`, and have it expanded by `cpp -x assembler-with-cpp`, as docs/ASSEMBLER.md shows" if way else ""
-
-
 def in_comment(name: str) -> str:
     """A file's name as the text of a source has it, which is read as bytes."""
     return shown(name).encode().decode("latin1")
+
+
+def last_group(text: str) -> Optional[int]:
+    """Where the parenthesis opens that the last character closes; None where it closes none."""
+    opened: List[int] = []
+    found = 0, 0
+    for piece in PIECE.finditer(text):
+        if piece[0] == "(":
+            opened.append(piece.start())
+        elif piece[0] == ")" and opened:
+            found = opened.pop(), piece.end()
+    return found[0] if found[1] == len(text) else None
+
+
+def cut_short(text: str) -> str:
+    """The first characters of a text."""
+    text = " ".join(text[:FAR * MOST_SHOWN].split())
+    return text if len(text) <= MOST_SHOWN else f"{text[:MOST_SHOWN]}.."
 
 
 def is_of_its_place(value: str) -> bool:
@@ -636,7 +586,7 @@ def string(text: str) -> str:
         return found[0]
 
     if not re.fullmatch(r'"(?:\\.|[^"\\])*"', text, re.S):
-        raise Unwritable("strings stand in double quotes, with commas between")
+        raise Unwritable("strings are in double quotes, with commas between them")
     return re.sub(r"\\(x[0-9A-Fa-f]+|.)", escape, text, flags=re.S)
 
 

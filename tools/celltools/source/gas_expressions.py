@@ -5,9 +5,15 @@ from typing import Callable, Deque, Dict, NamedTuple, Optional, Tuple
 
 from celltools.source.language import value_of
 
-ATOM = re.compile(r"(\d+[bf](?!\w)|\d\w*|'(?:\\.|[^\\])'?|[A-Za-z_.][\w.$]*|<<|>>|\S)", re.S | re.A)
+ATOM = re.compile(r"(\d+[bf](?!\w)|\d\w*|'(?:\\.|[^\\])'?|[A-Za-z_.][\w.$]*|<<|>>|<>|[<>=!]=|&&|\|\||!!|\S)", re.S | re.A)
 NUMERIC_LABEL = re.compile(r"(\d+)([bf])", re.A)
-RANKS = {"*": 3, "/": 3, "%": 3, "<<": 3, ">>": 3, "|": 2, "&": 2, "^": 2, "!": 2, "+": 1, "-": 1}  # as GNU as has them
+# As GNU as has them; a word of one rank more holds its sides together before one of one rank less does.
+RANKS = {**dict.fromkeys(("*", "/", "%", "<<", ">>"), 6), **dict.fromkeys(("|", "&", "^", "!", "!!"), 5), "+": 4, "-": 4,
+         **dict.fromkeys(("==", "!=", "<>", "<", "<=", ">", ">="), 3), "&&": 2, "||": 1}
+COMPARED: Dict[str, Callable[[int, int], bool]] = {
+    "==": lambda a, b: a == b, "!=": lambda a, b: a != b, "<>": lambda a, b: a != b, "<": lambda a, b: a < b, "<=": lambda a, b: a <= b,
+    ">": lambda a, b: a > b, ">=": lambda a, b: a >= b,
+}  # fmt: skip
 CHARACTERS = {"n": 10, "t": 9, "r": 13, "b": 8, "f": 12}
 OCTAL = set("01234567")
 NUMBERS = [(8, re.compile(r"0([0-7]+)")), (16, re.compile(r"0[xX]([0-9A-Fa-f]+)")), (2, re.compile(r"0[bB]([01]+)")), (10, re.compile(r"(0|[1-9][0-9]*)"))]
@@ -77,11 +83,21 @@ def combined(mark: str, left: Value, right: Value) -> Value:
     a, b = left.number, right.number
     if mark in ("<<", ">>") and not 0 <= b < 64:
         raise Unwritable(f"a shift by {b}")
+    if mark in COMPARED:
+        return Value(None, -1 if COMPARED[mark](a, b) else 0)
     work: Dict[str, Callable[[], int]] = {
         "*": lambda: a * b, "/": lambda: divided(a, b)[0], "%": lambda: divided(a, b)[1], "<<": lambda: a << b,
-        ">>": lambda: a % WRAP >> b, "|": lambda: a | b, "&": lambda: a & b, "^": lambda: a ^ b, "!": lambda: a | ~b,
+        ">>": lambda: a % WRAP >> b, "|": lambda: a | b, "&": lambda: a & b, "^": lambda: a ^ b, "!": lambda: a | ~b, "!!": lambda: a ^ b,
+        "&&": lambda: int(a != 0 and b != 0), "||": lambda: int(a != 0 or b != 0),
     }  # fmt: skip
     return Value(None, (work[mark]() + WRAP // 2) % WRAP - WRAP // 2)
+
+
+def negated(value: Value, times: int) -> Value:
+    """What one `!` or two make of a number: whether it is 0, or isn't."""
+    if value.name:
+        raise Unwritable(f"`!` takes a number, and `{value.name}` is a label")
+    return Value(None, int((value.number == 0) == (times == 1)))
 
 
 class Expression:
@@ -105,7 +121,7 @@ class Expression:
         while self.words and RANKS.get(self.words[0], 0) >= least:
             mark = self.words.popleft()
             right = self.ranked(RANKS[mark] + 1)
-            if mark == "-" and value.name and right.name:
+            if (mark == "-" or mark in COMPARED) and value.name and right.name:
                 value = Value(None, wrapped(self.names.distance(value.name, right.name) + value.number))
                 right = Value(None, right.number)
             value = combined(mark, value, right)
@@ -114,7 +130,7 @@ class Expression:
     def within(self, read: Callable[[], Value]) -> Value:
         """What is read one level deeper."""
         if self.depth == MOST_NESTED:
-            raise Unwritable(f"more than {MOST_NESTED} parentheses, signs and names stand within one another")
+            raise Unwritable(f"more than {MOST_NESTED} nested parentheses, signs and names")
         self.depth += 1
         value = read()
         self.depth -= 1
@@ -129,10 +145,12 @@ class Expression:
             if not self.words or self.words.popleft() != ")":
                 raise Unwritable("`)` is missing")
             return value
-        if word in ("-", "~", "+"):
+        if word in ("-", "~", "+", "!", "!!"):
             value = self.within(self.prefixed)
             if word == "+":
                 return value
+            if word.startswith("!"):
+                return negated(value, len(word))
             value = combined("-", Value(None, 0), value)
             return value if word == "-" else Value(None, wrapped(value.number - 1))
         if word[0] == "'" and word != "'" or word[0].isdigit() and not NUMERIC_LABEL.fullmatch(word):

@@ -1,4 +1,4 @@
-"""The machine that docs/GENERATOR.md describes: the one of `cell gen`."""
+"""The machine that docs/reference/generator.md describes: the one of `cell gen`."""
 import pathlib
 import re
 
@@ -11,7 +11,7 @@ SHOWN = 4_096  # bytes at most in one line
 
 def source() -> str:
     """The source in the docs: their block that is set off by four spaces, and has a label `round`."""
-    text = (ROOT / "docs" / "GENERATOR.md").read_text()
+    text = (ROOT / "docs" / "reference" / "generator.md").read_text()
     block = next(it for it in re.findall(r"(?:^    .*\n)+", text, re.M) if "round:" in it)
     return re.sub(r"^    ", "", block, flags=re.M)
 

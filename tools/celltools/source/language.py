@@ -1,4 +1,4 @@
-"""What the tools know of the language of docs/ASSEMBLER.md: its mnemonics, directives, numbers and statements."""
+"""What the tools know of the language of docs/reference/assembler.md: its mnemonics, directives, numbers and statements."""
 import re
 from typing import Dict, Iterator, List, Optional, Tuple
 

@@ -1,4 +1,4 @@
-"""Which register an instruction writes, by its word: docs/INSTRUCTIONS.md has the formats."""
+"""Which register an instruction writes, by its word: docs/reference/instructions.md has the formats."""
 from typing import Dict, Optional, Set
 
 TOP_BITS = (4, 7, 8, 9, 11)  # that an opcode may have

@@ -1,7 +1,9 @@
-"""Says in words what ended a processor by a fault: which parameter of a command broke which rule, which channel can't be used so, or which word is none.
+"""Says in words what ended a processor by a fault: which parameter of a command broke which rule, which channel can't be used so, or which word is none;
+and of a processor that halted, by which instruction and which values.
 
-docs/PROFILE.md has the rules, each with the kind of fault that a status names, in the order in which they are tested.
+docs/reference/machine.md has the rules, each with the kind of fault that a status names, in the order in which they are tested.
 """
+import contextlib
 import tempfile
 from typing import Callable, Dict, Iterable, Iterator, List, NamedTuple, Optional, Tuple
 
@@ -9,15 +11,19 @@ from celltools.run.effects import MEMORY_LINE, Trace
 from celltools.run.machine_state import Spe, State
 from celltools.run.runs import Path
 from celltools.run.stepping import Run
-from celltools.source.channels import COMMANDS, NAMES, READ, WRITE, channel_name, channel_of
+from celltools.source.channels import ABSENT, COMMANDS, NAMES, READ, WRITE, channel_name, channel_of
+from celltools.source.gas_words import ABSENT_NAMES
 from celltools.source.language import STORE
 from celltools.source.names import NONE, Names
 from celltools.source.sites import Sites
+from celltools.telling.executed import Executed
 from celltools.telling.flows import fields_of
+from celltools.telling.halts import condition_of
 from celltools.telling.waiting import Standing
 from celltools.telling.words import Teller, name_of, with_article
 
 FAULTS = ("dmafault", "badchannel", "badword")  # how the status of a processor with a fault begins
+HALTED = "halted"
 LIST_ENTRY = 8  # bytes
 MOST_BYTES = 16_384  # of a transfer, and of a list
 MOST_TAG, MOST_REGISTER = 31, 31
@@ -150,6 +156,8 @@ def broken_by_channel(word: int) -> str:
     """Why a processor can't execute an instruction of a channel."""
     channel, opcode = channel_of(word) or 0, word >> 21
     way = {READ: "reads", WRITE: "writes"}.get(opcode, "counts")
+    if channel in ABSENT:
+        return f"it {way} channel {channel}, {ABSENT[channel]}: {ABSENT_NAMES[ABSENT[channel].lower()]}"
     if channel not in NAMES:
         return f"it {way} {channel_name(channel)}, which isn't there"
     return f"it {way} {channel_name(channel)}, which can only be {'written' if opcode == READ else 'read'} and counted"
@@ -162,9 +170,12 @@ class Faults:
 
     def __init__(self, run: Run, standing: Standing) -> None:
         self.run, self.standing = run, standing
+        self.executed = Executed(run.trace, standing.sites, run.bytes_of)
 
     def of_processor(self, spe: Spe, state: State) -> Optional[str]:
-        """What a processor's fault was; None where it has none."""
+        """What a processor's fault was, or which instruction halted it; None if neither ended it."""
+        if spe.status == HALTED:
+            return self.of_halt(spe)
         if not has_fault(spe):
             return None
         if spe.status.startswith("badword"):
@@ -176,7 +187,17 @@ class Faults:
     def line(self, spe: Spe, state: State) -> Optional[str]:
         """The same, with where the processor is; an element's fault isn't one of the instruction that it stands at."""
         words = self.of_processor(spe, state)
-        return words and f"{f'processor {spe.number} {spe.status}' if self.is_element(spe) else self.standing.stands(spe)}: {words}"
+        if not words:
+            return None
+        if spe.status == HALTED:
+            return f"processor {spe.number} halted at {words}"
+        return f"{f'processor {spe.number} {spe.status}' if self.is_element(spe) else self.standing.stands(spe)}: {words}"
+
+    def of_halt(self, spe: Spe) -> str:
+        """The instruction that halted a processor, with its place and the values that it compared, which are in the registers still."""
+        place = self.run.last_instruction(spe.number)
+        word, at = self.executed.word(place), self.run.trace.steps[place].fetched.at
+        return f"{self.standing.instruction_at(spe.number, at, word)}: {condition_of(word, spe.register)}"
 
     def last_step(self, spe: Spe) -> int:
         """The place of the last step of a processor or of its flow controller. Behind a fault neither makes one."""
@@ -185,6 +206,15 @@ class Faults:
     def is_element(self, spe: Spe) -> bool:
         """Whether a fault is that of an element: it was read in the last step."""
         return spe.status.startswith("dmafault") and self.run.heads[self.last_step(spe)].startswith("e ")
+
+    def instruction(self, spe: Spe) -> Optional[int]:
+        """The step of the instruction that ended a processor by a fault or a halt; None of every other processor."""
+        if not has_fault(spe) and spe.status != HALTED:
+            return None
+        if self.is_element(spe):
+            trace = self.run.trace
+            return trace.issues[trace.command_of(trace.steps[self.last_step(spe)]).key]
+        return next(place for place in range(self.run.place - 1, -1, -1) if self.run.heads[place].split()[:2] == ["x", str(spe.number)])
 
     def owner(self, spe: Spe) -> Owner:
         return Owner(self.run.memory, spe.number, self.standing.sites.names)
@@ -214,8 +244,8 @@ def has_fault(spe: Spe) -> bool:
 
 
 def has_faults(lines: List[str]) -> bool:
-    """Whether a processor has a fault, by the lines of states."""
-    return any(line.startswith("spe ") and line.split()[2] in FAULTS for line in lines)
+    """Whether a processor has a fault or halted, by the lines of states."""
+    return any(line.startswith("spe ") and line.split()[2] in (*FAULTS, HALTED) for line in lines)
 
 
 def place_behind(trace: Trace, lsa: int, last: int) -> int:
@@ -230,17 +260,31 @@ def place_behind(trace: Trace, lsa: int, last: int) -> int:
 def said(spe: Spe, what: str, broken: Broken) -> str:
     """The sentence of a refusal. That what is broken is of the kind that the status names is tested, and not believed."""
     kind = spe.status.split()[-1]
-    words = broken[1] if broken and broken[0] == kind else f"the test of kind `{kind}` fails, which docs/PROFILE.md has"
+    words = broken[1] if broken and broken[0] == kind else f"the test of kind `{kind}` fails, which docs/reference/machine.md has"
     return f"{what} is refused: {words}"
 
 
-def faults_of(machine: Path, record: Path, steps: Optional[int] = None) -> List[str]:
-    """A line for each processor that has a fault behind so many steps of a record, or all: where it is, by its file and line, and what its fault was.
-    Refused where that can't be told."""
+@contextlib.contextmanager
+def followed(machine: Path, record: Path, steps: Optional[int] = None) -> Iterator[Tuple[Faults, State]]:
+    """The faults of a run after so many steps of a record, or all, and its state then. Refused if that can't be told."""
     with tempfile.TemporaryDirectory(prefix="cell-faults-") as folder:
         run, standing = Run(machine, folder), Standing(Sites(machine, str(machine)))
         run.follow(record)
         run.place = run.ahead if steps is None else steps
-        faults, state = Faults(run, standing), run.state()
-        standing.learn(state)
+        yield Faults(run, standing), run.state()
+
+
+def faults_of(machine: Path, record: Path, steps: Optional[int] = None) -> List[str]:
+    """A line for each processor that has a fault or has halted after so many steps of a record, or all: its file and line, and what the fault was, or which
+    instruction halted it with which values. Refused if that can't be found."""
+    with followed(machine, record, steps) as (faults, state):
+        faults.standing.learn(state)
         return [line for line in (faults.line(spe, state) for spe in state.spes) if line]
+
+
+def addresses_of_faults(machine: Path, record: Path) -> Dict[int, int]:
+    """The address of the instruction that ended each processor with a fault or a halt, by the processor."""
+    with followed(machine, record) as (faults, state):
+        places = {spe.number: faults.instruction(spe) for spe in state.spes}
+        steps = {number: faults.run.trace.steps[place] for number, place in places.items() if place is not None}
+        return {number: step.fetched.at for number, step in steps.items()}

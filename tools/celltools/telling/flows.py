@@ -64,11 +64,11 @@ def signal_of(told: Told, register: int) -> Optional[int]:
 def signal_line(told: Told, register: int, is_or: bool) -> str:
     """The same in words."""
     value = signal_of(told, register)
-    return f"signal register {register}: {'nothing' if value is None else f'0x{value:x}'}{', in OR mode' if is_or else ''}"
+    return f"signal register {register}: {'nothing' if value is None else f'0x{value:x}'}, in {'OR' if is_or else 'overwrite'} mode"
 
 
 def used_lines(told: Told, in_or_mode: Sequence[int]) -> Iterator[str]:
-    """The signal registers that are ready, of which those are in OR mode, and the events, where a mask has some: of all others a program sees nothing."""
+    """The signal registers that are ready, each with its mode, and the events, if a mask has some: of all others a program sees nothing."""
     yield from (signal_line(told, register, register in in_or_mode) for register in SIGNAL_REGISTERS.values() if f"sig{register}" in told)
     yield from event_lines(told) if events_of(told)[0] else []
 

@@ -1,6 +1,6 @@
 """What the steps of a run do beside bytes: mailboxes, signal registers, events, stalls and reservations, by the effects of the steps alone.
 
-docs/PROFILE.md says when an event is raised and when a list stalls; tests/debugger holds what is found here against the states.
+docs/reference/machine.md says when an event is raised and when a list stalls; tests/debugger holds what is found here against the states.
 """
 import collections
 import dataclasses
@@ -11,12 +11,15 @@ from celltools.run.effects import MEMORY_LINE, NO_COMMAND, Command, Step, Trace,
 from celltools.source.channels import EVENT_ACK, events_in
 from celltools.source.target_registers import ends_rightly
 from celltools.telling.executed import Executed
-from celltools.telling.words import BOXES, tags
+from celltools.telling.flows import HOW, STATUSES
+from celltools.telling.halts import halt_of
+from celltools.telling.words import ATOMIC, BOXES, over_untaken, tags
 
 PLACES = 16  # of a queue
 ELEMENT_BYTES = 8
 LOST, SIGNAL_1, SIGNAL_2, OUTBOUND, INTERRUPT, INBOUND, QUEUE, STALL, TAG = 0x400, 0x200, 0x100, 0x80, 0x40, 0x10, 0x8, 0x2, 0x1
 SIGNALS = {1: SIGNAL_1, 2: SIGNAL_2}
+DONE = {0: "is stored", 1: "isn't stored: its line was no longer reserved"}  # by the status of a PUTLLC
 ROOM = {"out": OUTBOUND, "intr": INTERRUPT}
 Key = Union[int, str, None]  # of what happens
 
@@ -30,6 +33,9 @@ class Kind(enum.Enum):
     RESERVATION = "reservation"
     LOST = "lost"
     FAULT = "fault"
+    TAG = "tag"
+    ATOMIC = "atomic"
+    HALT = "halt"
 
 
 @dataclasses.dataclass(frozen=True)
@@ -75,9 +81,12 @@ class Flow:
         self.line: Optional[int] = None  # that is held
         self.counts: Dict[str, int] = collections.Counter()  # of the values in its mailboxes
         self.ready: Set[int] = set()  # its signal registers that hold a value
+        self.delivered: Dict[int, List[int]] = {}  # what was delivered to each and not read, the latest first
         self.stalls = 0
         self.pending = 0
         self.outstanding: Dict[int, Outstanding] = {}
+        self.asked = 0  # the groups of its last request for a tag status
+        self.atomic: Optional[int] = None  # the line of its last atomic command
 
 
 class Happenings:
@@ -244,9 +253,13 @@ class Happenings:
         ready = self.flows[spe].ready
         if "deliver" not in step.told:
             ready.discard(register)
+            self.flows[spe].delivered[register] = []
             self.tell(Kind.SIGNAL, spe, register, f"takes 0x{step.number('rdch', 1):x} out of signal register {register} of processor {spe}")
             return
-        self.tell(Kind.SIGNAL, spe, register, f"delivers 0x{step.number('deliver'):x} to signal register {register} of processor {spe}")
+        value, before = step.number("deliver") or 0, self.flows[spe].delivered.get(register, [])
+        over = over_untaken(before, value, (spe, register) in self.executed.sites.or_modes)
+        self.flows[spe].delivered[register] = [value, *before]
+        self.tell(Kind.SIGNAL, spe, register, f"delivers 0x{value:x} to signal register {register} of processor {spe}{over}")
         if register not in ready:
             ready.add(register)
             self.raise_event(spe, SIGNALS[register])
@@ -263,18 +276,51 @@ class Happenings:
             pending = "which was pending" if cleared == value else f"of which {events_in(cleared)} was pending" if cleared else "which wasn't pending"
             self.tell(Kind.EVENT, step.processor, value, f"acknowledges {events_in(value)} at processor {step.processor}, {pending}")
 
+    # ---- tag groups
+
+    def request(self, step: Step) -> None:
+        how, groups = step.number("request") or 0, step.number("request", 1) or 0
+        self.flows[step.processor].asked = groups
+        self.tell(Kind.TAG, step.processor, groups, f"processor {step.processor} asks for a tag status: {HOW.get(str(how), 'all')} {tags(groups)}")
+
     def fixed(self, step: Step) -> None:
+        asked = self.flows[step.processor].asked
+        self.tell(Kind.TAG, step.processor, asked, f"fixes the tag status that processor {step.processor} asked for {tags(asked)}")
         self.raise_event(step.processor, TAG)
+
+    def read_tags(self, step: Step) -> None:
+        groups = step.number("tags") or 0
+        self.tell(Kind.TAG, step.processor, groups, f"processor {step.processor} takes the tag status 0x{groups:08x}, {tags(groups)}")
+
+    # ---- atomic commands
+
+    def atomic_of(self, step: Step) -> None:
+        """An atomic command that is issued, or done."""
+        kind, _, number = step.told["atomic"]
+        line = int(number) * MEMORY_LINE
+        name = f"{ATOMIC[kind]} of the line at 0x{line:x}"
+        self.flows[step.processor].atomic = line
+        if step.kind == "instruction":
+            self.tell(Kind.ATOMIC, step.processor, line, f"processor {step.processor} issues a {name}")
+        else:
+            self.tell(Kind.ATOMIC, step.processor, line, f"the {name} of processor {step.processor} {DONE.get(step.number('status') or 0, 'is done')}")
+
+    def read_atomic(self, step: Step) -> None:
+        status = step.number("rdch", 1) or 0
+        self.tell(Kind.ATOMIC, step.processor, self.flows[step.processor].atomic, f"processor {step.processor} takes the atomic status {status} ({STATUSES.get(str(status), 'unknown')})")
 
     # ---- faults
 
     def end(self, step: Step) -> None:
-        """A processor runs no more: by a fault, but where its instruction is a stop or a halt."""
+        """A processor runs no more: by a fault, unless its instruction is a stop or a halt."""
         if step.kind == "element" or not ends_rightly(self.executed.word(self.place)):
             self.tell(Kind.FAULT, step.processor, None, f"a fault ends processor {step.processor}")
+        elif halt_of(self.executed.word(self.place)):
+            self.tell(Kind.HALT, step.processor, None, f"a halt instruction ends processor {step.processor}")
 
 
 BY_FIELD: Dict[str, Callable[[Happenings, Step], None]] = {
     "issue": Happenings.issue, "stalls": Happenings.read_stalls, "ack": Happenings.acknowledge_stall, "put": Happenings.put, "take": Happenings.take,
-    "signal": Happenings.signal, "wrch": Happenings.write_channel, "fixed": Happenings.fixed, "ended": Happenings.end,
+    "signal": Happenings.signal, "wrch": Happenings.write_channel, "request": Happenings.request, "fixed": Happenings.fixed, "tags": Happenings.read_tags,
+    "atomic": Happenings.atomic_of, "atomicread": Happenings.read_atomic, "ended": Happenings.end,
 }

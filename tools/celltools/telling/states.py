@@ -48,6 +48,9 @@ class Words(Standing):
         super().__init__(sites)
         self.run, self.faults = run, Faults(run, self)
 
+    def steps_made(self) -> Sequence[str]:
+        return self.run.trace.lines[:self.run.place]
+
     def remark(self, spe: Spe, state: State) -> Optional[str]:
         """What a processor waits for, if it does, or of one that has a fault what it was."""
         return self.faults.of_processor(spe, state) or self.waits(spe, state)

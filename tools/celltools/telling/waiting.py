@@ -1,15 +1,21 @@
 """Says in words how the processors and the host of a machine stand, and what they wait for; of a record, too."""
+import functools
 import os
-from typing import Iterator, List, Optional
+import re
+from typing import Callable, Iterator, List, Optional, Sequence
 
+from celltools.run.effects import has_group
 from celltools.run.machine_state import Spe, State
 from celltools.run.runs import Path, ask_tracer
 from celltools.run.snapshots import steps_of
-from celltools.source.channels import ATOMIC, COMMAND, EVENT_STATUS, channel_of, events_in, may_wait
+from celltools.source.channels import ATOMIC, COMMAND, EVENT_STATUS, channel_name, channel_of, events_in, may_wait
 from celltools.source.disassembly import Disassembler
 from celltools.source.sites import Sites
-from celltools.telling.flows import Told, events_of, fields_of
-from celltools.telling.words import counted
+from celltools.telling.flows import HOW, Told, events_of, fields_of
+from celltools.telling.words import counted, tags
+
+TAG_UPDATE = 23
+FETCHED = re.compile(r" \| fetch \d+ (\d+) ")
 
 WAITS = {
     3: "nothing is in signal register 1",
@@ -21,6 +27,22 @@ WAITS = {
 }
 
 
+class TagRequests:
+    """The step that last asked for a tag status of a processor, and the one that took it, each if there is one."""
+
+    def __init__(self, steps: Sequence[str], spe: int) -> None:
+        self.asked: Optional[int] = None
+        self.taken: Optional[int] = None
+        own = f"x {spe} "
+        for place in range(len(steps) - 1, -1, -1):
+            line = steps[place]
+            if line.startswith(own) and " | request " in line:
+                self.asked = place
+                return
+            if self.taken is None and line.startswith(own) and " | tags " in line:
+                self.taken = place
+
+
 def is_at_instruction(spe: Spe) -> bool:
     """Whether the instruction at the PC is one that is to be executed, or that failed."""
     return spe.word is not None and (spe.runs or spe.status.startswith(("badword", "badchannel", "dmafault")))
@@ -29,18 +51,22 @@ def is_at_instruction(spe: Spe) -> bool:
 class Standing:
     """Says how a machine stands, and where in its sources."""
 
-    def __init__(self, sites: Sites) -> None:
-        self.sites, self.words = sites, Disassembler()
+    def __init__(self, sites: Sites, known_steps: Callable[[], Sequence[str]] = lambda: ()) -> None:
+        self.sites, self.words, self.known_steps = sites, Disassembler(), known_steps
 
     def instruction(self, spe: Spe) -> str:
         """What a processor is about to execute, with its line."""
-        site = self.sites.of_processor[spe.number].get(spe.pc)
-        if site and site.is_source and site.word == spe.word:
+        return self.instruction_at(spe.number, spe.pc, spe.word or 0)
+
+    def instruction_at(self, number: int, at: int, word: int) -> str:
+        """The instruction that a word is at an address of a processor's store, with its line."""
+        site = self.sites.of_processor[number].get(at)
+        if site and site.is_source and site.word == word:
             return str(site)
-        text = self.words.text(spe.pc, spe.word or 0)
+        text = self.words.text(at, word)
         if not site:
             return f"no line placed it: {text}"
-        return f"{site.place}: {text}" + ("" if site.word == spe.word else f" (written over: it was {site.text})")
+        return f"{site.place}: {text}" + ("" if site.word == word else f" (written over: it was {site.text})")
 
     def learn(self, state: State) -> None:
         """Asks at once for the texts of all instructions that no source has as they stand."""
@@ -76,8 +102,33 @@ class Standing:
         return "an atomic command is in the slot" if opcode in ATOMIC else "all places of the queue are taken"
 
     def no_tag_status(self, spe: Spe, state: State) -> str:
-        """What is behind a tag status that doesn't come."""
-        return "no tag status is there" + (", though one was asked for" if "request" in self.flow(spe.number, state) else ", and none was asked for")
+        """Why a tag status doesn't come: it isn't fixed yet, an earlier instruction took it, or none was asked for."""
+        flow, requests = self.flow(spe.number, state), TagRequests(self.steps_made(), spe.number)
+        if "request" in flow:
+            how, groups = flow["request"]
+            outstanding = [fields_of(line) for number, line in state.flows if number == spe.number and line.startswith("command ")]
+            left = [f"command {words[2]} of tag {words[5]}{' (stalled)' if 'stalled' in told else ''}"
+                    for words, told in outstanding if has_group(int(groups), int(words[5]))]
+            asked = f"{self.step_at(spe.number, requests.asked)} asked for {HOW.get(how, 'all')} {tags(int(groups))}"
+            return f"no tag status is there yet: {asked}, and {' and '.join(left) or 'nothing'} {'is' if len(left) < 2 else 'are'} outstanding"
+        if requests.asked is None:
+            return f"no tag status is there, and none was asked for: ask by `wrch` of {channel_name(TAG_UPDATE)}"
+        if requests.taken is None:
+            return "no tag status is there"
+        asked, taken = (self.step_at(spe.number, place) for place in (requests.asked, requests.taken))
+        return f"no tag status is there: the one asked for in {asked} was taken in {taken}; ask for another one (`wrch` of {channel_name(TAG_UPDATE)})"
+
+    def steps_made(self) -> Sequence[str]:
+        """The effects of the steps that were made, as far as they are known."""
+        return self.known_steps()
+
+    def step_at(self, spe: int, place: Optional[int]) -> str:
+        """A step of a processor that executed an instruction, with the instruction's line."""
+        if place is None:
+            return "a step"
+        found = FETCHED.search(self.steps_made()[place])
+        site = self.sites.of_processor[spe].get(int(found[1])) if found else None
+        return f"step {place}" + (f" at {site.place}" if site else "")
 
     def no_stall(self, spe: Spe, state: State) -> str:
         """What is behind a stall status that has no bit: lists may wait for an acknowledgement of what was read before."""
@@ -123,7 +174,8 @@ def state_behind(machine: Path, record: Path) -> State:
 def waiting_of(machine: Path, record: Path) -> List[str]:
     """A line for each processor that runs still behind a record: where it is, by its file and line, and what it waits for, if it does. Refused where that
     can't be told."""
-    standing, state = Standing(Sites(machine, str(machine))), state_behind(machine, record)
+    standing = Standing(Sites(machine, str(machine)), functools.cache(lambda: ask_tracer("effects", machine, record)))
+    state = state_behind(machine, record)
     standing.learn(state)
     lines = ((standing.stands(spe), standing.waits(spe, state)) for spe in state.spes if spe.runs)
     return [f"{stands}: {waits}" if waits else stands for stands, waits in lines]

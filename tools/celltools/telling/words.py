@@ -1,7 +1,7 @@
 """Says in words what the steps of a run are, with the lines of the sources that they come from."""
 import functools
 import re
-from typing import Dict, List, Optional
+from typing import Dict, List, Optional, Sequence
 
 from celltools.run.effects import Command, Step, Trace, has_group
 from celltools.source.channels import EVENT_ACK, EVENT_MASK_READ, EVENT_MASK_WRITE, EVENT_STATUS, events_in
@@ -11,6 +11,7 @@ COMMANDS = {"put": "PUT", "get": "GET", "putl": "PUTL", "getl": "GETL", "barrier
             "sndsig": "SNDSIG"}
 MARKS = {"-": "", "fence": "F", "barrier": "B"}
 ATOMIC = {"getllar": "GETLLAR", "putllc": "PUTLLC", "putlluc": "PUTLLUC"}
+DELIVERED = re.compile(r" \| deliver (\d+) ")
 OUTCOMES = {("putllc", 0): "stored", ("putllc", 1): "lost its line and didn't store"}
 BOXES = {"in": "the inbound mailbox", "out": "the outbound mailbox", "intr": "the outbound interrupt mailbox"}
 OF_EVENTS = {("rdch", EVENT_STATUS): "the reading of the event status", ("rdch", EVENT_MASK_READ): "the reading of the event mask",
@@ -40,6 +41,32 @@ def counted(count: int, what: str) -> str:
 
 def with_article(name: str) -> str:
     return f"{'an' if name[0] in 'AEIO' else 'a'} {name}"
+
+
+def held_before(trace: Trace, place: int) -> List[int]:
+    """The values that were delivered to the signal register of a delivery since it was last read, the latest first."""
+    spe, register = trace.steps[place].told["signal"]
+    mark, values = f" | signal {spe} {register} | ", []
+    for line in (f"{trace.lines[at]} | " for at in range(place - 1, -1, -1)):
+        if mark not in line:
+            continue
+        found = DELIVERED.search(line)
+        if not found:
+            break
+        values.append(int(found[1]))
+    return values
+
+
+def over_untaken(before: Sequence[int], value: int, is_or: bool) -> str:
+    """What a delivery of a value does to those in its signal register that nobody took, the latest first, as an ending; nothing if there are none."""
+    if not before:
+        return ""
+    if not is_or:
+        return f" (overwrites 0x{before[0]:x}, which nobody took)"
+    held = 0
+    for part in before:
+        held |= part
+    return f" (makes 0x{held | value:x} with 0x{held:x}, which nobody took)"
 
 
 class Teller:
@@ -129,7 +156,7 @@ class Teller:
         step = self.trace.steps[place]
         who = self.who(place)
         if step.kind == "host":
-            return "an action of the host"
+            return f"an action of the host{self.untaken(place)}"
         if step.kind == "instruction":
             return f"{self.instruction(place)}, by {who}"
         if step.kind == "atomic":
@@ -141,7 +168,15 @@ class Teller:
             return f"the reading of element {found[2] if found else 0} of {self.command(place)}"
         element = f" of element {step.element}" if self.trace.element_of(place) else ""
         way = f"{step.reads.size} bytes from {self.names.start(step.reads)} to {self.target(step)}" if step.reads else ""
-        return f"piece {step.part}{element} of {self.command(place)}: {way}"
+        return f"piece {step.part}{element} of {self.command(place)}: {way}{self.untaken(place)}"
+
+    def untaken(self, place: int) -> str:
+        """What a delivery does to a value of its signal register that nobody took, as an ending; nothing of any other step."""
+        step = self.trace.steps[place]
+        if "deliver" not in step.told:
+            return ""
+        spe, register = map(int, step.told["signal"])
+        return over_untaken(held_before(self.trace, place), step.number("deliver") or 0, (spe, register) in self.sites.or_modes)
 
     def target(self, step: Step) -> str:
         """Where a piece brings its bytes."""

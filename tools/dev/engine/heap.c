@@ -1,93 +1,57 @@
-/* The heap of the WebAssembly module: the calls that compiled Rattle makes (c/heap.c has them over a C library's malloc), over Doug Lea's malloc. That is
-   dlmalloc/malloc.c, in the public domain, unchanged from Debian's package wasi-libc. It joins free blocks with their neighbours, and lets a block grow where
-   it lies. */
+/* The heap of the WebAssembly module: the functions by which compiled Rattle allocates memory, over the blocks of blocks.h. c/heap.c is the same over malloc. */
 typedef __SIZE_TYPE__ size_t;
-typedef __PTRDIFF_TYPE__ ptrdiff_t;
-#define NULL ((void *)0)
 
-static void *grow(ptrdiff_t count);
+extern unsigned char __heap_base; /* the first byte that neither stack nor data has: the linker defines it */
+#define MEMORY ((size_t)0)
+#define HEAP_START ((size_t)&__heap_base)
 
-/* There is no system below it, and one thread: memory comes from `grow`, and goes back to nobody. */
-#define LACKS_UNISTD_H
-#define LACKS_FCNTL_H
-#define LACKS_SYS_PARAM_H
-#define LACKS_SYS_MMAN_H
-#define LACKS_STRINGS_H
-#define LACKS_STRING_H
-#define LACKS_SYS_TYPES_H
-#define LACKS_ERRNO_H
-#define LACKS_STDLIB_H
-#define LACKS_SCHED_H
-#define LACKS_TIME_H
-#define ENOMEM 12
-#define EINVAL 22
-#define memset __builtin_memset
-#define memcpy __builtin_memcpy
-#define HAVE_MMAP 0
-#define MORECORE grow
-#define MORECORE_CANNOT_TRIM 1
-#define USE_LOCKS 0
-#define NO_MALLINFO 1
-#define NO_MALLOC_STATS 1
-#define MALLOC_ALIGNMENT 16
-#define MALLOC_FAILURE_ACTION
-#define ABORT __builtin_trap()
-#define malloc_getpagesize ((size_t)65536)
-#define DEFAULT_GRANULARITY ((size_t)262144)
-#define USE_DL_PREFIX 1
-#define DLMALLOC_EXPORT static inline
-static size_t dlmalloc_usable_size(void *);
-#include "dlmalloc/malloc.c"
+#define PAGE ((size_t)65536)
+#define STEP ((size_t)4) /* pages: the memory grows by a multiple of them, so that it grows seldom */
+#define MOST ((size_t)65536 * PAGE)
 
-#define PAGE_BITS 16
-#define MOST_PAGES 65536 /* of a 32-bit memory */
-extern unsigned char __heap_base;
-
-/* Where the memory ends that was given out, and what is given out next behind it: all ones where there is no more. */
-static void *grow(ptrdiff_t count) {
-    static size_t top;
-    if (!top) top = (size_t)&__heap_base;
-    size_t end = __builtin_wasm_memory_size(0) << PAGE_BITS;
-    if (count > 0 && (size_t)count > end - top) {
-        size_t pages = ((size_t)count - (end - top) + (1 << PAGE_BITS) - 1) >> PAGE_BITS;
-        if (pages > MOST_PAGES || __builtin_wasm_memory_grow(0, pages) == (size_t)-1) return (void *)-1;
-    }
-    size_t before = top;
-    top += count;
-    return (void *)before;
+/* The offset that the memory reaches after it has grown to reach `end`, 0 if it can't. */
+static size_t memory_up_to(size_t end) {
+    size_t now = __builtin_wasm_memory_size(0) * PAGE;
+    if (end <= now) return now;
+    if (end > MOST) return 0;
+    size_t pages = (end - now + PAGE - 1) / PAGE, rounded = (pages + STEP - 1) / STEP * STEP;
+    if (__builtin_wasm_memory_grow(0, rounded) == (size_t)-1 && __builtin_wasm_memory_grow(0, pages) == (size_t)-1) return 0;
+    return __builtin_wasm_memory_size(0) * PAGE;
 }
 
-/* What is answered: whether there was memory, and where it is. */
+#include "blocks.h"
+
+/* The result of an allocation: whether there was memory, and where the block is. */
 typedef struct {
     size_t ok;
     void *at;
 } Tried;
 
-/* The place of a block without bytes, where none was made. */
+/* The place of a block without bytes, for which nothing is allocated. */
 static char nothing;
 
 static Tried tried(void *at) {
-    return (Tried){at != NULL, at ? at : &nothing};
+    return (Tried){at != (void *)0, at ? at : &nothing};
 }
 
 /* The alignment `a` is at most 16, which every block has. */
 Tried rattle_alloc(size_t n, size_t a) {
-    return tried(dlmalloc(n ? n : a));
+    return tried(heap_take(n ? n : a));
 }
 
 Tried rattle_realloc(void *at, size_t kept, size_t n, size_t a) {
-    return tried(dlrealloc(at, n ? n : a));
+    return tried(heap_resize(at, kept, n ? n : a));
 }
 
 void rattle_dealloc(void *at) {
-    dlfree(at);
+    heap_give(at);
 }
 
-/* Room that a page asks for, 0 where there is none, and gives back. */
+/* A block for whoever calls the module, 0 if there is no memory, and its return. */
 __attribute__((export_name("room_take"))) void *room_take(size_t n) {
-    return dlmalloc(n);
+    return heap_take(n);
 }
 
 __attribute__((export_name("room_give"))) void room_give(void *at) {
-    dlfree(at);
+    heap_give(at);
 }

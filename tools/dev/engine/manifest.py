@@ -69,7 +69,7 @@ def files_of(crate: str) -> Iterator[pathlib.Path]:
 def sum_of_tools() -> str:
     """The checksum of the tools that make the module."""
     folder = TOOLS / "engine"
-    return sum_of_files([TOOLS / "wasm", *(path for kind in ("*.py", "*.c") for path in folder.rglob(kind))])
+    return sum_of_files([TOOLS / "wasm", *(path for kind in ("*.py", "*.c", "*.h") for path in folder.rglob(kind))])
 
 
 def lines_now(kit: str) -> Dict[str, str]:

@@ -6,7 +6,7 @@ use Rattle.hunt_forms.proofs.input.keys_of.Goals as goal
 
 pub loop-race-preserved : goal.loop-race-preserved
 loop-race-preserved c =
-    keys_step (key_of c.args.programs.now) c.args.races.now c.loop-race.race-index _ _ _ _ c.loop-race-test.true refl c.loop-race.invariant c.in_ok-add_key.ensures
+    keys_step (key_of c.args.places.now) c.args.races.now c.loop-race.race-index _ _ _ _ c.loop-race-test.true refl c.loop-race.invariant c.in_ok-add_key.ensures
 
 pub returns : goal.returns
-returns c = c.loop-race.invariant ∙ ap (map (key_of c.args.programs.now)) (take_past c.args.races.now c.loop-race.race-index c.loop-race-test.false)
+returns c = c.loop-race.invariant ∙ ap (map (key_of c.args.places.now)) (take_past c.args.races.now c.loop-race.race-index c.loop-race-test.false)

@@ -5,4 +5,4 @@ use Rattle.hunt_forms.proofs.input.keys_of.Given as goal
 
 -- the keys of the races so far
 abbrev pub invariant-loop-race : goal.invariant-loop-race
-invariant-loop-race l = bytes_in l.keys.items ≡ map (key_of l.programs) (take l.race-index l.races)
+invariant-loop-race l = bytes_in l.keys.items ≡ map (key_of l.places) (take l.race-index l.races)

@@ -8,7 +8,7 @@ use Rattle.hunt_forms.proofs.passes.read_passes.Given as goal
 -- what was read, in front of what is still read, is all
 abbrev pub invariant-loop-rest : goal.invariant-loop-rest
 invariant-loop-rest l = record {
-  so_far : with_front l.races.items (walk (line_step l.spes) lacks l.number tt (lines_of l.rest)) ≡ passes_at l.spes l.text;
+  so_far : with_front l.races.items (walk (line_step l.setup l.places) lacks l.number tt (lines_of l.rest)) ≡ passes_at l.setup l.places l.text;
   numbered : l.number + length l.rest ≤ length l.text + 1;
 }
 

@@ -24,9 +24,10 @@ returns-in_err-passed-clause-cause g c =
 pub returns-in_err-passed-clause-comes : goal.returns-in_err-passed-clause-comes
 returns-in_err-passed-clause-comes g c = λ told is.
     let p = err_from_is_err_and c.from_residual-in_err-passed.result c.from_residual-in_err-passed.ensures.1 in
-    rw (p.1, p.2) (passed_refuses told c.args.machine.now (texts_of c.args.expect) (texts_of c.args.pass) c.as_slice.result.now c.spes.result c.in_ok-setup.setup _ _ _ _ c.in_err-passed.field-0.0
-    (c.in_ok-expected.ensures.kept ∙ c.in_ok-setup.ensures.kept) (c.in_ok-setup.ensures.comes told is).0
-    (expects told (texts_of c.args.expect) c.in_ok-expected.expected (c.in_ok-expected.ensures.comes told (c.read_machine.ensures.same ∙ is))) c.spes.ensures.count c.in_err-passed.ensures.cause
+    let m = c.in_ok-setup.ensures.comes told is in
+    rw (p.1, p.2) (passed_refuses told c.args.machine.now (texts_of c.args.expect) (texts_of c.args.pass) c.in_ok-setup.setup c.in_ok-setup.places _ _ _ _ c.in_err-passed.field-0.0
+    (c.in_ok-expected.ensures.kept ∙ c.in_ok-setup.ensures.kept) m.0 m.1
+    (expects told (texts_of c.args.expect) c.in_ok-expected.expected (c.in_ok-expected.ensures.comes told (c.read_machine.ensures.same ∙ is))) c.in_err-passed.ensures.cause
     (c.in_err-passed.ensures.comes told (c.expected_by.ensures.same ∙ c.read_machine.ensures.same ∙ is)))
 
 pub returns-clause-comes : goal.returns-clause-comes
@@ -34,8 +35,8 @@ returns-clause-comes g c = λ told is.
     let m = c.in_ok-setup.ensures.comes told is in
     record {
       setup = m.0;
-      programs = m.1;
+      places = m.1;
       expected = expects told (texts_of c.args.expect) c.in_ok-expected.expected (c.in_ok-expected.ensures.comes told (c.read_machine.ensures.same ∙ is));
-      passed = passes told (texts_of c.args.pass) c.in_ok-setup.programs.items c.as_slice.result.now c.spes.result _ c.in_ok-passed.passed c.as_slice.ensures.value c.spes.ensures.count
+      passed = passes told (texts_of c.args.pass) c.in_ok-setup.setup c.in_ok-setup.places c.in_ok-passed.passed
           (c.in_ok-passed.ensures.comes told (c.expected_by.ensures.same ∙ c.read_machine.ensures.same ∙ is));
     }

@@ -5,6 +5,6 @@ use Rattle.hunt_reports.proofs.races.races_of.Given as goal
 
 abbrev pub invariant-loop-racing : goal.invariant-loop-racing
 invariant-loop-racing l = record {
-  told : l.made.told.items ≡ races_told l.programs (bytes_in l.passed) (take l.racing-index l.races);
-  left : l.made.leaves_out ≡ leaves_out l.programs (bytes_in l.passed) (take l.racing-index l.races);
+  told : l.made.told.items ≡ races_told l.places (bytes_in l.passed) (take l.racing-index l.races);
+  left : l.made.leaves_out ≡ leaves_out l.places (bytes_in l.passed) (take l.racing-index l.races);
 }

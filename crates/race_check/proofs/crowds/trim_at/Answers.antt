@@ -1,4 +1,4 @@
-use Rattle.std.proofs.Common.{◌≡◌, ap, sym, subst, ◌∙◌}
+use Rattle.std.proofs.Common.{◌≡◌, ap, refl, sym, subst, ◌∙◌}
 use Rattle.std.proofs.lemmas.List.{get_or_default}
 use Rattle.race_check.specs.declared.crowd.Crowd.{Crowd}
 use Rattle.race_check.specs.Crowds.{IsCutPut}
@@ -12,5 +12,5 @@ returns-clause-trimmed c =
     let shared = c.meet.ensures.0 c.if-not-meet.false in
     let one = c.swap_remove-crowd.ensures.value ∙ get_or_default crowds c.args.i crowd c.index.result.now c.requires ∙ sym c.index.ensures in
     let place : crowd.entry.place ≡ c.args.new.now.place = ap (λ (c' : Crowd). c'.entry.place) one ∙ shared.2.place ∙ sym shared.3.place in
-    trimmed_at c.args.new.now crowds c.args.i crowd c.requires c.swap_remove-crowd.ensures.value place c.front.result c.back.result c.as_slice-others.result.now c.put_cut.new.crowds.items c.put_cut-2.new.crowds.items
-    c.as_slice-others.ensures.value c.front.ensures (subst (λ xs. IsCutPut c.front.result c.as_slice-others.result.now xs c.put_cut.new.crowds.items) c.swap_remove-crowd.ensures.items c.in_ok-put_cut.ensures.put) c.back.ensures c.in_ok-put_cut-2.ensures.put
+    trimmed_at c.args.new.now crowds c.args.i crowd c.requires c.swap_remove-crowd.ensures.value place c.front.result c.back.result crowd.others.list.items c.put_cut.new.crowds.items c.put_cut-2.new.crowds.items
+    refl c.front.ensures (subst (λ xs. IsCutPut c.front.result crowd.others.list.items xs c.put_cut.new.crowds.items) c.swap_remove-crowd.ensures.items c.in_ok-put_cut.ensures.put) c.back.ensures c.in_ok-put_cut-2.ensures.put

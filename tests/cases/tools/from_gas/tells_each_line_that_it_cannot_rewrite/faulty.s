@@ -44,6 +44,35 @@ f:
 	.fill	1,16
 	.fill	1,8,7
 	.text
-	.align	3,0
-	.end
+	.align	3,x
+	.rept	2
+	fa	$3,$4,$5
+	.endr
+	MACRO	thrice reg
+	fm	\reg,\reg,\reg
+	.macro	within
+	.endm
+	.endm
+	Thrice	$3
+	.if	1
+	nop
+	.else
+	dfa	$3,$4,$5
+	.endif
+	.endif
+	il	$3,MFC_DECREMENTER_EVENT
+	iret
+	binze	$3,$4
+	stopd	$3,$4,$5
+	mfspr	$3,$sp1
+	wrch	$MFC_WrMSSyncReq,$3
+	il	$3,MFC_PUTR_CMD
+	a	$3,x,$4
+	a	$3,$(64*2),$4
+	lqd	$3,(16)
+	il	$3,!f
+	il	$3,f==y
+	nonsense
+	.nonsense
+	end
 	nonsense

@@ -1,6 +1,6 @@
 use Rattle.std.proofs.Common.{sym, ap, ◌∙◌, subst}
 use Rattle.race_check.specs.Searches.{run_of}
-use Rattle.run_permute.specs.Places.{until}
+use Rattle.reorder_laws.specs.Places.{until}
 use Rattle.cell_forms.specs.Judging.{LooksAt}
 use Rattle.cell_forms.proofs.Fronts.{back}
 use Rattle.cell_forms.proofs.looks.Looks.advance.Goals as goal

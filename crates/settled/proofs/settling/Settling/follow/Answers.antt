@@ -2,7 +2,7 @@ use Rattle.std.proofs.Common.{◌+◌, length, refl, sym, ap, ◌∙◌, subst}
 use Rattle.cell_machine.specs.Run.{Ran, IsRun}
 use Rattle.cell_machine.proofs.AllTwo.{whole}
 use Rattle.run_walk.specs.Walks.{walked}
-use Rattle.run_permute.specs.Places.{until}
+use Rattle.reorder_laws.specs.Places.{until}
 use Rattle.settled.specs.Watches.{AreWatches}
 use Rattle.settled.proofs.Settlings.{earlier, stepped, stepped-follows, unsettled-more}
 use Rattle.settled.proofs.Walking.{made-there}

@@ -1,0 +1,88 @@
+"""Adds up the parts of a hunt, as `hunt --json` prints them, to the text of one hunt of all their runs."""
+import json
+import re
+from typing import Any, Dict, Iterator, List, Tuple
+
+COUNTED = re.compile(r'(.*),"runs":(\d+),"first":(\d+|null)\}')
+ORDER = ("race", "end", "result", "missed")  # of the lines between the first and the last
+SUMS = ("runs", "all_stopped", "left_out")  # numbers of the first line that are added; others are the same in each part
+
+Json = Dict[str, Any]
+
+
+def compact(value: object) -> str:
+    return json.dumps(value, separators=(",", ":"))
+
+
+def together(first: Json, second: Json) -> Json:
+    """The count of both, of which the second is of later runs."""
+    return {"runs": first["runs"] + second["runs"], "first": second["first"] if first["first"] is None else first["first"]}
+
+
+class Line:
+    """A line of a race, an ending, a result or a missed line, with its count."""
+
+    def __init__(self, front: str, runs: int, first: int) -> None:
+        self.front, self.runs, self.first = front, runs, first
+
+    def __str__(self) -> str:
+        return f'{self.front},"runs":{self.runs},"first":{self.first}}}'
+
+
+class Sum:
+    """The sum of parts, which come in the order of their runs."""
+
+    def __init__(self) -> None:
+        self.head: Json = {}
+        self.lines: Dict[str, Dict[str, Line]] = {kind: {} for kind in ORDER}
+        self.kinds: Dict[str, int] = {}
+
+    def add(self, text: str) -> None:
+        head, *lines, last = text.splitlines()
+        self.add_head(json.loads(head))
+        for line in lines:
+            self.add_line(line)
+        for digest, runs in json.loads(last)["kinds"].items():
+            self.kinds[digest] = self.kinds.get(digest, 0) + runs
+
+    def add_head(self, head: Json) -> None:
+        for name, value in head.items():
+            if name not in self.head:
+                self.head[name] = value
+            elif isinstance(value, dict):
+                self.head[name] = together(self.head[name], value)
+            elif name in SUMS:
+                self.head[name] += value
+
+    def add_line(self, text: str) -> None:
+        front, runs, first = parts_of(text)
+        kind, key = told_by(front)
+        line = self.lines[kind].setdefault(key, Line(front, 0, int(first)))
+        line.runs += int(runs)
+
+    def texts(self) -> Iterator[str]:
+        yield compact(self.head)
+        for kind in ORDER:
+            yield from map(str, self.lines[kind].values())
+        yield compact({"kinds": self.kinds})
+
+    def text(self) -> str:
+        return "".join(f"{line}\n" for line in self.texts())
+
+
+def parts_of(text: str) -> Tuple[str, str, str]:
+    found = COUNTED.fullmatch(text)
+    if not found:
+        raise ValueError(f"a line of a hunt without a count: {text}")
+    front, runs, first = found.groups()
+    return front, runs, first
+
+
+def told_by(front: str) -> Tuple[str, str]:
+    """Which kind of line this is, and by what two of that kind are the same: a race by its key, others by all that is before their counts."""
+    if front.startswith('{"race"'):
+        return "race", json.loads(f"{front}}}")["key"]
+    names: List[str] = [kind for kind in ("result", "end", "missed") if front.startswith(f'{{"{kind}"')]
+    if not names:
+        raise ValueError(f"an unknown line of a hunt: {front}")
+    return names[0], front

@@ -1,5 +1,0 @@
-use Rattle.run_walk.specs.Walks.{walked}
-use Rattle.race_check.proofs.crowd.is_safe.Given as goal
-
-abbrev pub ghost-before : goal.ghost-before
-ghost-before a = walked a.self.now

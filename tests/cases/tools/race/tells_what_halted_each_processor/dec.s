@@ -1,0 +1,1 @@
+_start:	rdch	$3,$ch8

@@ -1,0 +1,2 @@
+_start: rdch $3,$ch24
+ stop 1

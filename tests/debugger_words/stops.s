@@ -1,0 +1,1 @@
+_start:	stop	1

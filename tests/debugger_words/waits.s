@@ -1,0 +1,3 @@
+_start:	il	$3,1
+	rdch	$4,$ch29
+	stop	1

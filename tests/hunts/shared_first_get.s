@@ -1,0 +1,9 @@
+# Gets what shared_first_put.s puts, and doesn't wait.
+ila $3,0x1000
+wrch $ch16,$3
+wrch $ch18,$0
+il $4,16
+wrch $ch19,$4
+il $6,0x40
+wrch $ch21,$6
+stop 2

@@ -1,0 +1,110 @@
+"""Makes a part of what the program of ./hunt prints with --json, line by line."""
+import array
+import hashlib
+import json
+import re
+from typing import Any, BinaryIO, Dict, Iterator, List
+
+from celltools.common.repository import program_sources, version
+from celltools.common.texts import bytes_of
+from celltools.hunt.endings import Json
+from celltools.hunt.lines import FEED, FORM, LONG_FEED, kinds_lines, last_line, line_of, result_line
+from celltools.hunt.words import Explainer, end_places, places_of
+from celltools.run.plans import sources_of
+from celltools.run.runs import IN_PLACE, UNPROVED, Refused, prepare
+from celltools.run.snapshots import Snapshot
+from celltools.source.sites import Sites
+
+RESULT = re.compile(rb'\{"result":"([^"]*)","end":"([^"]*)","runs":(\d+),"first":(\d+)\}\n')
+KINDS = b'{"kinds":{'
+KIND = re.compile(rb'"(\d+)":(\d+)')
+
+
+def sum_of_files(machine: str, others: List[str]) -> str:
+    """A checksum of a machine file, its sources, and other files, by their bytes and in this order."""
+    whole_sum = hashlib.sha256()
+    for name in [machine, *sources_of(machine), *others]:
+        whole_sum.update(hashlib.sha256(bytes_of(name)).digest())
+    return whole_sum.hexdigest()
+
+
+def first_members(machine: str, checksum: str) -> Json:
+    """The members of a part's first line."""
+    status = prepare()
+    program = "unproved" if status == UNPROVED else program_sources(status == IN_PLACE)
+    return {"part": FORM, "version": version(), "program": program, "machine": machine, "sum": checksum}
+
+
+class Checked:
+    """Lines, of which the number and the checksum are kept."""
+
+    def __init__(self) -> None:
+        self.count, self.checksum = 0, hashlib.sha256()
+
+    def add(self, line: bytes) -> bytes:
+        self.count += 1
+        self.checksum.update(line)
+        return line
+
+    def last(self) -> bytes:
+        return last_line(self.count, self.checksum.hexdigest())
+
+
+def whole(lines: Iterator[bytes]) -> Iterator[bytes]:
+    """Lines with the last line of a part after them."""
+    checked = Checked()
+    for line in lines:
+        yield checked.add(line)
+    yield checked.last()
+
+
+class Maker:
+    """Turns lines of the program into those of a part."""
+
+    def __init__(self, sites: Sites, machine: Snapshot, seed: int) -> None:
+        self.sites, self.explainer = sites, Explainer(machine, seed)
+        self.numbers: Dict[bytes, int] = {}  # of the endings, by how the program writes them
+
+    def lines(self, line: bytes) -> Iterator[bytes]:
+        """The lines for a line after the head."""
+        found = RESULT.fullmatch(line)
+        if found:
+            yield result_line(self.numbers[found[2]], int(found[3]), int(found[4]), found[1].replace(LONG_FEED, FEED))
+        elif line.startswith(KINDS):
+            digests, runs = array.array("Q"), array.array("L")
+            for kind in KIND.finditer(line):
+                digests.append(int(kind[1]))
+                runs.append(int(kind[2]))
+            yield from kinds_lines(digests, runs)
+        else:
+            yield line_of(self.completed(json.loads(line), line))
+
+    def completed(self, members: Dict[str, Any], line: bytes) -> Json:
+        """The object of a race, an ending or a missed line, with what is added to it."""
+        if "race" in members:
+            return {**members, "places": places_of(self.sites, members["race"])}
+        if "end" in members:
+            ending, number = members["end"], len(self.numbers)
+            self.numbers[line.split(b'"')[3]] = number
+            explained = self.explainer.of(ending, members["first"], self.sites)
+            return {"number": number, **members, "places": end_places(self.sites, ending, explained), "words": list(explained.words)}
+        return members
+
+
+def lines_made(output: BinaryIO, checksum: str, sites: Sites, machine: Snapshot) -> Iterator[bytes]:
+    """The lines of a part but for its last."""
+    yield line_of(first_members(str(machine), checksum))
+    head = output.readline()
+    members = json.loads(head)
+    yield head
+    maker = Maker(sites, machine, members["seed"])
+    for line in output:
+        yield from maker.lines(line)
+
+
+def part_lines(output: BinaryIO, checksum: str, sites: Sites, machine: Snapshot) -> Iterator[bytes]:
+    """The lines of a part, of what the program prints. Refused if that isn't what it prints."""
+    try:
+        yield from whole(lines_made(output, checksum, sites, machine))
+    except (ValueError, KeyError, IndexError, TypeError):
+        raise Refused("standard input isn't what the program of ./hunt prints with --json") from None

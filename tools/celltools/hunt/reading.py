@@ -1,0 +1,414 @@
+"""Reads parts, the outputs of `./hunt MACHINE --json`, line by line, and refuses all that ./hunt doesn't write: each refusal has the file, the line and the reason."""
+import dataclasses
+import errno
+import hashlib
+import json
+import os
+import re
+import stat
+import sys
+import tempfile
+from typing import Any, BinaryIO, Callable, Dict, Iterator, List, Optional, Sequence, Tuple, Union
+
+from celltools.hunt import lines as written
+from celltools.hunt.copies import first_of_pipe
+from celltools.hunt.endings import SPENT, STOPPED, STUCK, Json, end_word, has_fault, has_halt
+from celltools.run.runs import Refused
+
+# What can be wrong in a run, in the order in which it is printed.
+FLAWS = ("race", "stuck", "budget", "fault", "halt", "missed")
+FORM_OF_HUNT = 1
+MOST_RUN, MOST_SEED = 0xFFFF_FFFE, 0xFFFF_FFFF_FFFF_FFFF
+MOST_LINE = 1 << 28  # bytes
+CHECKSUM = re.compile(r"[0-9a-f]{64}")
+VERSION = re.compile(r"[0-9]+\.[0-9]+\.[0-9]+")
+AGAIN = "make the part again by ./hunt MACHINE --json"
+OLDER = b'{"machine":'  # begins what earlier versions printed
+
+
+class Wrong(Exception):
+    """Why a line is none of a part's."""
+
+
+@dataclasses.dataclass
+class Count:
+    """How many runs have something, and the first of them, None if none has."""
+    runs: int
+    first: Optional[int]
+
+    def added(self, other: "Count") -> "Count":
+        """Both together."""
+        return Count(self.runs + other.runs, min((first for first in (self.first, other.first) if first is not None), default=None))
+
+
+@dataclasses.dataclass
+class Head:
+    """A hunt's head: its runs are those of the seed from `start` on."""
+    seed: int
+    start: int
+    runs: int
+    expects: bool
+    all_stopped: int
+    left_out: int
+    flaws: Dict[str, Count]
+
+    @property
+    def stop(self) -> int:
+        """The number after the last run."""
+        return self.start + self.runs
+
+
+@dataclasses.dataclass
+class Part:
+    """A part: where it is, the members of its first line, and its head."""
+    file: str
+    line: int
+    opening: Json
+    head: Head
+
+
+@dataclasses.dataclass
+class Result:
+    """The result of an ending: its text as it is written, and where its line begins in its file."""
+    text: bytes
+    ending: str
+    count: Count
+    offset: int
+
+
+class Hearer:
+    """Takes what parts have, in the order of their lines."""
+
+    def take_told(self, what: str, key: str, members: Json, count: Count) -> None:
+        """A race, an ending or a missed line."""
+
+    def take_result(self, result: Result) -> None:
+        """A result of an ending."""
+
+    def take_kinds(self, digests: List[int], runs: List[int]) -> None:
+        """Classes of runs."""
+
+
+# ---- members
+
+def is_number(value: object, least: int, most: int) -> bool:
+    return type(value) is int and least <= value <= most
+
+
+def refuse_other(name: str, value: object, is_right: bool, wanted: str) -> None:
+    if not is_right:
+        said = json.dumps(value)
+        raise Wrong(f'"{name}" is {said if len(said) < 80 else said[:77] + "..."}, not {wanted}')
+
+
+def number_in(members: Json, name: str, least: int, most: int) -> int:
+    value = members[name]
+    refuse_other(name, value, is_number(value, least, most), f"a number from {least} to {most}")
+    return int(value)
+
+
+def text_in(members: Json, name: str, pattern: Optional["re.Pattern[str]"] = None, wanted: str = "a string") -> str:
+    value = members[name]
+    refuse_other(name, value, isinstance(value, str) and (pattern is None or bool(pattern.fullmatch(value))), wanted)
+    return str(value)
+
+
+def list_in(members: Json, name: str, kinds: Tuple[type, ...], length: Optional[int] = None) -> List[Any]:
+    value = members[name]
+    is_right = isinstance(value, list) and all(isinstance(item, kinds) for item in value) and length in (None, len(value))
+    refuse_other(name, value, is_right, "a list of strings" + ("" if length is None else f" and nulls, {length} in all"))
+    return list(value)
+
+
+def refuse_names(members: Json, names: Sequence[str]) -> None:
+    """Refuses an object that has other members, or in another order."""
+    if list(members) != list(names):
+        raise Wrong(f"its members are {', '.join(map(str, members)) or 'none'}, not {', '.join(names)}")
+
+
+def object_of(line: bytes) -> Json:
+    """The object of a line."""
+    try:
+        found = json.loads(line)
+    except (ValueError, RecursionError):
+        raise Wrong("it is no JSON") from None
+    if not isinstance(found, dict):
+        raise Wrong("it is no object of JSON")
+    return found
+
+
+def refuse_other_writing(members: Json, line: bytes) -> None:
+    """Refuses a line that has the right members, but not as ./hunt writes them, such as twice or with spaces."""
+    if written.line_of(members) != line:
+        raise Wrong("it isn't written as ./hunt writes it")
+
+
+# ---- lines
+
+def opening_of(line: bytes) -> Json:
+    """The first line of a part."""
+    if line.startswith(OLDER):
+        raise Wrong("it is a part of an earlier version, which has no checksum of its lines")
+    members = object_of(line)
+    if written.PART not in members:
+        raise Wrong('no part begins here: its first line has "part"')
+    refuse_names(members, ("part", "version", "program", "machine", "sum"))
+    refuse_other("part", members["part"], is_number(members["part"], written.FORM, written.FORM), f"{written.FORM}, the form that this tools/hunts reads")
+    text_in(members, "version", VERSION, "a version such as 1.0.0")
+    text_in(members, "program")
+    text_in(members, "machine")
+    text_in(members, "sum", CHECKSUM, "a SHA-256")
+    refuse_other_writing(members, line)
+    return members
+
+
+def flaw_of(members: Json, name: str, head: Head) -> Count:
+    value = members[name]
+    refuse_other(name, value, isinstance(value, dict) and list(value) == ["runs", "first"], "an object with runs and first")
+    runs = number_in(value, "runs", 0, head.runs)
+    if not runs:
+        refuse_other(f"{name}.first", value["first"], value["first"] is None, "null, since no run has it")
+        return Count(0, None)
+    return Count(runs, number_in(value, "first", head.start, head.stop - runs))
+
+
+def head_of(line: bytes) -> Head:
+    """The second line of a part."""
+    members = object_of(line)
+    refuse_names(members, ("hunt", "seed", "from", "runs", "expects", "all_stopped", "left_out", *FLAWS))
+    number_in(members, "hunt", FORM_OF_HUNT, FORM_OF_HUNT)
+    runs = number_in(members, "runs", 1, MOST_RUN + 1)
+    start = number_in(members, "from", 0, MOST_RUN + 1 - runs)
+    refuse_other("expects", members["expects"], isinstance(members["expects"], bool), "true or false")
+    stopped, left_out = (number_in(members, name, 0, runs) for name in ("all_stopped", "left_out"))
+    head = Head(number_in(members, "seed", 0, MOST_SEED), start, runs, members["expects"], stopped, left_out, {})
+    head.flaws.update({name: flaw_of(members, name, head) for name in FLAWS})
+    refuse_other_writing(members, line)
+    return head
+
+
+class Body:
+    """The lines of a part after its head, which it judges one by one and then together."""
+
+    def __init__(self, head: Head, hearer: Hearer) -> None:
+        self.head, self.hearer = head, hearer
+        self.stage = 0
+        self.endings: List[Tuple[str, Count]] = []
+        self.left: List[int] = []  # of each ending, how many runs have no result yet
+        self.counts: Dict[str, List[Count]] = {"race": [], "missed": []}
+        self.seen: Dict[str, Dict[str, None]] = {"race": {}, "end": {}, "missed": {}}
+        self.kinds = 0
+        self.last_first = -1
+
+    def count_of(self, runs: int, first: int, most: int) -> Count:
+        if not 1 <= runs <= most:
+            raise Wrong(f"{runs} runs have it, not 1 to {most}")
+        if not self.head.start <= first <= self.head.stop - runs:
+            raise Wrong(f"run {first} is the first of {runs}, which is none of the runs {self.head.start} to {self.head.stop - 1}")
+        return Count(runs, first)
+
+    def counted(self, members: Json, most: int) -> Count:
+        return self.count_of(number_in(members, "runs", 1, most), number_in(members, "first", 0, MOST_RUN), most)
+
+    def take(self, line: bytes, offset: int) -> None:
+        """Takes in a line. Wrong if it isn't one, or comes too late."""
+        stage = next((stage for stage, start in enumerate(STARTS) if line.startswith(start)), None)
+        if stage is None:
+            raise Wrong("it is no line of a part")
+        if stage < self.stage:
+            raise Wrong("it comes too late: races come first, then endings, results, missed lines and classes of runs")
+        self.stage = stage
+        taking: List[Callable[[bytes, int], None]] = [self.take_race, self.take_ending, self.take_result, self.take_missed, self.take_kinds]
+        taking[stage](line, offset)
+
+    def take_once(self, what: str, key: str, members: Json, line: bytes, count: Count) -> None:
+        refuse_other_writing(members, line)
+        if key in self.seen[what]:
+            raise Wrong("an earlier line of this part is of the same")
+        self.seen[what][key] = None
+        self.hearer.take_told(what, key, members, count)
+
+    def take_race(self, line: bytes, _: int) -> None:
+        members = object_of(line)
+        refuse_names(members, ("race", "key", "runs", "first", "places"))
+        list_in(members, "places", (str, type(None)), len(written.parts_in(text_in(members, "race"))))
+        count = self.counted(members, self.head.flaws["race"].runs)
+        self.counts["race"].append(count)
+        self.take_once("race", text_in(members, "key"), members, line, count)
+
+    def take_ending(self, line: bytes, _: int) -> None:
+        members = object_of(line)
+        refuse_names(members, ("number", "end", "runs", "first", "places", "words"))
+        number_in(members, "number", len(self.endings), len(self.endings))
+        ending = text_in(members, "end")
+        list_in(members, "places", (str, type(None)), len(written.parts_in(ending)))
+        list_in(members, "words", (str,))
+        count = self.counted(members, self.head.runs)
+        self.endings.append((ending, count))
+        self.left.append(count.runs)
+        self.take_once("end", ending, members, line, count)
+
+    def take_result(self, line: bytes, offset: int) -> None:
+        found = written.RESULT.fullmatch(line)
+        if not found:
+            raise Wrong("it is no result: the number of an ending, a number of runs, the first of them, and a text")
+        number, runs, first = int(found[1]), int(found[2]), int(found[3])
+        if number >= len(self.endings):
+            raise Wrong(f"there is no ending {number} in this part, which has {len(self.endings)}")
+        if first <= self.last_first:
+            raise Wrong(f"its first run is {first}, and that of the result before it is {self.last_first}: results come in the order of their first runs")
+        self.last_first = first
+        count = self.count_of(runs, first, self.left[number])
+        self.left[number] -= runs
+        self.hearer.take_result(Result(found[4], self.endings[number][0], count, offset))
+
+    def take_missed(self, line: bytes, _: int) -> None:
+        members = object_of(line)
+        refuse_names(members, ("missed", "runs", "first"))
+        count = self.counted(members, self.head.flaws["missed"].runs)
+        self.counts["missed"].append(count)
+        self.take_once("missed", text_in(members, "missed"), members, line, count)
+
+    def take_kinds(self, line: bytes, _: int) -> None:
+        members = object_of(line)
+        refuse_names(members, (written.KINDS, "runs"))
+        try:
+            digests = written.unpacked(text_in(members, written.KINDS))
+        except ValueError:
+            raise Wrong(f'"{written.KINDS}" is no base64 of numbers of 64 bits') from None
+        runs = members["runs"]
+        if not isinstance(runs, list) or len(runs) != len(digests) or not all(is_number(each, 1, self.head.runs) for each in runs):
+            raise Wrong(f'"runs" isn\'t a list of {len(digests)} numbers from 1 to {self.head.runs}')
+        refuse_other_writing(members, line)
+        self.kinds += sum(runs)
+        self.hearer.take_kinds(digests, runs)
+
+    def refuse_sums(self) -> None:
+        """Refuses counts that don't belong together."""
+        head = self.head
+        of_endings: List[Tuple[str, Count, Callable[[str], bool]]] = [
+            ("all", Count(head.runs, head.start), bool),
+            (STOPPED, Count(head.all_stopped, None), lambda ending: end_word(ending) == STOPPED),
+            (STUCK, head.flaws["stuck"], lambda ending: end_word(ending) == STUCK),
+            (SPENT, head.flaws["budget"], lambda ending: end_word(ending) == SPENT),
+            ("faulty", head.flaws["fault"], has_fault), ("halted", head.flaws["halt"], has_halt),
+        ]  # fmt: skip
+        for what, wanted, is_one in of_endings:
+            counts = [count for ending, count in self.endings if is_one(ending)]
+            refuse_sum(f"the endings of {what} runs", sum(count.runs for count in counts), wanted.runs)
+            refuse_first(f"the endings of {what} runs", counts, wanted)
+        for number, left in enumerate(self.left):
+            refuse_sum(f"the results of ending {number}", self.endings[number][1].runs - left, self.endings[number][1].runs)
+        refuse_sum("the classes of runs", self.kinds, head.runs)
+        for what, counts in self.counts.items():
+            if sum(count.runs for count in counts) < head.flaws[what].runs:
+                raise Wrong(f"its lines of `{what}` count fewer than the {head.flaws[what].runs} runs that its head counts")
+            refuse_first(f"the lines of `{what}`", counts, head.flaws[what])
+
+
+def refuse_sum(what: str, found: int, wanted: int) -> None:
+    if found != wanted:
+        raise Wrong(f"{what} count {found} runs, and it has {wanted}")
+
+
+def refuse_first(what: str, counts: Sequence[Count], wanted: Count) -> None:
+    first = min((count.first for count in counts if count.first is not None), default=None)
+    if wanted.first is not None and first != wanted.first:
+        raise Wrong(f"{what} begin with run {first}, and its head says run {wanted.first}")
+
+
+STARTS = (b'{"race":', b'{"number":', b"[", b'{"missed":', b'{"kinds":')  # of the lines after the head, in their order
+LAST = b'{"lines":'
+
+
+# ---- files
+
+class Kept:
+    """A stream that can be read once, such as a pipe: what is read of it is kept, in a file that no folder names."""
+
+    def __init__(self, stream: BinaryIO, first: bytes) -> None:
+        self.stream, self.first = stream, first
+        self.copy = tempfile.TemporaryFile()
+
+    def readline(self, most: int) -> bytes:
+        line = self.first
+        self.first = b""
+        if not line.endswith(b"\n"):
+            line += self.stream.readline(most - len(line))
+        self.copy.write(line)
+        return line
+
+
+def opened(file: str) -> Union[BinaryIO, Kept]:
+    """A file, whose lines are to be read. OSError if it can't be."""
+    if file == "-":
+        return Kept(sys.stdin.buffer, b"")
+    descriptor = os.open(file, os.O_RDONLY | os.O_NONBLOCK | os.O_NOCTTY)
+    kind = os.fstat(descriptor).st_mode
+    if stat.S_ISDIR(kind):
+        os.close(descriptor)
+        raise IsADirectoryError(errno.EISDIR, os.strerror(errno.EISDIR), file)
+    first = first_of_pipe(descriptor, file) if stat.S_ISFIFO(kind) else b""
+    os.set_blocking(descriptor, True)
+    stream = open(descriptor, "rb")
+    return stream if stat.S_ISREG(kind) else Kept(stream, first)
+
+
+class Reader:
+    """The lines of a file, each with its number."""
+
+    def __init__(self, name: str, file: Union[BinaryIO, Kept]) -> None:
+        self.name, self.file = name, file
+        self.number, self.offset, self.next_offset = 0, 0, 0
+
+    def line(self) -> bytes:
+        """The next line; nothing at the end."""
+        found = self.file.readline(MOST_LINE + 1)
+        self.number += 1
+        self.offset, self.next_offset = self.next_offset, self.next_offset + len(found)
+        if len(found) > MOST_LINE:
+            raise Wrong(f"it has more than {MOST_LINE:,} bytes")
+        return found
+
+    def parts(self, hearer: Callable[[Part], Hearer]) -> Iterator[Part]:
+        """The parts of the file, each when all of it has been judged. Refused if one is wrong."""
+        try:
+            line = self.line()
+            while line or self.number == 1:
+                yield self.part(line, hearer)
+                line = self.line()
+        except Wrong as why:
+            raise Refused(f"{self.name}:{self.number}: {why}: {AGAIN}") from None
+
+    def part(self, first: bytes, hearer: Callable[[Part], Hearer]) -> Part:
+        """The part that begins with a line."""
+        if not first:
+            raise Wrong("the file is empty")
+        start, checksum = self.number, hashlib.sha256(first)
+        opening, second = opening_of(first), self.line()
+        checksum.update(second)
+        part = Part(self.name, start, opening, head_of(second or self.cut(start)))
+        body = Body(part.head, hearer(part))
+        while True:
+            line = self.line() or self.cut(start)
+            if line.startswith(LAST):
+                break
+            body.take(line, self.offset)
+            checksum.update(line)
+        self.refuse_last(line, self.number - start, checksum.hexdigest())
+        body.refuse_sums()
+        return part
+
+    def cut(self, start: int) -> bytes:
+        raise Wrong(f'the part that begins in line {start} ends here without its last line, which begins with {LAST.decode()}')
+
+    @staticmethod
+    def refuse_last(line: bytes, count: int, checksum: str) -> None:
+        """Refuses the last line of a part if it doesn't fit the lines before it."""
+        members = object_of(line)
+        refuse_names(members, (written.LAST, "sha256"))
+        if not is_number(members[written.LAST], count, count):
+            raise Wrong(f'"{written.LAST}" is {json.dumps(members[written.LAST])}, and the part has {count} before this one: lines were removed or added')
+        if members["sha256"] != checksum:
+            raise Wrong(f"its lines aren't those that ./hunt wrote: their SHA-256 is {checksum}")
+        refuse_other_writing(members, line)

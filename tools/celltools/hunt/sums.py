@@ -1,0 +1,268 @@
+"""Adds up parts of a hunt to what one hunt of all the runs would print. Results, of which there may be a million, stay in their files: of each a digest is kept,
+its counts, and where its line is."""
+import array
+import dataclasses
+import hashlib
+from typing import IO, Dict, Iterator, List, Optional, Sequence, Tuple
+
+from celltools.hunt import lines as written
+from celltools.hunt.endings import Explained, Json
+from celltools.hunt.reading import FLAWS, FORM_OF_HUNT, Count, Head, Hearer, Kept, Part, Reader, Result, opened
+from celltools.run.runs import Refused
+
+MOST_RESULTS = 8  # of an ending that the text has
+SHOWN_RESULTS = 2  # of an ending of which the text has the difference
+DIGEST = 16  # bytes
+COUNTED = ("runs", "first")
+OF_ENDINGS = ("places", "words")
+
+
+@dataclasses.dataclass
+class Told:
+    """A race, an ending or a missed line: its members, and its count. Of several parts that have it the members are those of the first run."""
+    members: Json
+    count: Count
+    place: int  # among those of its part, for those of one first run
+
+    @property
+    def order(self) -> Tuple[int, int]:
+        return self.count.first or 0, self.place
+
+
+class Tally:
+    """Races, endings or missed lines by what tells them apart."""
+
+    def __init__(self) -> None:
+        self.told: Dict[str, Told] = {}
+
+    def take(self, key: str, told: Told) -> None:
+        other = self.told.get(key)
+        if other:
+            first = min(other, told, key=lambda each: each.order)
+            told = Told(first.members, other.count.added(told.count), first.place)
+        self.told[key] = told
+
+    def in_order(self) -> List[Told]:
+        return sorted(self.told.values(), key=lambda told: told.order)
+
+
+class Results:
+    """The results of endings."""
+
+    def __init__(self) -> None:
+        self.places: Dict[bytes, int] = {}  # by the digest of an ending and a text
+        self.endings: Dict[str, int] = {}
+        self.ending, self.file = array.array("L"), array.array("L")
+        self.runs, self.first, self.offset = array.array("Q"), array.array("Q"), array.array("Q")
+
+    @staticmethod
+    def digest(ending: int, text: bytes) -> bytes:
+        return hashlib.blake2b(b"%d %s" % (ending, text), digest_size=DIGEST).digest()
+
+    def take(self, result: Result, file: int) -> None:
+        ending, first = self.endings.setdefault(result.ending, len(self.endings)), result.count.first or 0
+        place = self.places.setdefault(self.digest(ending, result.text), len(self.runs))
+        if place == len(self.runs):
+            self.ending.append(ending)
+            self.runs.append(result.count.runs)
+            for numbers, number in ((self.file, file), (self.first, first), (self.offset, result.offset)):
+                numbers.append(number)
+            return
+        self.runs[place] += result.count.runs
+        if first < self.first[place]:
+            self.file[place], self.first[place], self.offset[place] = file, first, result.offset
+
+    def in_order(self) -> List[int]:
+        """The places of the results, in the order of their first runs."""
+        return sorted(range(len(self.first)), key=self.first.__getitem__)
+
+    def by_ending(self) -> Dict[str, List[int]]:
+        """The same of each ending."""
+        found: List[List[int]] = [[] for _ in self.endings]
+        for place in self.in_order():
+            found[self.ending[place]].append(place)
+        return {ending: found[number] for ending, number in self.endings.items()}
+
+    def count(self, place: int) -> Count:
+        return Count(self.runs[place], self.first[place])
+
+
+class Listener(Hearer):
+    """Takes what a part has into the sum."""
+
+    def __init__(self, hunt: "Hunt", file: int, part: Part) -> None:
+        self.hunt, self.file = hunt, file
+        self.kinds = hunt.kinds_of_part(part)
+
+    def take_told(self, what: str, key: str, members: Json, count: Count) -> None:
+        tally = self.hunt.tallies[what]
+        tally.take(key, Told({name: value for name, value in members.items() if name not in COUNTED}, count, len(tally.told)))
+
+    def take_result(self, result: Result) -> None:
+        self.hunt.results.take(result, self.file)
+
+    def take_kinds(self, digests: List[int], runs: List[int]) -> None:
+        self.kinds[0].extend(digests)
+        self.kinds[1].extend(runs)
+
+
+Kinds = Tuple["array.array[int]", "array.array[int]"]
+
+
+class Hunt:
+    """The sum of parts."""
+
+    def __init__(self, files: Sequence[str]) -> None:
+        self.names = ["standard input" if name == "-" else name for name in files]
+        self.files: List[Optional[IO[bytes]]] = []
+        self.tallies = {what: Tally() for what in ("race", "end", "missed")}
+        self.results = Results()
+        self.kinds_of_parts: List[Tuple[int, Kinds]] = []
+        self.parts: List[Part] = []
+        for number, name in enumerate(files):
+            self.read(number, name)
+        self.parts.sort(key=lambda part: part.head.start)
+        refuse_gaps(self.parts)
+        self.head = head_of(self.parts)
+
+    # ---- reading
+
+    def read(self, number: int, name: str) -> None:
+        """Reads a file. It is opened again by its name when texts of its results are wanted, unless it is a stream."""
+        try:
+            file = opened(name)
+        except OSError as why:
+            raise Refused(f"{name}: {why.strerror}: name a file of what `./hunt MACHINE --json` printed") from None
+        for part in Reader(self.names[number], file).parts(lambda part: self.hearer(number, part)):
+            self.parts.append(part)
+        if not isinstance(file, Kept):
+            file.close()
+        self.files.append(file.copy if isinstance(file, Kept) else None)
+
+    def hearer(self, number: int, part: Part) -> Hearer:
+        refuse_others(self.parts[0] if self.parts else part, part)
+        return Listener(self, number, part)
+
+    def kinds_of_part(self, part: Part) -> Kinds:
+        kinds = array.array("Q"), array.array("L")
+        self.kinds_of_parts.append((part.head.start, kinds))
+        return kinds
+
+    # ---- what it has
+
+    @property
+    def machine(self) -> str:
+        return str(self.parts[0].opening["machine"])
+
+    def kinds(self) -> Dict[int, int]:
+        """The classes of runs, in the order of the first runs, each with how many runs are of it."""
+        found: Dict[int, int] = {}
+        for _, (digests, runs) in sorted(self.kinds_of_parts, key=lambda kinds: kinds[0]):
+            for digest, count in zip(digests, runs):
+                found[digest] = found.get(digest, 0) + count
+        return found
+
+    def endings(self) -> List[Told]:
+        """The endings, in the order of the first runs; words and places of faults are left to those that one hunt of all the runs explains."""
+        explained = Explained()
+        return [told if explained.takes(told.members["end"]) else unexplained(told) for told in self.tallies["end"].in_order()]
+
+    def texts(self, places: Sequence[int]) -> Iterator[bytes]:
+        """The texts of results, as they are written. Refused if a file has changed since it was read."""
+        kept, number = None, -1
+        for place in places:
+            if self.results.file[place] != number:
+                number = self.results.file[place]
+                kept = self.files[number] or open(self.names[number], "rb")
+            yield self.text(kept, place)
+
+    def text(self, file: Optional[IO[bytes]], place: int) -> bytes:
+        found = None
+        if file:
+            file.seek(self.results.offset[place])
+            found = written.RESULT.fullmatch(file.readline())
+        if not found or self.results.places.get(self.results.digest(self.results.ending[place], found[4])) != place:
+            raise Refused(f"{self.names[self.results.file[place]]}: it has changed since it was read: call this again")
+        return found[4]
+
+
+def unexplained(told: Told) -> Told:
+    """An ending without words, and with the places of those processors alone that run."""
+    parts = written.parts_in(told.members["end"])
+    places = [place if " running " in part else None for part, place in zip(parts, told.members["places"])]
+    return dataclasses.replace(told, members={**told.members, "places": places, "words": []})
+
+
+def head_of(parts: Sequence[Part]) -> Head:
+    """The head of all runs."""
+    heads = [part.head for part in parts]
+    flaws = {name: heads[0].flaws[name] for name in FLAWS}
+    for head in heads[1:]:
+        flaws = {name: flaws[name].added(head.flaws[name]) for name in FLAWS}
+    return dataclasses.replace(heads[0], runs=sum(head.runs for head in heads), all_stopped=sum(head.all_stopped for head in heads),
+                               left_out=sum(head.left_out for head in heads), flaws=flaws)
+
+
+# ---- what doesn't belong together
+
+def place_of(part: Part) -> str:
+    return f"{part.file}:{part.line}"
+
+
+def refuse_others(first: Part, part: Part) -> None:
+    """Refuses a part of another program, another machine, another seed or other expectations than the first."""
+    there = place_of(first)
+    for name, what in (("version", "version"), ("program", "state of the program")):
+        if part.opening[name] != first.opening[name]:
+            raise Refused(f"{place_of(part)}: it is of {what} {part.opening[name]}, and {there} is of {first.opening[name]}: make both parts with one")
+    if part.opening["sum"] != first.opening["sum"]:
+        raise Refused(f"{place_of(part)}: another hunt than that of {there}: {part.opening['machine']}, one of its sources, or the lines of --expect or --pass "
+                      "are others")
+    if part.head.seed != first.head.seed:
+        raise Refused(f"{place_of(part)}: seed {part.head.seed}, and {there} has seed {first.head.seed}")
+    if part.head.expects != first.head.expects:  # of one file, which is the one's --expect and the other's --pass
+        raise Refused(f"{place_of(part)}: its lines of --expect or --pass are others than those of {there}")
+
+
+def refuse_gaps(parts: Sequence[Part]) -> None:
+    """Refuses parts, in the order of their runs, of which two share a run, or between two of which a run is missing."""
+    for before, after in zip(parts, parts[1:]):
+        if after.head.start < before.head.stop:
+            raise Refused(f"{place_of(after)}: run {after.head.start} is in {place_of(before)} as well")
+        if after.head.start > before.head.stop:
+            raise Refused(f"{place_of(after)}: it begins with run {after.head.start}, and the runs from {before.head.stop} on are in no file")
+
+
+# ---- writing
+
+def json_lines(hunt: Hunt) -> Iterator[bytes]:
+    """The lines that one hunt of all runs prints with --json, but for the last."""
+    yield written.line_of(hunt.parts[0].opening)
+    head = hunt.head
+    counts: Json = {name: dataclasses.asdict(count) for name, count in head.flaws.items()}
+    yield written.line_of({"hunt": FORM_OF_HUNT, "seed": head.seed, "from": head.start, "runs": head.runs, "expects": head.expects,
+                           "all_stopped": head.all_stopped, "left_out": head.left_out, **counts})
+    numbers: Dict[str, int] = {}
+    for told in hunt.tallies["race"].in_order():
+        yield told_line(told)
+    for told in hunt.endings():
+        numbers[told.members["end"]] = told.members["number"] = len(numbers)
+        yield told_line(told)
+    yield from result_lines(hunt, numbers)
+    for told in hunt.tallies["missed"].in_order():
+        yield told_line(told)
+    kinds = hunt.kinds()
+    yield from written.kinds_lines(list(kinds), list(kinds.values()))
+
+
+def told_line(told: Told) -> bytes:
+    added = {name: value for name, value in told.members.items() if name in OF_ENDINGS}
+    first = {name: value for name, value in told.members.items() if name not in OF_ENDINGS}
+    return written.line_of({**first, **dataclasses.asdict(told.count), **added})
+
+
+def result_lines(hunt: Hunt, numbers: Dict[str, int]) -> Iterator[bytes]:
+    of_ending = {number: numbers[ending] for ending, number in hunt.results.endings.items()}
+    places = hunt.results.in_order()
+    for place, text in zip(places, hunt.texts(places)):
+        yield written.result_line(of_ending[hunt.results.ending[place]], hunt.results.runs[place], hunt.results.first[place], text)
