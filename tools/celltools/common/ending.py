@@ -145,7 +145,11 @@ def end_by(number: int, _: Optional[FrameType]) -> NoReturn:
 def ignore_signals() -> None:
     """Lets no further signal disturb the program's end."""
     for number in (signal.SIGINT, *ENDING):
-        signal.signal(number, signal.SIG_IGN)
+        signal.signal(number, pass_over)
+
+
+def pass_over(_number: int, _frame: Optional[FrameType]) -> None:
+    """Does nothing. With SIG_IGN in its place, Python prints a traceback for a signal that came at the same moment as the one before it."""
 
 
 def status_or_exit(main: Main) -> int:
