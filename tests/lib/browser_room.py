@@ -13,10 +13,10 @@ FOLDERS = {"HOME": "home", "XDG_CONFIG_HOME": "config", "XDG_CACHE_HOME": "cache
            "TMPDIR": "t"}  # fmt: skip
 OTHERS = {"DBUS_SESSION_BUS_ADDRESS": "disabled:", "MOZ_CRASHREPORTER_DISABLE": "1", "MOZ_DISABLE_CONTENT_SANDBOX": "1"}  # further variables
 PRIVATE = 0o700  # without which XDG_RUNTIME_DIR isn't taken
-# The path of a socket has 107 bytes at most, and Chromium ends at a longer one. It adds some 45 to TMPDIR, and this module and its callers 27 to the folder for
-# temporary files.
-MOST_LETTERS = 34  # of that folder
-SHORT = ("/tmp", "/var/tmp", "/dev/shm")  # taken if its path is longer
+# The path of a socket has 107 bytes at most, and Chromium ends at a longer one. It adds some 45 to TMPDIR, and this module and its callers 29 to the folder for
+# temporary files. In tests/all that is a folder of the test in a folder of tests/all, which alone has up to 80.
+MOST_LETTERS = 33  # of that folder
+SHORT = ("/dev/shm", "/tmp", "/var/tmp")  # taken if its path is longer: the one that it is in, or else one on a disk
 FIRST_TITLE = "first"  # of the page that is opened to see whether the browser works
 SHOWN = 300  # letters of a line
 NOISE = re.compile(r"/crashpad/|:ERROR:dbus/|^/usr/bin/chromium: |^#\d+ 0x|\[end of stack trace\]")  # lines of Chromium that don't say why it ended
@@ -27,7 +27,8 @@ def temporary() -> str:
     usual = tempfile.gettempdir()
     if len(os.fsencode(usual)) <= MOST_LETTERS:
         return usual
-    return next((folder for folder in SHORT if os.access(folder, os.W_OK | os.X_OK)), usual)
+    near = sorted(SHORT[1:] + SHORT[:1], key=lambda folder: not usual.startswith(f"{folder}/"))
+    return next((folder for folder in near if os.access(folder, os.W_OK | os.X_OK)), usual)
 
 
 @contextlib.contextmanager

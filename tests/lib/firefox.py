@@ -17,7 +17,8 @@ from lib.browser_room import Room
 
 PROGRAMS = ("firefox-esr", "firefox")
 HOST, PORT = "127.0.0.1", re.compile(rb"Marionette\tINFO\tListening on port (\d+)")
-SETTINGS = ("marionette.port", 0), ("browser.shell.checkDefaultBrowser", False), ("datareporting.policy.dataSubmissionEnabled", False), ("app.update.enabled", False)
+SETTINGS = (("marionette.port", 0), ("browser.shell.checkDefaultBrowser", False), ("datareporting.policy.dataSubmissionEnabled", False),
+            ("app.update.enabled", False), ("general.smoothScroll", False))  # fmt: skip
 # The keys by the numbers that WebDriver gives them.
 KEYS = {"Enter": "\ue007", "Escape": "\ue00c", "Tab": "\ue004", "PageDown": "\ue00f", "End": "\ue010", "Home": "\ue011", "Backspace": "\ue003",
         "ArrowLeft": "\ue012", "ArrowUp": "\ue013", "ArrowRight": "\ue014", "ArrowDown": "\ue015"}  # fmt: skip

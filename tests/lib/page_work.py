@@ -8,7 +8,7 @@ import zlib
 from typing import Callable, Dict, List, NamedTuple, Tuple
 
 from lib.browser import CONTROL, SHIFT, Browser
-from lib.page_use import Student
+from lib.page_use import SECONDS, Student
 
 WIDTH = 1400
 LESSON, SECOND_LESSON, LONG_LESSON = "mail_race", "reuse_race", "mutex_early_race"
@@ -18,6 +18,7 @@ MOST_BYTES = 4_194_304  # of a file
 SHORT, LONG = 200, 20_000  # lines of a file
 KEYS = 12  # that are measured in a visit to a file
 MOST_MILLISECONDS, MOST_RATIO, SCRIPT_SLACK = 16, 2, 1  # of a key: at most, compared with one in a short file, and milliseconds of scripts beyond that
+STILL = 0.3  # seconds in which what doesn't change stays
 LEAST_VISITS, MOST_VISITS = 2, 5  # to each file
 FRAME, PAUSE, QUIET = 0.05, 0.3, 1.5  # seconds: in which a key is shown, after which the page begins what it does in a pause, and until that is done
 NO_STORAGE = "Object.defineProperty(window, 'localStorage', { get() { throw new DOMException('none', 'SecurityError') } })"
@@ -165,6 +166,18 @@ def as_it_was_is_undone(student: Student) -> None:
     student.expect_in("the text after Ctrl+Z", "# later work", text(student))
 
 
+def place(student: Student) -> List[float]:
+    """The cursor and the scroll position, once they stay: a browser goes on scrolling after a key."""
+    end, before = time.monotonic() + SECONDS, None
+    while time.monotonic() < end:
+        found: List[float] = student.browser.answer(PLACE)
+        if found == before:
+            break
+        before = found
+        time.sleep(STILL)
+    return found
+
+
 LINE = 20  # pixels: Firefox brings the whole line of the cursor into view
 
 
@@ -174,12 +187,12 @@ def a_tab_keeps_undo_cursor_and_scroll(student: Student) -> None:
     type_work(student)
     for _ in range(40):
         student.browser.key("ArrowDown")
-    before = student.browser.answer(PLACE)
+    before = place(student)
     student.expect("the file isn't scrolled", before[2] > 0)
     to_file(student, ".cell")
     type_work(student, "# of the machine")
     to_file(student, LONG_SOURCE)
-    after = student.browser.answer(PLACE)
+    after = place(student)
     is_kept = after[:2] == before[:2] and abs(after[2] - before[2]) <= LINE
     student.expect(f"cursor and scroll are {after} after another tab, and {before} before", is_kept)
     student.browser.answer("document.getElementById('text').focus()")
