@@ -1,4 +1,6 @@
-"""A headless Firefox that is asked by its own protocol, Marionette, over a socket: it opens a page, answers what a script finds, and takes keys and clicks."""
+"""A headless Firefox that is asked by its own protocol, Marionette, over a socket: it opens a page, answers what a script finds, and takes keys and clicks. One
+that ends or is silent before it has answered its first requests doesn't run on this machine."""
+import contextlib
 import json
 import os
 import pathlib
@@ -10,11 +12,13 @@ import subprocess
 import time
 from typing import Any, List, Optional
 
-from lib.browser import CONTROL, HEIGHT, SHIFT, Browser, Silent, Told
+from lib.browser import CONTROL, HEIGHT, SHIFT, START_SECONDS, Absent, Browser, Silent, Told
+from lib.browser_room import Room
 
 PROGRAMS = ("firefox-esr", "firefox")
 HOST, PORT = "127.0.0.1", re.compile(rb"Marionette\tINFO\tListening on port (\d+)")
-SETTINGS = ("marionette.port", 0), ("browser.shell.checkDefaultBrowser", False), ("datareporting.policy.dataSubmissionEnabled", False), ("app.update.enabled", False)
+SETTINGS = (("marionette.port", 0), ("browser.shell.checkDefaultBrowser", False), ("datareporting.policy.dataSubmissionEnabled", False),
+            ("app.update.enabled", False), ("general.smoothScroll", False))  # fmt: skip
 # The keys by the numbers that WebDriver gives them.
 KEYS = {"Enter": "\ue007", "Escape": "\ue00c", "Tab": "\ue004", "PageDown": "\ue00f", "End": "\ue010", "Home": "\ue011", "Backspace": "\ue003",
         "ArrowLeft": "\ue012", "ArrowUp": "\ue013", "ArrowRight": "\ue014", "ArrowDown": "\ue015"}  # fmt: skip
@@ -31,40 +35,60 @@ def program() -> Optional[str]:
 class Firefox(Browser):
     """A Firefox with one page."""
 
-    def __init__(self, name: str, folder: str, seconds: float) -> None:  # not the other browser's, which starts another program
-        self.seconds, self.number, self.kept = seconds, 0, b""
+    def __init__(self, name: str, folder: pathlib.Path, seconds: float, is_plain: bool = False) -> None:  # not the other browser's, which starts another program
+        self.seconds, self.number, self.kept = min(seconds, START_SECONDS), 0, b""
         self.requests: List[str] = []
-        room = pathlib.Path(folder)
-        (room / "user.js").write_text("".join(f"user_pref({json.dumps(key)}, {json.dumps(value)});\n" for key, value in SETTINGS))
-        self.log = room / "log"
-        with open(self.log, "wb") as log:
-            words = [name, "--headless", "--marionette", "--no-remote", "--profile", folder, "about:blank"]
-            self.firefox = subprocess.Popen(words, stdin=subprocess.DEVNULL, stdout=log, stderr=log, start_new_session=True)
+        self.status: Optional[int] = None
+        self.room, self.socket = Room(folder), socket.socket()
+        (self.room.profile / "user.js").write_text("".join(f"user_pref({json.dumps(key)}, {json.dumps(value)});\n" for key, value in SETTINGS))
+        words = [name, "--headless", "--marionette", "--no-remote", "--profile", str(self.room.profile), "about:blank"]
+        with open(self.room.log, "wb") as log:
+            try:
+                self.firefox = subprocess.Popen(words, stdin=subprocess.DEVNULL, stdout=log, stderr=log, start_new_session=True, env=self.room.environment())
+            except OSError as why:
+                raise Absent(f"{name} can't be started: {why.strerror}") from why
+        self.greet(seconds)
+
+    def greet(self, seconds: float) -> None:
+        """Asks the first requests. Raises Absent, and ends the browser, if it doesn't answer them."""
         try:
-            self.socket = socket.create_connection((HOST, self.port()), seconds)
-            self.message(time.monotonic() + seconds)
-            self.ask("WebDriver:NewSession", {"capabilities": {"alwaysMatch": {"acceptInsecureCerts": False, "timeouts": {"script": int(seconds * 1000)}}}})
+            self.connect(seconds)
+            self.first_answer()
+        except (Silent, OSError) as why:
+            self.end()
+            raise Absent(str(why)) from why
         except BaseException:
-            self.kill()
+            self.end()
             raise
+        self.seconds = seconds
+
+    def connect(self, seconds: float) -> None:
+        """Begins a session, in which a script may take `seconds`."""
+        self.socket = socket.create_connection((HOST, self.port()), self.seconds)
+        self.message(time.monotonic() + self.seconds)
+        self.ask("WebDriver:NewSession", {"capabilities": {"alwaysMatch": {"acceptInsecureCerts": False, "timeouts": {"script": int(seconds * 1000)}}}})
 
     def port(self) -> int:
         """The port on which it listens, which it prints."""
         end = time.monotonic() + self.seconds
-        while time.monotonic() < end and self.firefox.poll() is None:
-            found = PORT.search(self.log.read_bytes())
+        while time.monotonic() < end:
+            found = PORT.search(self.room.log.read_bytes())
             if found:
                 return int(found[1])
+            if self.has_ended():
+                raise self.ending()
             time.sleep(0.05)
-        raise Silent("Firefox doesn't listen")
+        raise Silent(f"it doesn't listen{self.last_words()}")
 
-    def kill(self) -> None:
-        os.killpg(self.firefox.pid, signal.SIGKILL)
-        self.firefox.wait()
+    def has_ended(self) -> bool:
+        self.status = self.firefox.poll()
+        return self.status is not None
 
     def end(self) -> None:
         self.socket.close()
-        self.kill()
+        with contextlib.suppress(ProcessLookupError):  # if it has ended
+            os.killpg(self.firefox.pid, signal.SIGKILL)
+        self.firefox.wait()
 
     def open(self, address: str, width: int, is_in_front: bool = False) -> None:
         self.ask("WebDriver:SetWindowRect", {"width": width, "height": HEIGHT})
@@ -93,7 +117,10 @@ class Firefox(Browser):
         self.number += 1
         sent = json.dumps([0, self.number, command, words]).encode()
         end = time.monotonic() + self.seconds
-        self.socket.sendall(b"%d:%s" % (len(sent), sent))
+        try:
+            self.socket.sendall(b"%d:%s" % (len(sent), sent))
+        except OSError as why:
+            raise self.ending() from why
         while True:
             told = json.loads(self.message(end))
             if told[0] == 1 and told[1] == self.number:
@@ -114,7 +141,9 @@ class Firefox(Browser):
             try:
                 got = self.socket.recv(1 << 16)
             except socket.timeout:
-                raise Silent("Firefox doesn't answer") from None
+                raise Silent(f"it doesn't answer within {self.seconds} seconds{self.last_words()}") from None
+            except OSError as why:
+                raise self.ending() from why
             if not got:
-                raise Silent("Firefox ended")
+                raise self.ending()
             self.kept += got

@@ -20,17 +20,28 @@ from celltools.common.repository import PROGRAMS, ROOT, built
 from celltools.common.writing import write_whole
 from celltools.source.language import TABLE
 
-CACHE = pathlib.Path(os.environ.get("XDG_CACHE_HOME") or pathlib.Path.home() / ".cache") / "cell" / "passed"
+NOWHERE = pathlib.Path(os.devnull)  # in which nothing can be kept
 LEFT = {"__pycache__", "out"}  # folders in which nothing is read
 PACKAGES = "/var/lib/dpkg/status"  # what is installed, with its versions, where that is told
-FONTS = ("/etc/fonts", "/usr/share/fonts", "/usr/local/share/fonts", "~/.fonts", "~/.local/share/fonts", "~/.config/fontconfig")
+FONTS = ("/etc/fonts", "/usr/share/fonts", "/usr/local/share/fonts")  # browsers have a home of their own (browser_room.py)
 DAYS = 30  # in which what nobody asks for is forgotten
 SECONDS_A_DAY = 86400
 SETTINGS = ("LANG", "LANGUAGE", "LC_ALL", "LC_CTYPE", "TZ")  # by which texts are read, and by which a browser writes numbers
 
 
+def cache() -> pathlib.Path:
+    """The folder of the user for what can be made again; NOWHERE if the user has no home."""
+    try:
+        return pathlib.Path(os.environ.get("XDG_CACHE_HOME") or pathlib.Path.home() / ".cache")
+    except RuntimeError:
+        return NOWHERE
+
+
+CACHE = cache() / "cell" / "passed"
+
+
 def unless_kept(mark: pathlib.Path, ask: Callable[[], Iterable[str]]) -> List[str]:
-    """What is wrong, which isn't asked where nothing was."""
+    """What is wrong, which isn't asked where nothing was. Nothing is kept if `ask` raises, as it does for what it can't look at."""
     if is_kept(mark):
         return []
     said = list(ask())
@@ -116,7 +127,7 @@ def of_program(name: str) -> bytes:
 
 def of_browser(name: str) -> bytes:
     """A browser, with the fonts that it writes with."""
-    files = sorted(file for folder in FONTS for file in files_in(pathlib.Path(folder).expanduser()))
+    files = sorted(file for folder in FONTS for file in files_in(pathlib.Path(folder)))
     fonts = (f"{file} {file.stat().st_size} {file.stat().st_mtime_ns}\n" for file in files)
     return of_program(name) + "".join(fonts).encode()
 

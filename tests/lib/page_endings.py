@@ -5,7 +5,7 @@ import json
 import zlib
 from typing import Callable, Dict, NamedTuple, Tuple
 
-from lib.page_use import LESSON, SECONDS, Student
+from lib.page_use import LESSON, Student
 
 MACHINE = "cell-machine 1\nlines 2\nbudget 100\nspe\nsource {source}\n"
 START = "\t.text\n_start:\n"
@@ -107,11 +107,9 @@ def a_stopped_hunt_reports(student: Student) -> None:
     student.settle("document.querySelector('#hunt .race .show-run')")
     student.expect_in("a stopped hunt", "of 1,000,000 runs: stopped", student.text("#hunt"))
     student.expect_in("its outcome", "race in ", student.text("#verdict"))
-    student.browser.answer("document.body.dataset.seconds = 2")
-    student.click("#hunt-runs")
+    seconds = student.hunt_too_long()
     student.settle("document.querySelector('#hunt .race .show-run') && document.getElementById('stop').hidden")
-    student.browser.answer(f"document.body.dataset.seconds = {SECONDS}")
-    student.expect_in("a hunt whose time is over", "of 1,000,000 runs: it took more than 2 seconds", student.text("#hunt"))
+    student.expect_in("a hunt whose time is over", f"of 1,000,000 runs: it took more than {seconds} seconds", student.text("#hunt"))
     student.click("#tab-result")
     student.expect_in("the open run", "AllStopped", student.text("#result"))
 

@@ -4,11 +4,12 @@ import pathlib
 import time
 from typing import Callable, List, Tuple
 
-from lib.browser import Browser, Silent
+from lib.browser import Browser, Ended, Silent
 from lib.page_questions import Told, script_here
 
 WIDTHS = (1400, 900, 400)
 SECONDS = 180  # that the page may take for what it was asked, on a machine that is full
+LIMITS = (2, 8, 32)  # seconds of a hunt
 MOST_TABS = 40
 NARROW = 1150  # up to here the list stands behind a button
 CONTROL = 2  # of a key, by the browser's protocol
@@ -47,6 +48,8 @@ class Student:
     def holds(self, condition: str) -> bool:
         try:
             return bool(self.browser.answer(f"Boolean({condition})"))
+        except Ended:
+            raise
         except Silent:  # while a page gives way to another
             return False
 
@@ -87,6 +90,20 @@ class Student:
         self.click("#hunt-runs")
         self.settle("!document.getElementById('verdict').hidden && !document.getElementById('hunt').hidden")
         return self.text("#verdict")
+
+    def hunt_too_long(self) -> int:
+        """Hunts for longer than the page may take, and returns how many seconds that was: the first of LIMITS in which this machine makes a run."""
+        for seconds in LIMITS:
+            late = f"took more than {seconds} seconds"
+            self.browser.answer(f"document.body.dataset.seconds = {seconds}")
+            self.click("#hunt-runs")
+            self.settle(f"['hunt', 'nothing'].some(id => document.getElementById(id).textContent.includes('{late}'))")
+            if late in self.text("#hunt"):
+                break
+            self.expect_in("a hunt without a run", f"the hunt ended before a run did: it {late}", self.text("#nothing"))
+        self.expect(f"no hunt makes a run in {seconds} seconds", late in self.text("#hunt"))
+        self.browser.answer(f"document.body.dataset.seconds = {SECONDS}")
+        return seconds
 
     def to_line(self, number: int) -> None:
         """Puts the cursor at the end of a line of the editor."""
@@ -200,10 +217,7 @@ def a_long_hunt_is_stopped(student: Student) -> None:
     student.settle("document.getElementById('hunt').textContent.match(/[1-9].* of 1,000,000/)")
     student.click("#stop")
     student.settle("document.getElementById('hunt').textContent.includes('of 1,000,000 runs: stopped')")
-    student.browser.answer("document.body.dataset.seconds = 2")
-    student.click("#hunt-runs")
-    student.settle("document.getElementById('hunt').textContent.includes('took more than 2 seconds')")
-    student.browser.answer(f"document.body.dataset.seconds = {SECONDS}")
+    student.hunt_too_long()
     student.click("#run")
     student.settle("document.querySelector('#result pre')")
     student.expect_in("the run behind it", "AllStopped", student.text("#result"))

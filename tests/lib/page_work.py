@@ -2,12 +2,13 @@
 import base64
 import json
 import pathlib
+import statistics
 import time
 import zlib
-from typing import Callable, Dict, List, Tuple
+from typing import Callable, Dict, List, NamedTuple, Tuple
 
 from lib.browser import CONTROL, SHIFT, Browser
-from lib.page_use import Student
+from lib.page_use import SECONDS, Student
 
 WIDTH = 1400
 LESSON, SECOND_LESSON, LONG_LESSON = "mail_race", "reuse_race", "mutex_early_race"
@@ -15,9 +16,19 @@ MACHINE, RECEIVER, LONG_SOURCE = "mail_race.cell", "receiver.s", "mutex_early_ra
 WORK = "# my work"
 MOST_BYTES = 4_194_304  # of a file
 SHORT, LONG = 200, 20_000  # lines of a file
-KEYS, PAUSE, MOST_MILLISECONDS, MOST_RATIO = 20, 0.05, 16, 2
+KEYS = 12  # that are measured in a visit to a file
+MOST_MILLISECONDS, MOST_RATIO, SCRIPT_SLACK = 16, 2, 1  # of a key: at most, compared with one in a short file, and milliseconds of scripts beyond that
+STILL = 0.3  # seconds in which what doesn't change stays
+LEAST_VISITS, MOST_VISITS = 2, 5  # to each file
+FRAME, PAUSE, QUIET = 0.05, 0.3, 1.5  # seconds: in which a key is shown, after which the page begins what it does in a pause, and until that is done
 NO_STORAGE = "Object.defineProperty(window, 'localStorage', { get() { throw new DOMException('none', 'SecurityError') } })"
 TEXT, PLACE = "document.getElementById('text').value", "(t => [t.selectionStart, t.selectionEnd, t.scrollTop])(document.getElementById('text'))"
+
+
+class KeyTime(NamedTuple):
+    """Milliseconds of processor time of the page's main thread: all its tasks, with layout and painting, and its scripts alone."""
+    tasks: float
+    scripts: float
 
 
 def link_of(files: Dict[str, str]) -> str:
@@ -155,6 +166,18 @@ def as_it_was_is_undone(student: Student) -> None:
     student.expect_in("the text after Ctrl+Z", "# later work", text(student))
 
 
+def place(student: Student) -> List[float]:
+    """The cursor and the scroll position, once they stay: a browser goes on scrolling after a key."""
+    end, before = time.monotonic() + SECONDS, None
+    while time.monotonic() < end:
+        found: List[float] = student.browser.answer(PLACE)
+        if found == before:
+            break
+        before = found
+        time.sleep(STILL)
+    return found
+
+
 LINE = 20  # pixels: Firefox brings the whole line of the cursor into view
 
 
@@ -164,12 +187,12 @@ def a_tab_keeps_undo_cursor_and_scroll(student: Student) -> None:
     type_work(student)
     for _ in range(40):
         student.browser.key("ArrowDown")
-    before = student.browser.answer(PLACE)
+    before = place(student)
     student.expect("the file isn't scrolled", before[2] > 0)
     to_file(student, ".cell")
     type_work(student, "# of the machine")
     to_file(student, LONG_SOURCE)
-    after = student.browser.answer(PLACE)
+    after = place(student)
     is_kept = after[:2] == before[:2] and abs(after[2] - before[2]) <= LINE
     student.expect(f"cursor and scroll are {after} after another tab, and {before} before", is_kept)
     student.browser.answer("document.getElementById('text').focus()")
@@ -238,29 +261,78 @@ def a_large_link_is_refused(student: Student) -> None:
     student.expect_in("the text after typing", "ab", text(student))
 
 
-def milliseconds_of_a_key(student: Student, lines: int) -> float:
-    """Processor time of the page's main thread for a key in the middle of a file."""
-    student.open(link_of(program("a", ["\tai\t$3,$3,1\t# a line of the program"] * lines)))
-    student.click("#code", (200, 100))
-    student.browser.key("End", 0 if lines == SHORT else CONTROL)
-    student.type("# x")
-    student.browser.call("Performance.enable", timeDomain="threadTicks")
-    time.sleep(2)  # until the faults are found and the work is stored
-    spent = {}
-    for when in ("before", "after"):
-        found = student.browser.call("Performance.getMetrics")["metrics"]
-        spent[when] = next(metric["value"] for metric in found if metric["name"] == "TaskDuration")
-        for _ in range(KEYS if when == "before" else 0):
-            student.browser.key("x")
-            time.sleep(PAUSE)
-    student.expect_in(f"the text of {lines} lines", "# x" + "x" * KEYS, text(student))
-    return float(spent["after"] - spent["before"]) * 1000 / KEYS
+def median_of(times: List[KeyTime]) -> KeyTime:
+    """The medians of both times."""
+    return KeyTime(statistics.median(took.tasks for took in times), statistics.median(took.scripts for took in times))
+
+
+class TypedFile:
+    """A program whose source has a number of lines, and the times that keys take in it."""
+
+    def __init__(self, student: Student, lines: int) -> None:
+        self.student, self.lines, self.name = student, lines, f"lines_{lines}"
+        self.link = link_of(program(self.name, ["\tai\t$3,$3,1\t# a line of the program"] * lines))
+        self.visits: List[KeyTime] = []
+
+    def visit(self, is_at_end: bool) -> None:
+        """Opens the program in the page that has both, and types at a line near the start or at the end of the source."""
+        student, begun = self.student, f"# visit {len(self.visits)} "
+        student.browser.open(student.page.as_uri() + self.link, WIDTH, is_in_front=True)
+        student.settle(f"document.querySelector('#files [data-file=\"{self.name}.s\"]')")
+        to_file(student, f"{self.name}.s")
+        student.browser.answer("for (const id of ['pane', 'text']) document.getElementById(id).scrollTop = 0")
+        student.settle("document.getElementById('text').getBoundingClientRect().top <= document.getElementById('pane').getBoundingClientRect().top + 1")
+        student.click("#code", (200, 100))
+        student.browser.key("End", CONTROL if is_at_end and self.lines == LONG else 0)
+        student.type(begun)
+        time.sleep(QUIET)
+        self.visits.append(self.key_time())
+        student.expect_in(f"the text of {self.lines} lines", begun + "x" * KEYS, text(student))
+
+    def key_time(self) -> KeyTime:
+        """The medians of KEYS keys. A key doesn't count if it took so long that what the page does in a pause, such as storing the text, may have come in between."""
+        found = []
+        for _ in range(KEYS):
+            began, before = time.monotonic(), self.spent()
+            self.student.browser.key("x")
+            time.sleep(FRAME)
+            after = self.spent()
+            took = KeyTime(after.tasks - before.tasks, after.scripts - before.scripts)
+            found.append((took, time.monotonic() - began < PAUSE))
+        calm = [took for took, is_calm in found if is_calm]
+        return median_of(calm if len(calm) > KEYS // 2 else [took for took, _ in found])
+
+    def spent(self) -> KeyTime:
+        """The time that the page's main thread has taken so far."""
+        found = {metric["name"]: metric["value"] * 1000 for metric in self.student.browser.call("Performance.getMetrics")["metrics"]}
+        return KeyTime(found["TaskDuration"], found["ScriptDuration"])
+
+    def least(self) -> KeyTime:
+        """The least times of the visits."""
+        return KeyTime(min(took.tasks for took in self.visits), min(took.scripts for took in self.visits))
+
+
+def excess(short: KeyTime, long: KeyTime) -> List[str]:
+    """What a key takes too long for in the long file."""
+    said = [f"a key takes {long.tasks:.1f} ms at {LONG} lines"] * (long.tasks > MOST_MILLISECONDS)
+    said += [f"a key takes {long.tasks:.1f} ms at {LONG} lines, {short.tasks:.1f} ms at {SHORT}"] * (long.tasks > MOST_RATIO * short.tasks)
+    is_slow = long.scripts > MOST_RATIO * short.scripts + SCRIPT_SLACK
+    return said + [f"the scripts of a key take {long.scripts:.1f} ms at {LONG} lines, {short.scripts:.1f} ms at {SHORT}"] * is_slow
 
 
 def a_key_costs_the_same_in_a_long_file(student: Student) -> None:
-    short, long = (min(milliseconds_of_a_key(student, lines) for _ in range(2)) for lines in (SHORT, LONG))
-    student.expect(f"a key takes {long:.1f} ms at {LONG} lines", long <= MOST_MILLISECONDS)
-    student.expect(f"a key takes {long:.1f} ms at {LONG} lines, {short:.1f} ms at {SHORT}", long <= MOST_RATIO * short)
+    """Visits to a short and a long file by turns, and the least times of each. More visits follow if that is too much: what else the machine does comes and goes."""
+    student.browser.call("Performance.enable", timeDomain="threadTicks")
+    short, long = (TypedFile(student, lines) for lines in (SHORT, LONG))
+    for number in range(MOST_VISITS):
+        for file in (short, long):
+            file.visit(is_at_end=bool(number % 2))
+        said = excess(short.least(), long.least())
+        if number + 1 >= LEAST_VISITS and not said or student.said:
+            break
+    student.browser.call("Performance.disable")
+    for line in said:
+        student.expect(line, False)
 
 
 class LongFile:
