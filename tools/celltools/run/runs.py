@@ -8,7 +8,7 @@ import sys
 from typing import TYPE_CHECKING, Iterable, List, Sequence, Union
 
 from celltools.common.repository import LAUNCH, built, shipped
-from celltools.common.texts import bytes_of, quoted
+from celltools.common.texts import bytes_of, decoded, quoted
 
 Path = Union[str, "os.PathLike[str]"]
 if TYPE_CHECKING:
@@ -34,9 +34,11 @@ MACHINE, RECORD, SOURCE = "cell-machine", "cell-record", "source"
 MISPLACED = {
     (MACHINE, RECORD): "{machine} is a record: name its machine file first, and then the record",
     (MACHINE, SOURCE): "{machine} is a source: name a machine file that has the line `source {machine}`",
-    (RECORD, MACHINE): "{record} is a machine file: name a record of its run behind it, which `./cell run {record} > FILE` makes",
-    (RECORD, SOURCE): "{record} is a source: name a record, which `./cell run {machine} > FILE` makes",
+    (RECORD, MACHINE): "{record} is a machine file: name a record of its run after it; `./cell run {record} > FILE` makes one",
+    (RECORD, SOURCE): "{record} is a source: name a record; `./cell run {machine} > FILE` makes one",
 }
+COMMENTS = re.compile(r"\A(?:[ \t]*(?:#[^\n]*)?\n)*")  # before the first line with words
+MOST_COMMENTS = 4096  # bytes of a file that are looked at for its first line
 FAULTY = {MACHINE: "machine file, line", RECORD: "record file, line"}
 
 
@@ -63,10 +65,11 @@ def what_is(path: Path) -> str:
     if str(path).endswith((".s", ".S")):
         return SOURCE
     try:
-        data = bytes_of(path, len(MACHINE))
+        data = bytes_of(path, MOST_COMMENTS)
     except OSError:
         return ""
-    return next((head for head in (MACHINE, RECORD) if data.startswith(head.encode())), "")
+    text = COMMENTS.sub("", decoded(data), 1)
+    return next((head for head in (MACHINE, RECORD) if text.startswith(head)), "")
 
 
 def misplaced(said: str, machine: Path, record: Path) -> str:
