@@ -139,7 +139,7 @@ def made_with(call: Call) -> str:
     """Returns with what a record was made that is no run of the machine file, and how to make it again."""
     newer = list(newer_files(call.files[MACHINE], call.files[RECORD]))
     why = f"{' and '.join(newer)} changed after the record was made" if newer else "the record was made with another machine file, or was edited"
-    return f"{why}: make it again: {again(call)}"
+    return f"{why}; {again(call)} makes it again"
 
 
 def not_allowed(call: Call, found: "Match[str]") -> Hint:
@@ -148,8 +148,8 @@ def not_allowed(call: Call, found: "Match[str]") -> Hint:
     data = data_of(name)
     number = line_of_step(data.split(b"\n"), step)
     files = f"{quoted(call.files[MACHINE])} {quoted(name)}"
-    return Hint(joined(f"step {step} can't happen here", made_with(call), f"tools/states {files} {step} prints the states before it"), f"{name}:{number}",
-                line_of(data, number))
+    return Hint(joined(f"step {step} can't happen here", f"{made_with(call)}, and tools/states {files} {step} prints the states before the step"),
+                f"{name}:{number}", line_of(data, number))
 
 
 def other_states(call: Call, found: "Match[str]") -> Hint:
@@ -158,8 +158,7 @@ def other_states(call: Call, found: "Match[str]") -> Hint:
     data = data_of(name)
     number, column = data.count(b"\n", 0, byte) + 1, byte - data.rfind(b"\n", 0, byte)
     files = f"{quoted(call.files[MACHINE])} {quoted(name)}"
-    return Hint(joined(f"from column {column} on these aren't the states of this run, which tools/states {files} prints", made_with(call)),
-                f"{name}:{number}:{column}", line_of(data, number))
+    return Hint(f"{made_with(call)}, and tools/states {files} prints the right states", f"{name}:{number}:{column}", line_of(data, number))
 
 
 # ---- scripts, suppressions, and the rest
@@ -188,7 +187,7 @@ def faulty_suppression(call: Call, found: "Match[str]") -> Hint:
 
 def not_settled(call: Call, _: "Match[str]") -> Hint:
     machine = quoted(call.files[MACHINE])
-    return Hint(f"permute takes a run that doesn't depend on timing; ./hunt {machine} each names settled runs, and docs/guide/races.md#settled-runs has the conditions")
+    return Hint(f"permute requires a run that doesn't depend on timing: ./hunt {machine} each finds settled runs, docs/guide/races.md#settled-runs has the conditions")
 
 
 def too_large(_: Call, found: "Match[str]") -> Hint:
