@@ -42,7 +42,7 @@ class Asked:
         """The same, where a record is needed."""
         with self.files() as (machine, record):
             if record is None:
-                raise Refused("no record is named")
+                raise Refused("name a record")
             yield machine, record
 
 
