@@ -64,6 +64,12 @@ ROWS = [
     Row("help of cell", ["cell", "-h"], 0, printed=r"\AUsage: \./cell run MACHINE\n"),
     Row("version of cell", ["cell", "--version"], 0, printed=VERSION),
     Row("help isn't the only word", ["cell", "--help", "first.cell"], 2, r"\Acell: usage: ", printed=r"\A\Z", examples=FIRST),
+    Row("a record from a pipe", ["cell", "check", "first.cell", "/dev/stdin"], 5,
+        r"\Acell: record file, line 2\n/dev/stdin: record file, line 2\nhint: its line isn't shown: it is a pipe", examples=FIRST, standard_input=b"cell-record 2\nx 0\n"),
+    Row("a machine file from a pipe", ["cell", "check", "/dev/stdin", "r"], 6, r"\Acell: step 3 is not allowed\nr:2: x 0 4\nhint: step 3 can't happen here; ",
+        files={"r": b"cell-record 2\nx 0 4\nsteps 4\n"}, standard_input=DASHED["-m.cell"]),
+    Row("a hint that nobody reads", ["tests/lib/hostility/redirect", "2>&-", "cell", "run", "none"], 3, printed=r"\A\Z"),
+    Row("a hint on a full disk", ["tests/lib/hostility/redirect", "2>/dev/full", "cell", "run", "none"], 3, printed=r"\A\Z"),
     Row("a file that is named like an option", ["cell", "run", "--help"], 0, printed=r"\Acell-record 2\n", files={"--help": DASHED["-m.cell"]}),
 ]  # fmt: skip
 

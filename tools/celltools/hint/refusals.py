@@ -108,7 +108,7 @@ def no_instruction(call: Call, found: "Match[str]") -> Hint:
     data = data_of(name)
     advice = f"0x{found[3]} is no instruction: docs/reference/instructions.md lists them; data that isn't executed belongs into a 'bytes' line"
     placing = Placing(plan_of(data))
-    line = placed_at(found[0], source_places(placing, {source: True for _, _, source in placing.sources}))
+    line = placed_at(found[0], source_places(placing, {source: os.path.isfile(source) for _, _, source in placing.sources}))
     if line is None:
         return Hint(advice, name, f"processor {found[1]}, 0x{found[2]}")
     return Hint(advice, f"{name}:{line}", line_of(data, line))
@@ -137,7 +137,7 @@ def line_of_step(lines: Sequence[bytes], step: int) -> int:
 
 def made_with(call: Call) -> str:
     """Returns with what a record was made that is no run of the machine file, and how to make it again."""
-    newer = list(newer_files(call.files[MACHINE], call.files[RECORD]))
+    newer = list(newer_files(call.files[MACHINE], call.files[RECORD])) if os.path.isfile(call.files[MACHINE]) else []
     why = f"{' and '.join(newer)} changed after the record was made" if newer else "the record was made with another machine file, or was edited"
     return f"{why}; {again(call)} makes it again"
 
