@@ -7,6 +7,7 @@ telling      says in words what steps, states, waits and faults are
 order        docs/reference/order.md as a graph, and why nothing orders two steps
 witness      the two short records of a race
 explain      what is wrong with a file
+hint         what ./cell and ./hunt print after a refusal
 hunt         what hunts print
 picture      a record as a page
 debugger     the commands of tools/debug

@@ -1,14 +1,18 @@
 #!/bin/sh
 "trap" "" "INT"  # sh reads these two lines, and Python the others: tools/celltools/common/starting.py says why
 "exec" "python3" "$0" "$@"
-__doc__ = """Draws the layers of the crates, as crates.txt has them, with the ways of the program's runs through them.
+__doc__ = """Usage: tools/dev/layers.py [--svg | --write]
 
-Usage: tools/dev/layers.py           prints the drawing
-       tools/dev/layers.py --svg     prints it as a picture, which has what a run does in each layer, too
-       tools/dev/layers.py --write   puts the drawing into docs/inside/architecture.md, in the place of its first block, and the picture into docs/inside/layers.svg
+Draws the layers of the crates, as crates.txt has them, and the way of a program's run through them. In crates.txt a layer begins with a line
+`# ---- NAME: WHAT`; the comments after it describe what a run does there, and then come its crates.
 
-In crates.txt a layer begins with a line `# ---- NAME: WHAT`. The comments behind it say what a run does there, and then come its crates. The status is 1
-where a crate uses one that doesn't stand before it.
+Options:
+  --svg    print the drawing as a picture, with what a run does in each layer
+  --write  put the drawing into docs/inside/architecture.md, as its first block, and the picture into docs/inside/layers.svg
+
+Exit status:
+  0  done
+  1  a crate uses one that doesn't come before it
 """
 import os
 import sys

@@ -1,9 +1,10 @@
 #!/bin/sh
 "trap" "" "INT"  # sh reads these two lines, and Python the others: tools/celltools/common/starting.py says why
 "exec" "python3" "$0" "$@"
-__doc__ = """Writes src/row.rt, src/table.rt and src/readings.rt of crates/spu_decode from the instruction table in its specs/Table.antt.
+__doc__ = """Usage: tools/dev/table.py
 
-Usage: tools/dev/table.py   (then `rt check` in crates/spu_decode proves that they say what the table says)
+Writes src/row.rt, src/table.rt and src/readings.rt of crates/spu_decode from the instruction table in its specs/Table.antt. Afterwards `rt check` in
+crates/spu_decode proves that they have what the table has.
 """
 import os
 import sys

@@ -31,28 +31,28 @@ def of_both(name: str, machine: str, record: str, said: str) -> List[Row]:
     return [mistaken(name, [f"tools/{tool}", machine, record], f"^{tool}: (.*\n)*.*{said}") for tool in TOOLS]
 
 
-NO_MACHINE, NO_RECORD = "there is no n.cell that can be read: names are taken from the folder", "n.out"
+NO_MACHINE, NO_RECORD = "n.cell: it isn't there, or can't be read: names are relative to the current folder", "n.out"
 ROWS = [
-    Row("explain: a name in quotes", ["tools/explain", "quoted.cell"], 1, printed="^quoted.cell:5: there is no file `\"s.s\"`: .*, and stand without quotes$", files=FILES),
+    Row("explain: a name in quotes", ["tools/explain", "quoted.cell"], 1, printed="^quoted.cell:5: there is no file `\"s.s\"`: .*, without quotes$", files=FILES),
     Row("explain: a name with a blank", ["tools/explain", "blank.cell"], 1, printed="^blank.cell:5: the form is `source NAME`; a name has no blanks$", files=FILES),
     *of_both("a misspelt machine file", "n.cell", "m.out", NO_MACHINE),
     *of_both("a misspelt record", "m.cell", "n.out", NO_RECORD),
-    *of_both("a source that isn't there", "other.cell", "m.out", "it is lost.s: tools/explain other.cell says why"),
-    *of_both("a faulty source", "bad.cell", "m.out", "source 0, line 2: BadOperand\n    it is bad.s: tools/explain bad.cell says it in words"),
-    *of_both("an empty machine file", "empty.cell", "m.out", "machine file, line 1\n    tools/explain empty.cell says it in words"),
-    *of_both("an empty record", "m.cell", "empty.out", "tools/explain empty.out says it in words|empty.out has no line `steps N`"),
+    *of_both("a source that isn't there", "other.cell", "m.out", "lost.s: it isn't there, or can't be read: tools/explain other.cell explains why"),
+    *of_both("a faulty source", "bad.cell", "m.out", "source 0, line 2: BadOperand\n    bad.s:2: tools/explain bad.cell explains it"),
+    *of_both("an empty machine file", "empty.cell", "m.out", "machine file, line 1\n    empty.cell:1: tools/explain empty.cell explains it"),
+    *of_both("an empty record", "m.cell", "empty.out", "empty.out:1: tools/explain empty.out explains it|empty.out: it has no line `steps N`"),
     *of_both("a source in the place of a machine file", "s.s", "m.out", "s.s is a source: name a machine file that has the line `source s.s`"),
-    *of_both("both the wrong way round", "m.out", "m.cell", "m.out is a record: name its machine file first|m.cell has no line `steps N`"),
-    *of_both("a machine file in the place of a record", "m.cell", "m.cell", "m.cell is a machine file: name a record|m.cell has no line `steps N`"),
+    *of_both("both the wrong way round", "m.out", "m.cell", "m.out is a record: name its machine file first|m.cell: it has no line `steps N`"),
+    *of_both("a machine file in the place of a record", "m.cell", "m.cell", "m.cell is a machine file: name a record|m.cell: it has no line `steps N`"),
     mistaken("a misspelt source", ["tools/listing", "n.s"], "^listing: n.s: No such file"),
-    mistaken("a faulty source", ["tools/listing", "bad.s"], "^listing: bad.s:2: BadOperand\n    tools/explain bad.s says it in words", 1),
+    mistaken("a faulty source", ["tools/listing", "bad.s"], "^listing: bad.s:2: BadOperand\n    tools/explain bad.s explains it", 1),
     mistaken("a machine file", ["tools/listing", "m.cell"], "^listing: m.cell is a machine file: name one of its sources", 1),
     mistaken("a misspelt source", ["tools/from_gas", "n.s"], "^from_gas: n.s: No such file"),
     mistaken("a misspelt file", ["tools/explain", "n.cell"], "^explain: n.cell: No such file"),
     mistaken("an empty file", ["tools/hunts", "empty.out"], "^empty.out:1: the file is empty: make the part again"),
     mistaken("a target where nothing can be written", ["tools/from_gas", "-o", "/proc/none/whole.s", "s.s"], "^from_gas: /proc/none/whole.s: No such file"),
-    mistaken("a machine file with a blank in its name", ["tools/race", "my m.cell", "n.out"], r"there is no n\.out .*: keep .*, \./cell run 'my m\.cell' > FILE$"),
-    mistaken("a run of a faulty machine file", ["tools/race", "--run", "1", "bad.cell"], "it is bad.s: tools/explain bad.cell says it in words"),
+    mistaken("a machine file with a blank in its name", ["tools/race", "my m.cell", "n.out"], r"n\.out: it isn't there, .*: \./cell run 'my m\.cell' >FILE makes a record$"),
+    mistaken("a run of a faulty machine file", ["tools/race", "--run", "1", "bad.cell"], "bad.s:2: tools/explain bad.cell explains it"),
 ]
 
 

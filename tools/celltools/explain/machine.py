@@ -1,4 +1,4 @@
-"""Says in words what `cell` refuses in a machine file and its sources, and warns of what is accepted and probably wrong."""
+"""Explains what `cell` refuses in a machine file and its sources, and warns of what is accepted and probably wrong."""
 import collections
 import os
 import re
@@ -97,7 +97,7 @@ def label_at(source: str, address: int) -> str:
 def why_head(words: Sequence[str], seen: Seen) -> str:
     want = list(HEADS)[seen.heads]
     if words[0] != want:
-        return f"`{want}` stands here: the first three lines are `cell-machine 1`, `lines N` and `budget N`, in this order"
+        return f"`{want}` has to come here: the first three lines are `cell-machine 1`, `lines N` and `budget N`, in this order"
     if want == "cell-machine":
         return "the first line is `cell-machine 1`"
     return f"`{want}` takes one number from 1 to {HEADS[want]}"
@@ -108,7 +108,7 @@ def why_hex(word: str) -> Optional[str]:
         return "bytes are hexadecimal digits without 0x"
     if not re.fullmatch("[0-9A-Fa-f]+", word) or len(word) % 2:
         return "bytes are an even number of hexadecimal digits"
-    return "at most 4,096 bytes stand on one line" if len(word) > 8192 else None
+    return "a line has at most 4,096 bytes" if len(word) > 8192 else None
 
 
 def why_word(kind: str, word: str) -> Optional[str]:
@@ -128,7 +128,7 @@ def why_range(name: str, value: Mapping[str, int], seen: Seen) -> Optional[str]:
     """What is wrong with the range of bytes that a line names."""
     size = value.get("N", value.get("HEX", 1))
     if name in ("code", "entry") and value["A"] % 4 or name == "code" and size % 4:
-        return "the address is a multiple of 4" + (", and so is the number of bytes" if name == "code" else "")
+        return "the address has to be a multiple of 4" + (", and the number of bytes too" if name == "code" else "")
     if name == "host store" and (size > 16 or value["A"] % LINE + size > LINE):
         return "`host store` takes 1 to 16 bytes within one line of 128 bytes"
     is_memory = "mem" in name or name == "host store"
@@ -149,7 +149,7 @@ def hint_of_form(name: str, form: Sequence[str], count: int) -> str:
         return f": {OF_SIGNALS[name]}"
     if name == "source" and count > len(form):
         return "; a name has no blanks"
-    return "; the bytes stand together, without blanks" if "HEX" in form and count > len(form) else ""
+    return "; the bytes have no blanks between them" if "HEX" in form and count > len(form) else ""
 
 
 def why_machine_line(words: Sequence[str], seen: Seen) -> Optional[str]:
@@ -165,15 +165,15 @@ def why_machine_line(words: Sequence[str], seen: Seen) -> Optional[str]:
             return why
     value = {kind: number_in_word(kind, word) for kind, word in zip(form, arguments)}
     if name in ("code", "bytes", "source", "entry") and seen.spe < 0:
-        return f"`{name}` stands behind a `spe` line"
+        return f"`{name}` has to follow a `spe` line"
     if value.get("P", -1) > seen.spe:
-        return f"there is no processor {value['P']}: {seen.counts['spe']} `spe` lines stand before, counted from 0"
+        return f"there is no processor {value['P']}: {seen.counts['spe']} `spe` lines come before, counted from 0"
     if value.get("R", 1) not in (1, 2):
         return f"there is no signal register {value['R']}: each processor has 1 and 2"
     if why := why_range(name, value, seen) if "A" in value else None:
         return why
     if name == "entry" and seen.spe in seen.entries:
-        return "`entry` stands once for a processor"
+        return "a processor has one `entry`"
     most = MOST_LINES.get(words[0], 0)
     return f"there are at most {most} lines of `{words[0]}`" if seen.counts.get(words[0]) == most else None
 
@@ -205,7 +205,7 @@ class MachineFile:
             self.take(number - 1)
             if number > len(self.lines):
                 if self.seen.heads < len(HEADS) or self.seen.spe < 0:
-                    yield number, "the file ends too early: it has `cell-machine 1`, `lines N`, `budget N` and a `spe`"
+                    yield number, "the file ends too early: `cell-machine 1`, `lines N`, `budget N` and one `spe` are required"
                 return
             yield number, self.mended(number - 1)
             if not self.goes_on:
@@ -322,11 +322,11 @@ def source_text(source: str) -> bytes:
     """The text of a source; Refused where there is none."""
     try:
         if not stat.S_ISREG(os.stat(source).st_mode):
-            raise Refused(f"`{source}` is no regular file, and isn't looked at")
+            raise Refused(f"`{source}` is no regular file, and isn't read")
         return bytes_of(source)
     except FileNotFoundError:
-        quotes = ", and stand without quotes" if source[:1] in ("'", '"') else ""
-        raise Refused(f"there is no file `{source}`: names are taken from the folder in which cell is called{quotes}") from None
+        quotes = ", without quotes" if source[:1] in ("'", '"') else ""
+        raise Refused(f"there is no file `{source}`: names are relative to the current folder{quotes}") from None
     except OSError as why:
         raise Refused(f"`{source}`: {why.strerror}") from None
 
@@ -355,7 +355,7 @@ def explain_machine(name: str, data: bytes, report: Report) -> None:
     for count, (number, words) in enumerate(file.faults(), 1):
         report.fault(f"{name}:{number}" if number else name, words)
         if count == MOST:
-            report.fault(name, f"only the first {MOST} faulty lines are told")
+            report.fault(name, f"only the first {MOST} faulty lines are printed")
             break
     placing = Placing(file.plan())
     explained = explain_sources(name, placing, report)

@@ -1,4 +1,4 @@
-"""Says in words what `cell` refuses in the form of a record file."""
+"""Explains what `cell` refuses in the form of a record file."""
 import pathlib
 import re
 import tempfile
@@ -77,7 +77,7 @@ class RecordFile:
         """Takes the fault out of a line: what it was, and whether what stands behind it can be judged."""
         if at >= len(self.lines) or at == len(self.lines) - 1 and not self.lines[at]:
             steps = self.steps_before(at)
-            return f"the record was cut: behind its {steps} steps stands `steps {steps}`", False
+            return f"the record was cut: `steps {steps}` has to follow its {steps} steps", False
         line = self.lines[at]
         if line.endswith(b"\r"):
             self.lines = [other.removesuffix(b"\r") for other in self.lines]
@@ -99,7 +99,7 @@ class RecordFile:
             return b"steps %d" % steps, f"the number of steps before it is {steps}, not {short(in_latin(found[1]))}" if self.is_counted else ""
         if not STEPS[self.lines[0]].fullmatch(line):
             self.is_counted = self.is_counted and self.lines[0] == HEADS[0]
-            return b"h", f"`{shown}` is no step: {FORMS[self.lines[0]]}"
+            return b"h", f"`{shown}` is not a step: {FORMS[self.lines[0]]}"
         if stretch := STRETCH.fullmatch(line) if self.lines[0] == HEADS[1] else None:
             return self.mended_stretch(stretch, at, steps)
         return b"h", f"a number of `{shown}` is out of its range: {RANGES}"
@@ -115,7 +115,7 @@ class RecordFile:
             return b"x %s %d" % (other, count), words
         self.is_counted = False
         if count == 0:
-            return b"h", f"`{shown}` stands for no instruction: a stretch has at least one"
+            return b"h", f"`{shown}` has no instruction: a stretch has at least one"
         if number_of(stretch[1]) <= 15 and MOST_STEPS - steps < count < ABOVE_ALL:
             return b"h", f"with `{shown}` there are {count + steps} steps, and a record has at most {MOST_STEPS}"
         return b"h", f"a number of `{shown}` is out of its range: {RANGES}"
@@ -131,7 +131,7 @@ def explain_record(name: str, data: bytes, report: Report, machines: Dict[str, b
     for count, (number, words) in enumerate(RecordFile(data).faults(), 1):
         report.fault(f"{name}:{number}" if number else name, words)
         if count == MOST:
-            report.fault(name, f"only the first {MOST} faulty lines are told")
+            report.fault(name, f"only the first {MOST} faulty lines are printed")
             return
     for place, words in run_warnings(name, data, machines) if report.refusals == before else ():
         report.warning(place, words)

@@ -1,4 +1,4 @@
-"""Says in words what `cell` refuses in a source, all faulty lines at once, and warns of what is accepted and probably wrong."""
+"""Explains what `cell` refuses in a source, all faulty lines at once, and warns of what is accepted and probably wrong."""
 import functools
 import re
 from typing import Collection, Dict, Iterable, Iterator, List, Optional, Sequence, Set, Tuple
@@ -21,7 +21,7 @@ KINDS = {
     "Twice": "an earlier line, or this one, defines the label already",
     "NotMultiple": "an address that isn't a multiple of 4",
     "Overlap": "`.org` goes back below the present address",
-    "OutsideStore": "the line ends above the local store, 262,144 bytes; what follows it isn't judged",
+    "OutsideStore": "the line ends above the local store, 262,144 bytes; what follows isn't checked",
     "Undefined": "no line defines the label (there is no linker)",
     "OutOfRange": "a value outside its range",
 }
@@ -135,7 +135,7 @@ def why_character(line: bytes) -> Optional[str]:
     strange = [byte for byte in bare if byte not in "\t\r " and not "!" <= byte <= "~"]
     if strange:
         byte = f"the byte 0x{ord(strange[0]):02x}"
-        return f"{byte} begins no token: outside strings and comments stand ASCII characters alone"
+        return f"{byte} begins no token: outside strings and comments, only ASCII characters are allowed"
     if '"' in bare:
         return "a string that its line doesn't end"
     if escape := re.search(r'\\(?:[4-7][0-7]{2}|[^ntr\\"0-7])', re.sub(r'\\[ntr\\"]', "", code)):
@@ -178,7 +178,7 @@ def why_directive(statement: str, in_text: bool) -> Optional[str]:
     word = first_word(statement)
     small = word in STRINGS or word in DATA and DATA[word][0] < 4
     if small and in_text:
-        return f"`{word}` stands in data only, behind .data or another section"
+        return f"`{word}` is for data only: put it after .data or another section"
     if word in (".align", ".p2align"):
         return f"`{word}` takes one number, the power of two, from 0 to 12"
     if word in (".org", ".skip", ".space"):
@@ -213,7 +213,7 @@ def hint_of_operands(rest: str, form: str) -> str:
     if re.search(r"(?<![\w.])\.(?![\w.])", rest):
         return "; `.` is no address: put a label on the line" + OR_BY_TOOL
     if rest.count(",") == form.count(",") and re.search("disp|imm|addr|code", form):
-        expression = "a number, a label, label+number or label-number, with @h or @l behind a label"
+        expression = "a number, a label, label+number or label-number, with @h or @l after a label"
         return f"; an expression is {expression}{BY_TOOL_OTHERS}"
     return ""
 
@@ -230,7 +230,7 @@ def why_value(kind: str, statement: str) -> Optional[str]:
         return None
     if kind == "OutOfRange":
         return f"the value of `{word}` is from {FORMS[form][1]}"
-    in_data = "in data, an instruction stands at a multiple of 4"
+    in_data = "in data, an instruction has to be at a multiple of 4"
     if form == "RtDisplacementRa":
         return f"disp is a multiple of 16; {in_data}"
     return f"addr is a multiple of 4; {in_data}" if "addr" in FORMS[form][0] else in_data
@@ -330,7 +330,7 @@ def explain_source(name: str, data: bytes, report: Report) -> bool:
         if at is None:
             report.fault(name, kind)
         elif count > MOST:
-            report.fault(name, f"only the first {MOST} faulty lines are told")
+            report.fault(name, f"only the first {MOST} faulty lines are printed")
             break
         else:
             words = why_source_line(lines, at, kind, in_text, defined)

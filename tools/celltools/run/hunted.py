@@ -42,7 +42,7 @@ class Asked:
         """The same, where a record is needed."""
         with self.files() as (machine, record):
             if record is None:
-                raise Refused("no record is named")
+                raise Refused("name a record")
             yield machine, record
 
 
@@ -57,11 +57,11 @@ def asked_of(reader: Words, words: Sequence[str], rest: int = 0, needs_record: b
     least = 1 if of_hunt or not needs_record else 2
     files = 1 if of_hunt else min(2, len(names))
     if len(names) < least:
-        reader.error(f"it wants {MACHINE_AND_RECORD}")
+        reader.error(f"give {MACHINE_AND_RECORD}")
     if len(names) > files + rest:
-        reader.error(f"`{names[files + rest]}` is a word too many")
+        reader.error(f"unexpected argument '{names[files + rest]}'")
     if options.seed is not None and not of_hunt:
-        reader.error("--seed goes with --run")
+        reader.error("--seed requires --run K")
     seed = FIRST_SEED if options.seed is None else options.seed
     return Asked(names[0], None if of_hunt or files < 2 else names[1], options.run, seed, tuple(names[files:]), options)
 

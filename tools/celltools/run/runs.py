@@ -8,7 +8,7 @@ import sys
 from typing import TYPE_CHECKING, Iterable, List, Sequence, Union
 
 from celltools.common.repository import LAUNCH, built, shipped
-from celltools.common.texts import bytes_of, quoted
+from celltools.common.texts import bytes_of, decoded, quoted
 
 Path = Union[str, "os.PathLike[str]"]
 if TYPE_CHECKING:
@@ -18,15 +18,18 @@ BUILT, UNPROVED, IN_PLACE = 0, 3, 4  # statuses of tools/launch --build: built, 
 # What to do next, by what `cell` says of a run.
 ADVICE = [
     (r"its name is not UTF-8", "give it another name, or a link: ln -s FILE NAME"),
-    (r"cannot read machine file", "there is no {machine} that can be read: names are taken from the folder in which the tool is called"),
-    (r"cannot read source (\d+)", "it is {source}: tools/explain {machine} says why"),
-    (r"source (\d+)", "it is {source}: tools/explain {machine} says it in words"),
-    (r"machine file|source|is not in the table", "tools/explain {machine} says it in words"),
-    (r"cannot read record file", "there is no {record} that can be read: keep what a run prints in a file, ./cell run {machine} > FILE"),
-    (r"record file", "tools/explain {record} says it in words"),
-    (r"step (\d+) is not allowed", "the record isn't one of this machine file as it is now: run it again, or look at the states before that step: "
+    (r"cannot read machine file", "{machine}: it isn't there, or can't be read: names are relative to the current folder"),
+    (r"cannot read source (\d+)", "{source}: it isn't there, or can't be read: tools/explain {machine} explains why"),
+    (r"source (\d+), line (\d+)", "{source}:{line}: tools/explain {machine} explains it"),
+    (r"source (\d+)", "{source}: tools/explain {machine} explains it"),
+    (r"machine file, line (\d+)", "{machine}:{number}: tools/explain {machine} explains it"),
+    (r"machine file|source|is not in the table", "{machine}: tools/explain {machine} explains it"),
+    (r"cannot read record file", "{record}: it isn't there, or can't be read: ./cell run {machine} >FILE makes a record"),
+    (r"record file, line (\d+)", "{record}:{number}: tools/explain {record} explains it"),
+    (r"record file", "{record}: tools/explain {record} explains it"),
+    (r"step (\d+) is not allowed", "the record is no run of this machine file as it is now: make it again, or print the states before that step: "
                                    "tools/states {machine} {record} {number}"),
-    (r"states differ", "the record was made with another machine file, or was changed: run it again: ./cell run {machine} > FILE"),
+    (r"states differ", "the record was made with another machine file, or was edited: make it again: ./cell run {machine} >FILE"),
 ]
 NO_RUN = re.compile(r"step (\d+) is not allowed|states differ")
 # And where a file stands in the place of another, by what it is and what `cell` says of it.
@@ -34,9 +37,11 @@ MACHINE, RECORD, SOURCE = "cell-machine", "cell-record", "source"
 MISPLACED = {
     (MACHINE, RECORD): "{machine} is a record: name its machine file first, and then the record",
     (MACHINE, SOURCE): "{machine} is a source: name a machine file that has the line `source {machine}`",
-    (RECORD, MACHINE): "{record} is a machine file: name a record of its run behind it, which `./cell run {record} > FILE` makes",
-    (RECORD, SOURCE): "{record} is a source: name a record, which `./cell run {machine} > FILE` makes",
+    (RECORD, MACHINE): "{record} is a machine file: name a record of its run after it; `./cell run {record} >FILE` makes one",
+    (RECORD, SOURCE): "{record} is a source: name a record; `./cell run {machine} >FILE` makes one",
 }
+COMMENTS = re.compile(r"\A(?:[ \t]*(?:#[^\n]*)?\n)*")  # before the first line with words
+MOST_COMMENTS = 4096  # bytes of a file that are looked at for its first line
 FAULTY = {MACHINE: "machine file, line", RECORD: "record file, line"}
 
 
@@ -63,10 +68,11 @@ def what_is(path: Path) -> str:
     if str(path).endswith((".s", ".S")):
         return SOURCE
     try:
-        data = bytes_of(path, len(MACHINE))
+        data = bytes_of(path, MOST_COMMENTS)
     except OSError:
         return ""
-    return next((head for head in (MACHINE, RECORD) if data.startswith(head.encode())), "")
+    text = COMMENTS.sub("", decoded(data), 1)
+    return next((head for head in (MACHINE, RECORD) if text.startswith(head)), "")
 
 
 def misplaced(said: str, machine: Path, record: Path) -> str:
@@ -93,8 +99,8 @@ def next_step(said: str, machine: Path, record: Path) -> str:
     for pattern, advice in ADVICE:
         found = re.search(pattern, said)
         if found:
-            number = found[1] if found.groups() else ""
-            return "\n    " + advice.format(machine=quoted(machine), record=quoted(record), number=number, source=source_named(machine, number))
+            number, line = (*found.groups(), "", "")[:2]
+            return "\n    " + advice.format(machine=quoted(machine), record=quoted(record), number=number, line=line, source=source_named(machine, number))
     return ""
 
 
@@ -121,7 +127,7 @@ def prepare() -> int:
     """Builds the programs unless they are built, with its progress on standard error. Returns BUILT, UNPROVED or IN_PLACE."""
     status = subprocess.run([LAUNCH, "--build"], stdin=subprocess.DEVNULL).returncode
     if status not in (BUILT, UNPROVED, IN_PLACE):
-        raise Refused("the programs that it asks aren't built")
+        raise Refused("the proved programs aren't built; the lines above say why")
     if status == UNPROVED:
         print("running UNPROVED code, since CELL_TRY is set", file=sys.stderr)
     return status

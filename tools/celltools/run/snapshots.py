@@ -29,7 +29,7 @@ def snapshot(folder: str, kind: str, name: str, most: int) -> Snapshot:
     except (FileNotFoundError, NotADirectoryError):
         return taken
     except IsADirectoryError:
-        raise Refused(f"{name} is a folder: a {kind} is a file") from None
+        raise Refused(f"{name}: it is a folder: name a {kind}") from None
     except OSError as why:
         raise Refused(f"{name}: {why.strerror}: name a {kind} that can be read") from None
     with open(taken, "wb") as file:
@@ -58,5 +58,5 @@ def steps_of(record: Path) -> int:
     found: List[str] = next((line.split() for line in record_lines(record) if line.startswith("steps ")), [])
     count = number_of(found[1]) if len(found) == 2 else None
     if count is None:
-        raise Refused(f"{record} has no line `steps N`: it is no record, or only a part of one")
+        raise Refused(f"{record}: it has no line `steps N`, so it is no record, or only a part of one")
     return count

@@ -1,0 +1,2 @@
+	br strat
+start:	stop 1

@@ -1,0 +1,2 @@
+start:	il $3,08
+	stop 1

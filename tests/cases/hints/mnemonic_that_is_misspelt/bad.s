@@ -1,0 +1,2 @@
+start:	lqdd $3,0($4)
+	stop 1
