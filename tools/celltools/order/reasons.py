@@ -1,7 +1,7 @@
 """Why neither of two steps that race happens before the other, and how to fix it: the steps of their sides, by the rules of docs/reference/order.md."""
 import functools
 import re
-from typing import List, Optional, Sequence, Union
+from typing import List, Optional, Sequence, Tuple, Union
 
 from celltools.order.graph import Order, Past
 from celltools.run.effects import NO_COMMAND, OF_COMMANDS, Command, has_group
@@ -18,7 +18,7 @@ BETWEEN = "by atomic commands on one line, a mailbox or a signal", "Line, Passed
 TO_HOST = "by its outbound mailbox, or by its end, which the host awaits", "Passed or Finished"
 FROM_HOST = "by the inbound mailbox or a signal register", "Passed or Signalled"
 # By the field of the step with which a side releases the other, what that step is.
-RELEASING = {"put": "the mailbox write", "signal": "the signal", "ended": "the last instruction"}
+RELEASING = {"put": "the mailbox write", "take": "the mailbox read", "signal": "the signal read", "ended": "the stop"}
 
 
 # The titles of what is said of a race.
@@ -86,6 +86,8 @@ class Race:
     def reasons(self) -> List[str]:
         if {self.one.kind, self.two.kind} == {"atomic", "piece"} and not self.same:
             return self.of_line()
+        if self.same and self.begin > self.anchor:
+            return self.of_early()
         if self.same:
             return self.within_side() + self.of_marks()
         if self.begin > self.bound:
@@ -96,9 +98,13 @@ class Race:
         """Why the first isn't ordered before what its own side did at the bound."""
         if self.one.kind in OF_COMMANDS:
             return self.of_statuses()
-        if self.one.kind == "atomic":
-            return [f"nothing waits for the {ATOMIC[self.one.told['atomic'][0]]}: its atomic status is not read before step {self.bound}", *self.only_counted()]
-        return [f"the second's command was issued in step {self.anchor}, before the first: a command does not wait for later instructions"]
+        return [f"nothing waits for the {ATOMIC[self.one.told['atomic'][0]]}: its atomic status is not read before step {self.bound}", *self.only_counted()]
+
+    def of_early(self) -> List[str]:
+        """Of a second step whose command was issued before the first, or before the first's command, by the same processor."""
+        if self.begin == self.first:
+            return [f"the second's command was issued in step {self.anchor}, before the first: a command does not wait for later instructions"]
+        return [f"the second's command was issued in step {self.anchor}, before the first's command in step {self.begin}: a command does not wait for later ones"]
 
     def of_line(self) -> List[str]:
         """Of an atomic command and a transfer of another processor, on one line."""
@@ -112,7 +118,7 @@ class Race:
             return [f"{what} after step {self.bound}, which issued the command of step {self.last}"]
         if self.last >= 0:
             return [f"{what} after step {self.last}"]
-        return [f"{self.side()} did not release {self.other()} before step {self.anchor} by an atomic command, a mailbox or a signal"]
+        return [f"{self.side()} did not release {self.other()} before step {self.anchor} {self.between(self.first)[0]}"]
 
     def of_statuses(self) -> List[str]:
         """Of a step of a queued command: the statuses that its processor read up to the bound, and why none orders it."""
@@ -181,8 +187,6 @@ class Race:
             return []
         one, two = self.command(), self.trace.command_of(self.two)
         name = name_of(two)
-        if two.number < one.number:
-            return [f"the second's command ({name}) was issued before the first's"]
         if two.mark == "-":
             return [f"the second's command ({name}) {NO_MARK}"]
         return [f"the second's command ({name}) has a {two.mark}, which waits only for commands with its own tag, {two.tag}: the first's has tag {one.tag}"]
@@ -277,26 +281,37 @@ class Race:
         return [f"use {base}B for the first's command: then the later command of step {self.last}, which has the same tag, waits for it   [Queue]"]
 
     def within_one(self) -> List[str]:
+        if self.begin > self.anchor:
+            return self.second_first()
         until = f"before step {self.anchor}" + ("" if self.anchor == self.second else " (the issue of the second's command)")
         if self.one.kind in OF_COMMANDS:
             tag = self.command().tag
             said = self.fences() + [f"wait for tag {tag} after step {self.begin} and {until}: {WAIT}"]
             return said + [f"read the list stall status with tag {tag} {until}: rdch $ch25   [StallSeen]"] * self.flagged()
-        if self.one.kind == "atomic":
-            return [f"read the atomic status {until}: rdch $ch27   [AtomicSeen]"]
-        return [f"move the first before step {self.anchor}, which issues the second's command   [Issued]", f"to order the second before the first: {self.wait(self.second)}, before step {self.first}"]
+        return [f"read the atomic status {until}: rdch $ch27   [AtomicSeen]"]
+
+    def second_first(self) -> List[str]:
+        """Of a second step whose command was issued earlier: changes that would order it before the first, or the first before its issue."""
+        between = f"after step {self.anchor} and before step {self.begin}"
+        said = [f"move the first before step {self.anchor}, which issues the second's command   [Issued]"] if self.begin == self.first else []
+        if self.two.kind == "atomic":
+            return [*said, f"to order the second before the first: read the atomic status {between}: rdch $ch27   [AtomicSeen]"]
+        two = self.trace.command_of(self.two)
+        if self.one.kind in OF_COMMANDS and self.command().kind not in UNMARKED:
+            one = self.command()
+            base, tag = name_of(one._replace(mark="-")), "" if one.tag == two.tag else f" with tag {two.tag}"
+            said.append(f"to order the second before the first: use {base}F or {base}B{tag} for the first's command, which then waits for earlier commands with the same tag   [Queue]")
+        return [*said, f"to order the second before the first: wait for tag {two.tag} {between}: {WAIT}"]
 
     def fences(self) -> List[str]:
         """A mark on the second's command, where it is a later queued one."""
         if self.two.kind not in OF_COMMANDS:
             return []
         one, two = self.command(), self.trace.command_of(self.two)
-        if two.number < one.number:
-            return []
-        tag = "" if two.tag == one.tag else f" with tag {one.tag}"
         if two.kind in UNMARKED:
-            return [f"use {name_of(one._replace(mark='-'))}B for the first's command: then the second's{tag} waits for it   [Queue]"]
-        base = name_of(two._replace(mark="-"))
+            also = "" if two.tag == one.tag else f" and tag {one.tag} for the second's"
+            return [f"use {name_of(one._replace(mark='-'))}B for the first's command{also}: then the second's waits for it   [Queue]"]
+        base, tag = name_of(two._replace(mark="-")), "" if two.tag == one.tag else f" with tag {one.tag}"
         return [f"use {base}F or {base}B{tag} for the second's command, which then waits for earlier commands with the same tag   [Queue]"]
 
     def the_command(self, place: int) -> str:
@@ -318,8 +333,13 @@ class Race:
     def release(self, place: int, until: int) -> str:
         """How one side releases the other after the step at a place, with the rules by which this orders."""
         here, there, order = (self.side(), self.other(), "first before the second") if place == self.first else (self.other(), self.side(), "second before the first")
-        how, rules = FROM_HOST if self.trace.steps[place].spe is None else TO_HOST if there == "the host" else BETWEEN
+        how, rules = self.between(place)
         return f"to order the {order}: {self.wait(place)}, then let {here} release {there} before step {until} {how}   [{rules}]"
+
+    def between(self, place: int) -> Tuple[str, str]:
+        """How the side of a step can release the other, and the rules by which that orders."""
+        spes = (self.one.spe, self.two.spe) if place == self.first else (self.two.spe, self.one.spe)
+        return FROM_HOST if spes[0] is None else TO_HOST if spes[1] is None else BETWEEN
 
     def wait(self, place: int) -> str:
         """How its own side waits for a step."""
