@@ -4,7 +4,7 @@
 const { CompressionStream, DecompressionStream } = /** @type {any} */ (globalThis); // the types of older checkers lack them
 const MOST_BYTES = 4_194_304; // of a file, as the programs take it
 const MOST_UNPACKED = 33_554_432; // bytes of all that a link holds
-const NO_PROGRAM = 'this link holds no program: it was cut, or is none of this page';
+const NO_PROGRAM = 'this link holds no program: it was cut off, or is not a link of this page';
 const count = new Intl.NumberFormat('en').format;
 
 /** @param {BlobPart} data
@@ -48,7 +48,7 @@ async function unpackedWithin(data, most) {
  * @param {string} part @returns {Promise<import('./telling.js').Project>} */
 export async function programIn(part) {
   const data = await unpackedWithin(inflatable(part), MOST_UNPACKED).catch(() => { throw new LinkError(NO_PROGRAM); });
-  if (!data) throw new LinkError(`this link isn't opened: it unpacks to more than ${count(MOST_UNPACKED)} bytes. A file of a program has at most ${count(MOST_BYTES)} bytes`);
+  if (!data) throw new LinkError(`this link is not opened: it unpacks to more than ${count(MOST_UNPACKED)} bytes, and a file has at most ${count(MOST_BYTES)}`);
   const { m, f } = parsed(data), project = { machine: m, files: f }, why = tooLarge(project);
   if (why) throw new LinkError(`${why}. The link isn't opened`);
   return project;

@@ -106,7 +106,7 @@ function drawOpened() {
   results.close();
   drawPutBack();
   drawCurrent();
-  const button = mended && examples.has(mended) ? [' ', make('button', { onclick: () => choose(mended) }, 'Open the mended program')] : [];
+  const button = mended && examples.has(mended) ? [' ', make('button', { onclick: () => choose(mended) }, 'Open the fixed program')] : [];
   byId('lesson').replaceChildren(make('h2', {}, title), ...words.map(text => make('p', {}, ...withCode(text))),
     ...(mends ? [make('details', {}, make('summary', {}, 'What mends it'), make('p', {}, ...withCode(mends), ...button))] : []));
   document.title = `${title} - cell`;
@@ -201,7 +201,7 @@ const isAtWork = () => asker.isBusy || hunting.isBusy;
 /** Shows that something takes a while, and the button that stops it. */
 function showBusy() {
   clearTimeout(waiting);
-  const show = () => { byId('busy').textContent = isAtWork() ? 'at work …' : ''; byId('stop').hidden = !isAtWork(); };
+  const show = () => { byId('busy').textContent = isAtWork() ? 'working …' : ''; byId('stop').hidden = !isAtWork(); };
   byId('hunt-runs').setAttribute('aria-disabled', String(hunting.isMaking));
   if (isAtWork() && byId('stop').hidden) waiting = setTimeout(show, SHOWN);
   else show();
@@ -277,7 +277,7 @@ async function share() {
   byId('link').value = link;
   byId('link-row').hidden = false;
   if (why || link.length > MOST_LINK) {
-    byId('link-said').textContent = why || `this link has ${link.length} characters, and browsers open at most ${MOST_LINK}: shorten the files`;
+    byId('link-said').textContent = why || `this link has ${link.length} characters, but browsers open at most ${MOST_LINK}: shorten the files`;
     return;
   }
   byId('link').select();
@@ -357,4 +357,4 @@ async function start() {
 function warmUp() {
   if (!hunting.isBusy) hunting.warmUp(programOf(exampleOf(library.start)), WARMING);
 }
-start().catch(why => refuse(`this browser can't run the engine: ${why.message || why}`));
+start().catch(why => refuse(`this browser cannot run the emulator: ${why.message || why}`));

@@ -109,4 +109,4 @@ export function huntLine(line) {
 }
 /** A part of such a line: a step, or the state of an SPU. @param {string} part */
 const inWords = part =>
-  part.replace(STEP, (_, letter, spe) => `${STEPS[letter]} of SPU ${spe} at `).replace(SPE, 'SPU $1 ').replace(/^processor (\d+)/, 'SPU $1');
+  part.replace(STEP, (_, letter, spe) => `${STEPS[letter]} of SPU ${spe} at `).replace(SPE, 'SPU $1 ');

@@ -15,7 +15,7 @@ import { huntLine, partOf } from './sums.js';
  */
 
 const MOST_STEPS = 200_000; // of a run that is told of step by step
-const TOO_LARGE = 'this is too large for the page: it ran out of memory or of depth. The tools in a clone have more room';
+const TOO_LARGE = 'this is too large for the page: out of memory or stack. The command-line tools have more room';
 const OF_TOOLS = '/cell/', PAIR = /^race (\d+) (\d+)$/;
 
 const NOTHING = { stamp: -1, record: '', run: /** @type {any} */ (null), steps: /** @type {any} */ (null), ending: /** @type {Ending | null} */ (null) };
@@ -146,7 +146,7 @@ const stepsIn = made => Number((/^steps (\d+)$/m.exec(made.record) || [])[1]);
 function refuseLong(made) {
   const steps = stepsIn(made);
   const [has, most] = [steps, MOST_STEPS].map(number => number.toLocaleString('en'));
-  if (steps > MOST_STEPS) throw new Refusal(`the run has ${has} steps, and the page tells of at most ${most} one by one: the tools in a clone take more`);
+  if (steps > MOST_STEPS) throw new Refusal(`the run has ${has} steps, but the page shows single steps of runs with at most ${most}: use the command-line tools`);
 }
 /** The run as tools/picture has it. @param {Made} made */
 function drawnRun(made) {

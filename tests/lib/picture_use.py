@@ -97,11 +97,11 @@ def neighbours(reader: Reader) -> None:
     place = next(k for k, line in reversed(list(enumerate(lines))) if " | issue " in line)
     before = max(k for k, line in enumerate(lines[:place]) if line.startswith(" ".join(lines[place].split(" ")[:2]) + " "))
     found = reader.go(place)
-    reader.expect_in("what comes before a step", f"the step before it in its program, {before:,}, by Program", " ".join(found["side"].split()))
+    reader.expect_in("what happens before a step", f"{before:,}, the previous step of its program, by Program", " ".join(found["side"].split()))
     piece = max(k for k, line in enumerate(lines) if line.startswith("p "))
     spe, command = lines[piece].split()[1:3]
     issue = next(k for k, line in enumerate(lines) if line.startswith(f"x {spe} ") and f" | issue {command} " in line)
-    reader.expect_in("what comes before a piece", f"{issue:,} by Issued", " ".join(reader.go(piece)["side"].split()))
+    reader.expect_in("what happens before a piece", f"{issue:,} by Issued", " ".join(reader.go(piece)["side"].split()))
 
 
 def columns(reader: Reader) -> None:
@@ -263,16 +263,16 @@ RACY = [numbers, neighbours, columns, only, race_in_view]
 USES: Dict[str, Sequence[Callable[[Reader], None]]] = {
     "mail_race": [*RACY, searches(
         Found("receiver.s:12", steps_of_line("receiver.s:12")), Found("0x84", steps_touching(r"\S+", 0x84, 0x85)), Found("$ch21", lines_with(" wrch 21 ")),
-        Found("takes inbox", lines_with(r"^x .*\| take \d+ in ")), Found("into its outbox", lines_with(r"^x .*\| put \d+ out")), Found("lost", lambda page: 0))],
+        Found("reads inbox", lines_with(r"^x .*\| take \d+ in ")), Found("to its outbox", lines_with(r"^x .*\| put \d+ out")), Found("lost", lambda page: 0))],
     "sixteen": [*RACY, searches(
         Found("lost", lines_with(r"putllc .*status 1|rdch 27 1 ")), Found("mutex_early_race.s:29", steps_of_line("mutex_early_race.s:29")),
         Found("MFC_RdAtomicStat", lines_with(" rdch 27 ")))],
-    "stuck": [badge("accepted 4 · Stuck, processor 0 waits, the host did 2 of 3 actions", AMBER), waiting],
-    "fault": [badge("accepted 10 · AllStopped, processor 0 has a fault", RED), waiting],
-    "spent": [badge("accepted 400 · Budget: all 400 steps are spent, 16 processors run", AMBER), waiting],
-    "wait_any": [values((r"rdch 0 17$", "reads the events 0x11: {inbox, tags}"), (r"take 0 in 256", "takes 0x100 out of its inbox"),
+    "stuck": [badge("accepted 4 · deadlock (Stuck), SPU 0 waits, 2 of 3 host actions done", AMBER), waiting],
+    "fault": [badge("accepted 10 · AllStopped, SPU 0 has a fault", RED), waiting],
+    "spent": [badge("accepted 400 · Budget: all 400 steps are spent, 16 SPUs run", AMBER), waiting],
+    "wait_any": [values((r"rdch 0 17$", "reads the events 0x11: {inbox, tags}"), (r"take 0 in 256", "reads 0x100 from its inbox"),
                         (r"rdch 27 4 ", "reads the atomic status 4: GETLLAR"),
                         (r" tags 8 1", "reads the tag status 0x8: tags {3}"), ("put 0 in 256", "send 0"))],
-    "signal": [values((r"deliver 1", "to SPE 1 sig 1: 0x1"), (r"rdch 3 1 ", "takes 0x1 out of signal 1"))],
+    "signal": [values((r"deliver 1", "to SPU 1 sig 1: 0x1"), (r"rdch 3 1 ", "reads 0x1 from signal 1"))],
     "follow": [values((r" stalls 32", "reads the stall status 0x20: stalls {5}"))],
 }

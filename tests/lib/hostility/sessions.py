@@ -83,15 +83,15 @@ def wrong_files(folder: pathlib.Path) -> Optional[str]:
 WRITING = [
     session("a file is written over only where one says so", ["step", "record old.out", "record hard.out over", "record soft.out over", "record fixed.out over",
                                                              "record pipe", "record /dev/null", "record /dev/full", "record .", "record no/where", "where"],
-            r"(?s)old\.out is there, so nothing is written: type `record old\.out over`.* written to hard\.out.* written to soft\.out"
-            r".*fixed\.out: (it is read-only|Permission denied).*pipe: nobody reads it: type another.* written to /dev/null.*/dev/full: No space left on device"
+            r"(?s)old\.out: the file exists, so nothing is written: type `record old\.out over`.* written to hard\.out.* written to soft\.out"
+            r".*fixed\.out: (it is read-only|Permission denied).*pipe: nobody reads it: use another.* written to /dev/null.*/dev/full: No space left on device"
             r".*\.: Is a directory.*no/where: No such file or directory.*after 1 step; ", 1, before=make_names, after=wrong_names),
     session("the record that a session is from stays, and what holds something else", [
         "record m.out", "record m.out over", "record hard.out over", "record soft.out over", "picture m.out over", "picture mine.html",
         "picture mine.html over", "record m.cell over", "record s.s over", "picture page.html", "picture page.html", "picture page.html over", "where"],
-            r"(?s)(m\.out is the record that this session is from.*){2}hard\.out is the record.*soft\.out is the record.*m\.out is the record"
-            r".*(mine\.html is there and holds no page.*){2}m\.cell is there and holds no record.*s\.s is there and holds no record"
-            r".*a page of 10 steps written.*`picture page\.html over`.*a page of 10 steps written.*after 10 steps; ", 1,
+            r"(?s)(m\.out: this is the record of the session.*){2}hard\.out: this is the record.*soft\.out: this is the record.*m\.out: this is the record"
+            r".*(mine\.html: the file exists and is not a page.*){2}m\.cell: the file exists and is not a record.*s\.s: the file exists and is not a record"
+            r".*picture of 10 steps written.*`picture page\.html over`.*picture of 10 steps written.*after 10 steps; ", 1,
             ("m.cell", "m.out", "10"), files={**FILES, "mine.html": PAGE}, before=link_record, after=wrong_files),
 ]
 
@@ -119,9 +119,9 @@ VALUES = [f"{command} {value}" for command in ("print", "display", "x") for valu
 WORDS = [
     session("odd things, conditions and values", ["step", *THINGS, *CONDITIONS, *VALUES, "undisplay all", "undisplay", "finish", "finish 1", "reverse",
                                                   "tbreak if", "tbreak", "delete all", "back to 1", "where"],
-            NO_ESCAPE + r"(?!.*the debugger failed).*> where\nafter 1 step; \d+ steps? ahead\n", 1),
-    session("odd actors", ["step", *ACTORS, "release all", "where"], NO_ESCAPE + r"(?!.*the debugger failed).*1> where\nafter 1 step; 0 steps ahead\n", 1),
-    session("odd numbers and names", ["step", *PLACES, *COUNTS, "where"], NO_ESCAPE + r"(?!.*the debugger failed).*1> where\nafter 1 step; 0 steps ahead\n", 1),
+            NO_ESCAPE + r"(?!.*internal error).*> where\nafter 1 step; \d+ recorded steps? ahead\n", 1),
+    session("odd actors", ["step", *ACTORS, "release all", "where"], NO_ESCAPE + r"(?!.*internal error).*1> where\nafter 1 step; 0 recorded steps ahead\n", 1),
+    session("odd numbers and names", ["step", *PLACES, *COUNTS, "where"], NO_ESCAPE + r"(?!.*internal error).*1> where\nafter 1 step; 0 recorded steps ahead\n", 1),
     session("a line without end", ["where", "x" * 200_000], r"(?s)0> where\nafter 0 steps", 2, said=r"standard input has a line of more than 100000 bytes"),
     session("odd lines of a script", ["step\r", "# \x85\r step", "\x0cwhere"], r"(?s)1> # \\x85\\x0d step\n1> \\x0cwhere\nafter 1 step; "),
 ]
@@ -133,7 +133,7 @@ TEXTS = [
             NO_ESCAPE + r".* 7 0x00008 +stqd +\$4,0\(\$3\) +# въход, Ångström\n.* 19 0x00034 +stqd +\$4,0\(\$3\) +# " + HIDDEN_NAME
             + r" \\x9b31m \\x0d here\n +20 .*running at 0x00034, " + HIDDEN_NAME + r" \(s\.s:19\): stqd", files=ODD_FILES),
     session("odd lines of a machine file, whose name is no UTF-8", ["actors", "step x0", "where", "record \udcff"],
-            r"(?s)x0 .*m\\xff\.cell:6: stop 0.*next m\\xff\.cell:7: host send 0 7.*written to \\xff", words=(NOT_UTF8,), files={NOT_UTF8: SCRIPT},
+            r"(?s)x0 .*m\\xff\.cell:6: stop 0.*next: m\\xff\.cell:7: host send 0 7.*written to \\xff", words=(NOT_UTF8,), files={NOT_UTF8: SCRIPT},
             after=lambda folder: None if (folder / os.fsdecode(b"\xff")).exists() else "no record"),
     Row("race: a name with a blank", ("tools/race", "m m.cell", "m.out"), 1, printed=r"tools/witness 'm m\.cell' m\.out$",
         files={**FILES, "m m.cell": MACHINE}),
@@ -182,14 +182,14 @@ REFUSED = [
     *refused("race states", "a number without end in the record", r"record file, line 7|m\.out: it has no line `steps N`",
              files={**FILES, "m.out": RECORD.replace(b"steps 21", b"steps " + LONG.encode())}),
     *refused("picture", "a record of bytes", r"record file, line 1\n +m\.out:1: tools/explain m\.out", files={**FILES, "m.out": bytes(range(256)) * 99}),
-    Row("states: a number without end", ("tools/states", "m.cell", "m.out", LONG), 2, r"^states: `9+` is no number of steps of this record: it has 21$",
+    Row("states: a number without end", ("tools/states", "m.cell", "m.out", LONG), 2, r"^states: `9+` is not a number of steps of this record: give 0 to 21$",
         files=FILES),
-    Row("states: a number with a sign", ("tools/states", "m.cell", "m.out", "+1"), 2, r"^states: `\+1` is no number of steps", files=FILES),
-    Row("debug: a number without end", ("tools/debug", "m.cell", "m.out", LONG), 2, r"^debug: `9+` is no number of steps of this record: it has 21$",
+    Row("states: a number with a sign", ("tools/states", "m.cell", "m.out", "+1"), 2, r"^states: `\+1` is not a number of steps", files=FILES),
+    Row("debug: a number without end", ("tools/debug", "m.cell", "m.out", LONG), 2, r"^debug: `9+` is not a number of steps of this record: give 0 to 21$",
         files=FILES),
     Row("picture: steps without end", ("tools/picture", "--race", LONG, "1", "m.cell", "m.out"), 2, r"^Usage: tools/picture", files=FILES),
     Row("picture: steps of another alphabet", ("tools/picture", "--race", "\u0661", "\u0662", "m.cell", "m.out"), 2, r"^Usage: tools/picture", files=FILES),
-    Row("hunt's lines: a number without end", ("tools/site_lines", "m.cell"), 2, r"is no site of m\.cell", printed=r"^1 \| h 9+$", files=FILES,
+    Row("hunt's lines: a number without end", ("tools/site_lines", "m.cell"), 2, r"is not a place of m\.cell", printed=r"^1 \| h 9+$", files=FILES,
         standard_input=f"1 | h {LONG}\n".encode()),
     Row("race: a pipe as the machine file", ("tools/race", "/dev/stdin", "m.out"), 1, printed=r"(?s)^race 10 14\n.*at s\.s:19", files=FILES,
         standard_input=MACHINE),

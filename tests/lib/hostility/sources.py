@@ -116,8 +116,8 @@ OF_FROM_GAS = [
     rewritten("200 of them", "".join(f"a{number}=a{number - 1}\n" for number in range(200, 0, -1)), 1, said="^a.s:1: more than 100 "),
     rewritten("comments that nothing ends", "/* " * 100_000, 1, said=r"^a.s:1: `/\*` is neither an instruction"),
     rewritten("blanks within a line", f" il $3,1{' ' * 200_000}+1{' ' * 200_000}\n", 0, printed=r"il\t\$3,2"),
-    rewritten("quotes that nothing ends", ' .data\n .ascii "' + '\\"' * 50_000, 1, said="^a.s:2: strings are in"),
-    rewritten("more bytes than the store has", " .data\n" + " .fill 4096,4,1\n" * 500, 1, said=r"^a.s:18: `\.fill` ends above the local store"),
+    rewritten("quotes that nothing ends", ' .data\n .ascii "' + '\\"' * 50_000, 1, said="^a.s:2: strings must be in"),
+    rewritten("more bytes than the store has", " .data\n" + " .fill 4096,4,1\n" * 500, 1, said=r"^a.s:18: `\.fill` goes beyond the end of the local store"),
     rewritten("numbers of 5,000 digits", LONG_NUMBERS, 1, said=r"^a.s:6: `9{24}\.\.` has more than 64 bits"),
     rewritten("nested parentheses", PARENTHESES, 1, said="^a.s:1: more than 100 nested parentheses"),
     rewritten("a character of no octal digit", " il $3,'\\8\n il $4,'\\7\n", 0, printed=r"il\t\$3,56.*\n.*\$4,7"),
@@ -191,27 +191,27 @@ OF_PLACES = [
     Row("site_lines: a carriage return in a comment", ["tools/site_lines", "a.cell"], 0, printed=r"^race \| x 0 at 0x00000 reuse_race.s:5$",
         standard_input=b"race | x 0 at 0x00000\n", files={"a.cell": f"# a comment\r spe\n{MACHINE}source reuse_race.s\n".encode()},
         examples=["races/reuse_race.s"]),
-    Row("site_lines: a faulty machine file", ["tools/site_lines", "a.cell"], 2, said=r"^site_lines: a\.cell:5: no line of a machine file\n    tools/explain a\.cell says",
+    Row("site_lines: a faulty machine file", ["tools/site_lines", "a.cell"], 2, said=r"^site_lines: a\.cell:5: not a line of a machine file\n    tools/explain a\.cell says",
         files={"a.cell": MACHINE.encode() + b"source\n"}, standard_input=b"race\n"),
-    Row("site_lines: a number of 5,000 digits", ["tools/site_lines", "a.cell"], 2, said="is no site of a.cell",
+    Row("site_lines: a number of 5,000 digits", ["tools/site_lines", "a.cell"], 2, said="is not a place of a.cell",
         standard_input=f"race | h {DIGITS}\n".encode(), files={"a.cell": MACHINE.encode()}),
 ]
 
 ONE_LINE = f"{MACHINE}code 0 00000000\n".encode()
 OF_HUNTS = [
-    Row("hunt: a pipe that nobody writes", ["hunt", "pipe", "4"], 3, said=r"\Ahunt: pipe: it is a pipe, and nobody writes to it: name a file", printed="",
+    Row("hunt: a pipe that nobody writes", ["hunt", "pipe", "4"], 3, said=r"\Ahunt: pipe: it is a pipe without a writer: name a file", printed="",
         before=make_fifo("pipe")),
-    Row("hunt: a source that is such a pipe", ["hunt", "a.cell", "4", "--json"], 3, said=r"\Ahunt: pipe: it is a pipe, and nobody", printed="",
+    Row("hunt: a source that is such a pipe", ["hunt", "a.cell", "4", "--json"], 3, said=r"\Ahunt: pipe: it is a pipe without a writer", printed="",
         files={"a.cell": f"{MACHINE}source pipe\n".encode()}, before=make_fifo("pipe")),
     Row("hunt: a machine file in a pipe", ["hunt", "/dev/stdin", "4"], 0, printed=r"\A4 runs of seed 1: 4 AllStopped", standard_input=ONE_LINE),
     Row("hunt: a machine file in a pipe, as a part", ["hunt", "/dev/stdin", "--runs", "4", "--json"], 0, printed=r'"machine":"/dev/stdin"', standard_input=ONE_LINE),
-    Row("hunt: a source in a pipe", ["hunt", "a.cell", "4"], 3, said=r"\Ahunt: /dev/stdin: this source is a pipe, and one with an absolute name is read twice",
+    Row("hunt: a source in a pipe", ["hunt", "a.cell", "4"], 3, said=r"\Ahunt: /dev/stdin: this source is a pipe, but sources with absolute names are read twice",
         printed="", files={"a.cell": f"{MACHINE}source /dev/stdin\n".encode()}, standard_input=b" stop 1\n"),
-    Row("hunts: a pipe that nobody writes", ["tools/hunts", "pipe"], 2, said=r"\Apipe: it is a pipe, and nobody writes to it", printed="", before=make_fifo("pipe")),
+    Row("hunts: a pipe that nobody writes", ["tools/hunts", "pipe"], 2, said=r"\Apipe: it is a pipe without a writer", printed="", before=make_fifo("pipe")),
     Row("hunts: a line without an end", ["tools/hunts", "/dev/zero"], 2, said=r"\A(/dev/zero:1: it has more than 268,435,456 bytes|hunts: )", printed="",
         seconds=120, megabytes=1024),
-    Row("hunts: a folder", ["tools/hunts", "/"], 2, said="^/: Is a directory: name a file", printed=""),
-    Row("hunts: no file", ["tools/hunts", "none"], 2, said="^none: No such file or directory: name a file", printed=""),
+    Row("hunts: a folder", ["tools/hunts", "/"], 2, said="^/: Is a directory: name an output", printed=""),
+    Row("hunts: no file", ["tools/hunts", "none"], 2, said="^none: No such file or directory: name an output", printed=""),
 ]
 
 ROWS = [*OF_HUNTS, *OF_FROM_GAS, *OF_TARGETS, *OF_EXPLAIN, *OF_PLACES]

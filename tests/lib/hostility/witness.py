@@ -32,9 +32,9 @@ ALIKE = {
     "s.s": b"_start:\til $3,16\n\twrch $ch19,$3\n\til $4,0x20\n\twrch $ch21,$4\n\twrch $ch21,$4\n\tstop 1\n",
     "m.out": b"cell-record 2\nx 0 5\np 0 0 0 0\np 0 1 0 0\nx 0 1\nsteps 8\n",
 }
-WAITS = r"(?s)the second order is refused \([^()]*\): its step 7, x 0 \(step 8 of the record\), isn't allowed there\n.*\n    it waits at channel 29"
+WAITS = r"(?s)the second order is not a run \([^()]*\): its step 7, `x 0` \(step 8 of the record\), is not possible there\n.*\n    waits on channel 29"
 OF_DEVICES = [f"/dev/{name}.{order}" for name in ("full", "new", "linked", "stdin-0") for order in ("first", "second")]
-BOTH, USAGE, TAKEN = "both end AllStopped", "Usage: tools/witness", "is there, so nothing is written"
+BOTH, USAGE, TAKEN = "both runs end AllStopped", "Usage: tools/witness", ": the file exists, so nothing is written"
 
 
 def has_only(*names: str) -> Callable[[pathlib.Path], Optional[str]]:
@@ -86,7 +86,7 @@ def has_first_alone(folder: pathlib.Path) -> Optional[str]:
 ROWS = [
     witness("both orders beside the record", "m.cell", "m.out", printed=BOTH, after=has_only("m.out.first", "m.out.second")),
     witness("both orders by a name", "-o", "x", "m.cell", "m.out", printed=BOTH, after=has_only("x.first", "x.second")),
-    witness("a run of a hunt", "--run", "0", "m.cell", printed="^m-0.first, the first order: ", after=has_only("m-0.first", "m-0.second")),
+    witness("a run of a hunt", "--run", "0", "m.cell", printed="^m-0.first, the order of the record:", after=has_only("m-0.first", "m-0.second")),
     witness("no words", status=2, said=USAGE),
     witness("a seed without a run", "--seed", "1", "m.cell", "m.out", status=2, said=USAGE),
     witness("a run and a record", "--run", "1", "m.cell", "m.out", status=2, said=USAGE),
@@ -97,29 +97,29 @@ ROWS = [
     witness("a name in a folder that isn't there", "-o", "none/x", "m.cell", "m.out", status=2, said="none/x.first: No such file", after=has_only()),
     witness("a file that is there", "m.cell", "m.out", status=2, said=TAKEN, files={**FILES, "m.out.second": MINE}, after=keeps_mine),
     witness("a file that is there, by force", "--force", "m.cell", "m.out", printed=BOTH, files={**FILES, "m.out.second": MINE}, after=are_records),
-    witness("the record's own name, by force", "--force", "-o", "m", "m.cell", "m.first", status=2, said="m.first is a file that is read",
+    witness("the record's own name, by force", "--force", "-o", "m", "m.cell", "m.first", status=2, said="m.first: this is an input file",
             files={**FILES, "m.first": RECORD}),
     witness("a record that is no plain file", "m.cell", "/dev/null", status=2,
-            said="^witness: /dev/null: it is a device, .*: give the output another name with `-o NAME`$"),
+            said="^witness: /dev/null: this is a device, .*: give the output another name with `-o NAME`$"),
     witness("a record on standard input", "-o", "x", "m.cell", "/dev/stdin", printed=BOTH, standard_input=RECORD, after=has_only("x.first", "x.second")),
     witness("a record that isn't there", "m.cell", "none", status=2, said="cannot read record file", after=has_only()),
-    witness("a device", "-o", "/dev/full", "m.cell", "m.out", status=2, said="^witness: -o /dev/full: it is a device, ", after=leaves_devices),
-    witness("a device, by force", "--force", "-o", "/dev/full", "m.cell", "m.out", status=2, said="^witness: -o /dev/full: it is a device, ",
+    witness("a device", "-o", "/dev/full", "m.cell", "m.out", status=2, said="^witness: -o /dev/full: this is a device, ", after=leaves_devices),
+    witness("a device, by force", "--force", "-o", "/dev/full", "m.cell", "m.out", status=2, said="^witness: -o /dev/full: this is a device, ",
             after=leaves_devices),
-    witness("a new name among devices", "-o", "/dev/new", "m.cell", "m.out", status=2, said="^witness: /dev/new.first: /dev is no folder for files",
+    witness("a new name among devices", "-o", "/dev/new", "m.cell", "m.out", status=2, said="^witness: /dev/new.first: /dev cannot hold regular files",
             after=leaves_devices),
-    witness("a name in /proc", "-o", "/proc/self/x", "m.cell", "m.out", status=2, said="^witness: /proc/self/x.first: /proc/.* is no folder for files"),
-    witness("a folder", "-o", ".", "m.cell", "m.out", status=2, said="^witness: -o .: it is a folder, ", after=has_only()),
-    witness("a pipe", "-o", "pipe", "m.cell", "m.out", status=2, said="^witness: -o pipe: it is a pipe, ", before=make_pipe, after=has_only("pipe")),
-    witness("a link to a device", "--force", "-o", "x", "m.cell", "m.out", status=2, said="^witness: x.second: it is a device, ", before=link_to_null,
+    witness("a name in /proc", "-o", "/proc/self/x", "m.cell", "m.out", status=2, said="^witness: /proc/self/x.first: /proc/.* cannot hold regular files"),
+    witness("a folder", "-o", ".", "m.cell", "m.out", status=2, said="^witness: -o .: this is a folder, ", after=has_only()),
+    witness("a pipe", "-o", "pipe", "m.cell", "m.out", status=2, said="^witness: -o pipe: this is a pipe, ", before=make_pipe, after=has_only("pipe")),
+    witness("a link to a device", "--force", "-o", "x", "m.cell", "m.out", status=2, said="^witness: x.second: this is a device, ", before=link_to_null,
             after=has_only("x.second")),
-    witness("a link into a folder of devices", "--force", "-o", "x", "m.cell", "m.out", status=2, said="^witness: x.first: /dev is no folder",
+    witness("a link into a folder of devices", "--force", "-o", "x", "m.cell", "m.out", status=2, said="^witness: x.first: /dev cannot hold",
             before=link_among_devices, after=leaves_devices),
     witness("a run of a hunt of a machine among devices", "--run", "0", "/dev/stdin", status=2, standard_input=MACHINE, after=leaves_devices,
-            said="^witness: /dev/stdin-0.first: /dev is no folder"),
-    witness("no race", "first.cell", "first.out", status=2, said="no race: accepted 3", examples=("first.cell", "first.out")),
+            said="^witness: /dev/stdin-0.first: /dev cannot hold"),
+    witness("no race", "first.cell", "first.out", status=2, said="no race: `check` says accepted 3", examples=("first.cell", "first.out")),
     witness("an instruction that the other step brings", "m.cell", "m.out", status=1, printed=WAITS, files=BROUGHT, after=has_first_alone),
     witness("a status that nothing orders", "m.cell", "m.out", files=POLLED,
-            printed=r"(?s)is refused \([^()]*\): its step 16, p 0 1 0 0 .*isn't issued before\n.*both are taken \([^()]* in the record's own order\)\n"),
-    witness("nothing differs", "m.cell", "m.out", printed="on these steps the race is benign", files=ALIKE),
+            printed=r"(?s)is not a run \([^()]*\): its step 16, `p 0 1 0 0` .*has not been issued\n.*both orders are runs \([^()]*in the order of the record\)\n"),
+    witness("nothing differs", "m.cell", "m.out", printed="the race is benign in this run", files=ALIKE),
 ]

@@ -1,4 +1,4 @@
-"""A debugger to talk to: it reads commands, makes steps of one run, and tells how the run stands."""
+"""A debugger: it reads commands, makes steps of one run, and prints the state of the run."""
 import re
 from typing import Callable, Iterable, List, Sequence
 
@@ -55,7 +55,7 @@ class Debugger(Going, Looking):
         words, condition = self.grammar.conditional(words, self.spe)
         actor = actor_of_word(words[0], self.run.spes) if len(words) == 2 else None
         if not words or len(words) > 1 and (not actor or actor[0] != "x"):
-            raise Wrong("type `break` and a place, or `break x1` and a place of processor 1 alone: a label, FILE:LINE, an address or a channel")
+            raise Wrong("usage: break PLACE, or break x1 PLACE for SPU 1 only; PLACE is a label, FILE:LINE, an address or a channel")
         spes = [actor[1]] if actor and actor[1] is not None else range(self.run.spes)
         return self.keep_stop(self.stop_at(words[-1], spes, condition, is_once))
 
@@ -69,15 +69,15 @@ class Debugger(Going, Looking):
         return self.keep_stop(Watch(self.things.thing(words, self.spe), condition))
 
     def told_stops(self) -> List[str]:
-        return [f"{number}: {stop}" for number, stop in self.stops.items()] or ["nothing stops a run: `break PLACE` and `watch THING` do"]
+        return [f"{number}: {stop}" for number, stop in self.stops.items()] or ["no breakpoints or watchpoints: set one with `break PLACE` or `watch THING`"]
 
     def do_delete(self, words: Sequence[str]) -> List[str]:
         if words == ["all"]:
             self.stops.clear()
-            return ["nothing stops a run any more"]
+            return ["all breakpoints and watchpoints deleted"]
         number = number_of(words[0]) if len(words) == 1 else None
         if number is None or number not in self.stops:
-            raise Wrong("type `delete` and the number of a break or a watch, or `delete all`: `break` alone lists them")
+            raise Wrong("usage: delete N, or delete all; `break` lists the numbers")
         return [f"deleted {number}: {self.stops.pop(number)}"]
 
     # ---- files
@@ -89,17 +89,17 @@ class Debugger(Going, Looking):
         name = target_of(words, RECORD, self.run.origin)
         write_file(name, text)
         self.run.keep_steps(name)
-        return [f"{counted(self.run.place, 'step')} written to {name}: `cell check {quoted(self.run.machine)} {quoted(name)}` reads them"]
+        return [f"{counted(self.run.place, 'step')} written to {name}; check them with `cell check {quoted(self.run.machine)} {quoted(name)}`"]
 
     def do_picture(self, words: Sequence[str]) -> List[str]:
         if not words:
-            raise Wrong("type `picture` and the name of a file for the page, as here.html")
+            raise Wrong("usage: picture FILE, such as picture here.html")
         name = target_of(words, PICTURE, self.run.origin)
         record = Snapshot(str(self.run.folder / "pictured"), f"{counted(self.run.place, 'step')} of a session")
         with open(record, "w") as file:
             file.write(self.run.record())
         write_file(name, "".join(page_of(Picture(self.run.machine, record))))
-        return [f"a page of {counted(self.run.place, 'step')} written to {name}, for a browser"]
+        return [f"picture of {counted(self.run.place, 'step')} written to {name}; open it in a browser"]
 
 
 def either(names: Sequence[str]) -> str:
@@ -112,5 +112,5 @@ def command_named(word: str) -> str:
     """The command that a word names: whole, by its short name, or by how it begins."""
     names = [SHORT[word]] if word in SHORT else [word] if word in COMMANDS else [name for name in COMMANDS if name.startswith(word)]
     if len(names) != 1:
-        raise Wrong(f"`{word}` is no command" + (f" alone: type {either(names)}" if names else ": type `help`"))
+        raise Wrong(f"ambiguous command `{word}`: type {either(names)}" if names else f"unknown command `{word}`: `help` lists the commands")
     return names[0]

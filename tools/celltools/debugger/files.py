@@ -28,11 +28,11 @@ PICTURE = Kind("picture", "page of a record", lambda data: data.startswith(PAGE_
 def target_of(words: Sequence[str], kind: Kind, origin: Optional[Path]) -> str:
     """The file that words name, where it may be written; Wrong where it may not. `origin` is the record that the session is from, as the user calls it."""
     if len(words) != 1 and words[1:] != [OVER]:
-        raise Wrong(f"type `{kind.name}` and the name of one file, and `{OVER}` behind it where it is to be written over")
+        raise Wrong(f"usage: {kind.name} FILE, or {kind.name} FILE {OVER} to overwrite it")
     name = words[0]
     try:
         if origin and os.path.exists(name) and os.path.exists(str(origin)) and os.path.samefile(name, str(origin)):
-            raise Wrong(f"{name} is the record that this session is from, and stays as it is: type another name")
+            raise Wrong(f"{name}: this is the record of the session, which is not overwritten: use another name")
         if os.path.isfile(name) or pathlib.Path(name).is_block_device():
             refuse_what_is_there(name, kind, OVER in words[1:])
     except (OSError, ValueError) as why:
@@ -44,9 +44,9 @@ def refuse_what_is_there(name: str, kind: Kind, is_over: bool) -> None:
     """Wrong where a file, or a disk, is of another kind, or where nobody said that it is to be written over."""
     data = bytes_of(name, MOST_RECORD_BYTES)
     if data and not kind.is_one(data):
-        raise Wrong(f"{name} is there and holds no {kind.what}, so nothing is written: type another name")
+        raise Wrong(f"{name}: the file exists and is not a {kind.what}, so nothing is written: use another name")
     if not is_over:
-        raise Wrong(f"{name} is there, so nothing is written: type `{kind.name} {name} {OVER}` to write over it, or another name")
+        raise Wrong(f"{name}: the file exists, so nothing is written: type `{kind.name} {name} {OVER}` to overwrite it, or use another name")
 
 
 def write_file(name: str, text: str) -> None:
@@ -58,4 +58,4 @@ def write_file(name: str, text: str) -> None:
 
 
 def unwritten(name: str, why: Exception) -> Wrong:
-    return Wrong(f"{name}: {getattr(why, 'strerror', why)}: type another name")
+    return Wrong(f"{name}: {getattr(why, 'strerror', why)}: use another name")

@@ -17,6 +17,11 @@ CHUNKS = (1000, 10_000, 100_000)  # steps that are made at a time, the last from
 STEP_LETTERS = {"x", "p", "e", "r", "a"}  # that begin the line of a step, beside the host's
 
 
+def discarded(ahead: int) -> str:
+    """Says that recorded steps were discarded."""
+    return f"discarded {counted(ahead, 'recorded step')} (`other` restores {'it' if ahead == 1 else 'them'})"
+
+
 def turns(start: int, count: int, actors: int) -> Iterator[int]:
     """The numbers of turns: the actors take them one after the other, and the choice is the number of the turn."""
     return (turn % actors + actors * turn for turn in range(start, start + count))
@@ -34,7 +39,7 @@ class Going(Session):
         if words and words[0] in STEP_LETTERS:
             return self.step_line(" ".join(words))
         if len(words) > 1 or words and number_of(words[0]) is None:
-            raise Wrong(f"`{' '.join(words)}` names no step: type a number of steps, an actor (x0, m0, h) with or without one, or a line that `actors` tells")
+            raise Wrong(f"`{' '.join(words)}` is not a step: type a number of steps, an actor (x0, m0 or h) and optionally a number, or a line that `actors` prints")
         return self.went([], count_of(words))
 
     def step_actor(self, actor: Actor, count: int) -> List[str]:
@@ -51,10 +56,10 @@ class Going(Session):
         return [*self.told_left(left), *(self.told_move(start, None, False) if made else []), *said]
 
     def told_left(self, left: int) -> List[str]:
-        """Says that what lay ahead was left, where it was: so many ways had been left before."""
+        """Says that recorded steps were discarded, if they were: `left` is how often some had been before."""
         if len(self.run.left) == left:
             return []
-        return [f"this leaves {counted(self.run.left[-1].ahead, 'step')} that lay ahead; `other` lays them ahead again"]
+        return [discarded(self.run.left[-1].ahead)]
 
     def take_own(self, actor: Actor, count: int) -> bool:
         """Makes up to so many steps of one actor, and says whether it had as many."""
@@ -77,7 +82,7 @@ class Going(Session):
         state, start = self.run.state(), self.run.place
         number = state.choice(step)
         if number is None:
-            raise Wrong(f"the step `{step}` isn't allowed now: `actors` tells those that are")
+            raise Wrong(f"step `{step}` is not possible now: `actors` lists the steps that are")
         left = len(self.run.left)
         self.run.take(*self.run.make([number]))
         return [*self.told_left(left), *self.told_move(start, None, False)]
@@ -88,35 +93,34 @@ class Going(Session):
         if state.end == "Budget":
             return ENDS["Budget"]
         if number is None:
-            return "the host makes no step" + (": " + next(self.words.host(state)).strip() if state.host[1] else ": the machine file has no action of it")
+            return f"no possible step of the host: {next(self.words.host(state)).strip()}" if state.host[1] else "no possible step of the host: the machine file has no host actions"
         if kind == "m":
-            return f"the flow controller of processor {number} has no step that is allowed: `queue {number}` tells what is outstanding"
+            return f"no possible step of the MFC of SPU {number}: `queue {number}` lists its outstanding commands"
         spe = state.spes[number]
-        return f"{self.words.stands(spe)}: {self.words.remark(spe, state) or 'it makes no further step'}"
+        return f"{self.words.stands(spe)}: {self.words.remark(spe, state) or 'it makes no more steps'}"
 
     def do_next(self, words: Sequence[str]) -> List[str]:
         if words:
-            raise Wrong("`next` stands alone: it goes to the next instruction of the processor that is looked at")
+            raise Wrong("`next` takes no arguments: it goes to the next instruction of the current SPU")
         spe = self.run.state().spes[self.spe]
         if not spe.runs:
-            return [f"{self.words.stands(spe)}: it makes no further step; `spe P` looks at another"]
+            return [f"{self.words.stands(spe)}: it makes no more steps; `spe N` selects another SPU"]
         behind = Behind(self.spe, spe.pc, sets_link(spe.word or 0))
         return self.went([behind, *self.stops.values()], MOST_STEPS)
 
     def do_finish(self, words: Sequence[str]) -> List[str]:
         if words:
-            raise Wrong("`finish` stands alone: it goes to where the processor that is looked at is back from the routine that it is in")
+            raise Wrong("`finish` takes no arguments: it runs until the current SPU returns from its routine")
         call = open_call(self.run, self.sites, self.spe)
         if call is None:
-            raise Wrong(f"processor {self.spe} is in no routine that a brsl, brasl or bisl of this run called: `run` goes on")
+            raise Wrong(f"SPU {self.spe} is not in a routine that this run called with brsl, brasl or bisl: use `run`")
         return self.went([Behind(self.spe, call, True), *self.stops.values()], MOST_STEPS)
 
     def do_run(self, words: Sequence[str]) -> List[str]:
         words, condition = self.grammar.conditional(words, self.spe)
         actors, places = self.actors_and_places(words)
         if len(places) > 1 or "until" in words and not places or condition and not places:
-            raise Wrong("type `run`, `run PLACE`, or `run x1 m1 until PLACE` for steps of these actors alone; a place is a label, FILE:LINE, an address"
-                        " or a channel")
+            raise Wrong("usage: run, run PLACE, or run x1 m1 until PLACE for steps of these actors only; PLACE is a label, FILE:LINE, an address or a channel")
         once = [self.stop_at(places[0], range(self.run.spes), condition)] if places else []
         return self.went([*self.stops.values(), *once], MOST_STEPS, actors)
 
@@ -136,7 +140,7 @@ class Going(Session):
         found = [(word, actor_of_word(word, self.run.spes)) for word in words]
         for word, actor in found:
             if actor is None:
-                raise Wrong(f"`{word}` is no actor: type x0 (processor 0), m0 (its MFC) or h (the host)")
+                raise Wrong(f"`{word}` is not an actor: type x0 (SPU 0), m0 (its MFC) or h (the host)")
         return [actor for _, actor in found if actor]
 
     def went(self, whats: Sequence[What], most: int, actors: Sequence[Actor] = ()) -> List[str]:
@@ -159,8 +163,8 @@ class Going(Session):
         if not state.may or may_step(state, actors or self.not_held()):
             return []
         if actors:
-            return [f"no step of {names_of(actors)} is allowed now: `actors` lists those that may step"]
-        return [f"all that may step are held, {names_of(may_step(state, self.held))}: `release` lets them step"]
+            return [f"no possible step of {names_of(actors)} now: `actors` lists the actors that have one"]
+        return [f"every actor that has a possible step is held ({names_of(may_step(state, self.held))}): `release` frees them"]
 
     def advance(self, whats: Sequence[What], most: int) -> Tuple[Optional[Stop], bool]:
         """Makes up to so many steps, until one of these stops it: those that lie ahead, or else all actors take turns. Answers the stop, and whether it came
@@ -226,7 +230,7 @@ class Going(Session):
         if stop:
             lines += self.told_stop(stop)
         if is_at_end and state.may:
-            lines.append("these were the steps that lay ahead: from here on the actors take turns")
+            lines.append("end of the recorded steps: from here on the actors take turns")
         if not state.may:
             lines.append(ENDS[state.end])
         return [*lines, *self.told_place(state)]
@@ -253,15 +257,15 @@ class Going(Session):
     def do_hold(self, words: Sequence[str]) -> List[str]:
         """Holds actors, or lists those that are held."""
         self.held += [actor for actor in self.actors_in(words) if actor not in self.held]
-        return [f"held: {names_of(self.held)} (no step while the others take turns)" if self.held else "no actor is held: `hold x1` holds one"]
+        return [f"held: {names_of(self.held)} (no steps while the others take turns)" if self.held else "no actors are held: `hold x1` holds one"]
 
     def do_release(self, words: Sequence[str]) -> List[str]:
         if not words:
-            raise Wrong("type `release` and actors that are held, or `release all`")
+            raise Wrong("usage: release ACTOR.. or release all; `hold` lists the held actors")
         released = list(self.held) if list(words) == ["all"] else self.actors_in(words)
         for actor in released:
             if actor not in self.held:
-                raise Wrong(f"{name_of(actor)} isn't held: `hold` lists those that are")
+                raise Wrong(f"{name_of(actor)} is not held: `hold` lists the held actors")
         self.held = [actor for actor in self.held if actor not in released]
         return self.do_hold([])
 
@@ -271,7 +275,7 @@ class Going(Session):
         if words[:1] == ["to"]:
             place = number_of(words[1]) if len(words) == 2 else None
             if place is None or place > self.run.place:
-                raise Wrong(f"type `back to` and a number of steps, from 0 to {self.run.place}")
+                raise Wrong(f"usage: back to N, with N from 0 to {self.run.place}")
         else:
             place = max(0, self.run.place - count_of(words))
         self.run.place = place
@@ -282,24 +286,24 @@ class Going(Session):
 
     def do_reverse(self, words: Sequence[str]) -> List[str]:
         if words:
-            raise Wrong("`reverse` stands alone: it goes back to where a break or a watch holds")
+            raise Wrong("`reverse` takes no arguments: it goes back to the last hit of a breakpoint or watchpoint")
         if not self.stops:
-            raise Wrong("nothing stops a run: `break PLACE` and `watch THING` do, and `reverse` goes back to where one of them does")
+            raise Wrong("no breakpoints or watchpoints: set one with `break PLACE` or `watch THING`, and `reverse` goes back to its last hit")
         found = (stop for stop in reversed(found_stops(self.stops.values(), self.run, 0, self.run.place)) if stop.behind < self.run.place)
         stop = stop_among(found, self.run, self.spe)
         if stop is None:
-            return ["before this step nothing stops the run", *self.told_back()]
+            return ["no breakpoint or watchpoint is hit before this step", *self.told_back()]
         self.run.place = stop.behind
         step = list(self.words.step(stop.behind - 1)) if isinstance(stop.what, Watch) else []
         return [*step, *self.told_stop(stop), *self.told_back()]
 
     def do_last(self, words: Sequence[str]) -> List[str]:
         if not words:
-            raise Wrong(f"type `last` and what was done: a range, a register, {', '.join(KINDS)}; `help last` has more")
+            raise Wrong(f"usage: last THING; THING is a range, a register or one of {', '.join(KINDS)} (see `help last`)")
         thing = self.things.thing(words, self.spe)
         place = last_before(thing, self.run.place)
         if place is None:
-            return [f"no step before step {self.run.place} {thing.deed}: this stays there"]
+            return [f"no step before step {self.run.place} {thing.deed}: the session stays where it is"]
         self.run.place = place
         spe = self.run.trace.steps[place].spe
         self.spe = self.spe if spe is None else spe
@@ -307,23 +311,24 @@ class Going(Session):
 
     def do_cut(self, words: Sequence[str]) -> List[str]:
         if words or not self.run.ahead:
-            raise Wrong("no steps lie ahead: `cut` leaves those that `back` went back over, or the rest of a record" if not words else "`cut` stands alone")
+            raise Wrong("`cut` takes no arguments" if words else "there are no recorded steps ahead: `cut` has nothing to discard")
+        ahead = self.run.ahead
         self.run.cut()
-        return ["no steps lie ahead any more: from here on the actors take turns; `other` lays them ahead again"]
+        return [f"{discarded(ahead)}: from here on the actors take turns"]
 
     def do_other(self, words: Sequence[str]) -> List[str]:
         many = len(self.run.left)
         if not many:
-            raise Wrong("no steps were left for others: `other` lays those ahead again")
+            raise Wrong("no recorded steps were discarded: `other` has nothing to restore")
         number = many if not words else number_of(words[0]) if len(words) == 1 else None
         if not number or number > many:
-            raise Wrong(f"type `other`, or `other` and a number from 1 to {many}: `left` tells what was left")
+            raise Wrong(f"usage: other, or other N with N from 1 to {many}; `left` lists the discarded steps")
         self.run.take_way(number - 1)
         return self.told_back()
 
     def do_left(self, words: Sequence[str]) -> List[str]:
         if words:
-            raise Wrong("`left` stands alone: it tells the steps that were left for others")
-        told = [f"{number}: left after {counted(way.place, 'step')}, with {counted(way.ahead, 'step')} ahead, the next `{way.next_head}`"
+            raise Wrong("`left` takes no arguments: it lists the discarded steps")
+        told = [f"{number}: {counted(way.ahead, 'step')} discarded after {counted(way.place, 'step')}, the first `{way.next_head}`"
                 for number, way in enumerate(self.run.left, 1)]
-        return told or ["no steps were left for others"]
+        return told or ["no recorded steps were discarded"]

@@ -18,7 +18,7 @@ WIDTHS = {"bytes": 1, "halfwords": 2, "words": 4, "doublewords": 8, "quadwords":
 VALUE_BYTES = (1, 2, 4, 8, 16)
 COMPARED: Dict[str, Callable[[int, int], bool]] = {"==": operator.eq, "!=": operator.ne, "<": operator.lt, "<=": operator.le, ">": operator.gt,
                                                   ">=": operator.ge}
-OF_CONDITIONS = "type VALUE, one of == != < <= > >=, and VALUE, and `and` between two such: `help watch` says what a value is"
+OF_CONDITIONS = "type VALUE, one of == != < <= > >=, and VALUE; join several with `and` (see `help watch`)"
 
 
 class Value:
@@ -69,7 +69,7 @@ class Bytes(Value):
     @property
     def addressed(self) -> str:
         """What there is to say of an address that a register had."""
-        return "" if self.register is None else f", at 0x{self.span.at:x}, which ${self.register} holds now"
+        return "" if self.register is None else f" (at 0x{self.span.at:x}, the present value of ${self.register})"
 
 
 @dataclasses.dataclass(frozen=True)
@@ -132,16 +132,16 @@ class Grammar:
     def bytes_at(self, spe: Optional[int], words: Sequence[str], size: int, looked_at: int) -> Bytes:
         """The bytes that an address and perhaps a size name, of a place with so many bytes."""
         if not words:
-            raise Wrong("no range is named: type an address, a label or a register, and how many bytes; `help x` has more")
+            raise Wrong("missing range: type an address, a label or a register, and a number of bytes (see `help x`)")
         owner = looked_at if spe is None else spe
         at = self.address(words[0], owner)
         if at is None:
-            raise Wrong(f"`{words[0]}` is no address, no label of processor {owner} and no register: `help x` says what a range is")
+            raise Wrong(f"`{words[0]}` is not an address, a label of SPU {owner} or a register (see `help x`)")
         many = self.places.size_of(words[0], owner) if len(words) == 1 else number_of(words[1]) if len(words) == 2 else None
         if not many or many > MOST:
-            raise Wrong(f"`{' '.join(words[1:])}` is no number of bytes: type one from 1 to {MOST}")
+            raise Wrong(f"`{' '.join(words[1:])}` is not a number of bytes: type 1 to {MOST}")
         if at + many > size:
-            raise Wrong(f"0x{at:x} and {counted(many, 'byte')} are beyond the end, 0x{size:x}: type a lower address or fewer bytes")
+            raise Wrong(f"the range of {counted(many, 'byte')} at 0x{at:x} goes beyond the end, 0x{size:x}: type a lower address or fewer bytes")
         return Bytes(Span(spe, at, many), register_of(words[0]))
 
     def address(self, word: str, spe: int) -> Optional[int]:
@@ -194,7 +194,7 @@ class Grammar:
                 return Number(-number if rest[0].startswith("-") else number)
         found = self.bytes([*words, str(WORD)] if len(words) == self.least(words) else words, looked_at)
         if found.span.size not in VALUE_BYTES:
-            raise Wrong(f"{counted(found.span.size, 'byte')} are no number: type 1, 2, 4, 8 or 16 behind the address")
+            raise Wrong(f"a range of {counted(found.span.size, 'byte')} is not a number: type 1, 2, 4, 8 or 16 after the address")
         return found
 
     def condition(self, words: Sequence[str], looked_at: int) -> Condition:
@@ -205,7 +205,7 @@ class Grammar:
     def comparison(self, tokens: Sequence[str], looked_at: int) -> Comparison:
         signs = [k for k, token in enumerate(tokens) if token in COMPARED]
         if len(signs) != 1 or not 0 < signs[0] < len(tokens) - 1:
-            raise Wrong((f"`{' '.join(tokens)}` is no comparison: " if tokens else "a comparison is missing: ") + OF_CONDITIONS)
+            raise Wrong((f"`{' '.join(tokens)}` is not a comparison: " if tokens else "missing comparison: ") + OF_CONDITIONS)
         at = signs[0]
         return Comparison(self.value(tokens[:at], looked_at), tokens[at], self.value(tokens[at + 1:], looked_at))
 
@@ -235,5 +235,5 @@ def with_width(words: Sequence[str]) -> Tuple[List[str], Optional[int]]:
     at = list(words).index("as")
     width = WIDTHS.get(words[at + 1]) if len(words) == at + 2 else None
     if width is None:
-        raise Wrong(f"type `as` last, and behind it one of {', '.join(WIDTHS)}")
+        raise Wrong(f"usage: .. as WIDTH, at the end; WIDTH is one of {', '.join(WIDTHS)}")
     return list(words[:at]), width

@@ -1,73 +1,73 @@
-"""What a debugger says of its commands."""
+"""The help of a debugger's commands."""
 from typing import List, Sequence
 
 WRITES = """
-        A file that is there is written over only with `over`, and only where it holds what the command writes or nothing;
-        the record that the session is from stays as it is."""
+        An existing file is overwritten only with `over`, and only if it is empty or of the same kind;
+        the record of the session is never overwritten."""
 # Of each command how it is typed, what it does, and more of it.
 COMMANDS = {
     "step": ("step [ACTOR] [N]", "makes N steps, or one", """
-        Without an actor these are the steps that lie ahead, and if none do, the actors take turns, as in `cell debug`'s `until`.
-        ACTOR is x0 (processor 0), m0 (its flow controller) or h (the host): then it alone steps, as long as it may.
+        Without an actor, these are the recorded steps ahead; if there are none, the actors take turns, as in `cell debug`'s `until`.
+        ACTOR is x0 (SPU 0), m0 (its MFC) or h (the host): only this actor steps then, as long as it can.
         `step p 0 1 0 2`, with a line that `actors` prints, makes this one step."""),
-    "next": ("next", "goes to the next instruction of the processor that is looked at, over calls", """
-        The others take turns meanwhile. After a brsl, brasl or bisl it stops when the routine has come back."""),
-    "finish": ("finish", "goes on until the processor that is looked at is back from the routine that it is in", """
-        That is after the brsl, brasl or bisl that called it last, of those that haven't come back; it doesn't stop in calls of the routine by itself.
-        A routine that was entered by another branch isn't known."""),
-    "run": ("run [ACTOR..] [PLACE [if CONDITION]]", "goes on to a break, a watch, the end of what lies ahead, or the end of the run", """
-        With a place it stops also when a processor comes there. With actors, as in `run x1 m1 until again`, these alone take turns, as long as one of them
-        may step; what lies ahead is left at the first step of another."""),
-    "hold": ("hold [ACTOR..]", "holds actors: they make no step while the others take turns; alone it lists them", """
-        `step`, `next`, `finish` and `run` then go on without them, and leave what lies ahead at their first step.
+    "next": ("next", "goes to the next instruction of the current SPU, over calls", """
+        Meanwhile the other actors take turns. After a brsl, brasl or bisl it stops when the routine has returned."""),
+    "finish": ("finish", "runs until the current SPU returns from its routine", """
+        This is the return from the latest open brsl, brasl or bisl; recursive calls of the routine are run over.
+        Routines that were entered by other branches are not tracked."""),
+    "run": ("run [ACTOR..] [PLACE [if CONDITION]]", "runs to a breakpoint, a watchpoint, the end of the recorded steps or the end of the run", """
+        With a place, it also stops when an SPU reaches it. With actors, as in `run x1 m1 until again`, only these take turns, as long as one of them
+        can step; recorded steps ahead are discarded at the first step of another actor."""),
+    "hold": ("hold [ACTOR..]", "holds actors: they make no steps while the others take turns; without actors, lists them", """
+        `step`, `next`, `finish` and `run` then go on without them, and discard the recorded steps ahead at the first step of a held actor.
         `step x1` and `run x1` still make their steps."""),
-    "release": ("release ACTOR.., release all", "lets actors that are held take turns again", ""),
-    "back": ("back [N], back to STEP", "goes back N steps, or one, or to where so many had been made", """
-        The steps gone back over lie ahead then: `step`, `next` and `run` make them again, until another step than the next of them is made."""),
-    "reverse": ("reverse", "goes back to the last step before this one at which a break or a watch holds", """
-        A break holds where a processor has come to its place, and a watch behind a step that does something to it."""),
-    "last": ("last THING", "goes back to the step that last did something to a thing, so that it is the next one", """
-        THING is what `watch` takes: so `last mem 0x80 4` goes to the step that last wrote one of these bytes, and `last $5` to the instruction that last wrote
-        the register. Typed again it goes to the one before. Where no step before this one did, it says so and stays."""),
-    "cut": ("cut", "leaves the steps that lie ahead: from there on the actors take turns", """
-        A step of another actor than the next one ahead does the same. `other` lays them ahead again."""),
-    "other": ("other [N]", "goes back to where steps were last left for others, and lays those ahead again", """
-        Typed twice it comes back to the others: so two ways of going on can be held against one another.
-        All steps that were left are kept: `left` lists them, and its number brings those back."""),
-    "left": ("left", "lists all steps that were left for others, the first first", ""),
-    "break": ("break [xP] PLACE [if CONDITION]", "stops a run when a processor comes to a place (a breakpoint); alone it lists what stops a run", """
-        PLACE is a label (again, again+8), FILE:LINE or an address of the store, with 0x. It is that of each processor that has it, or of processor P alone.
-        A line that placed nothing stands for the next one that did.
-        A channel by its name or number ($ch29, SPU_RdInMbox, 29) is each instruction that reads, counts or writes it.
-        `help watch` says what a condition is."""),
-    "tbreak": ("tbreak [xP] PLACE [if CONDITION]", "does what `break` does, once: it is deleted when it stops a run", ""),
-    "watch": ("watch THING [if CONDITION]", "stops a run after a step that does something to a thing (a watchpoint)", """
-        THING is a range (`help x`) or a register ([xP] $5) that is written; or what happens, at any processor or with xP in front at one:
-        mailbox [in|out|intr], signal [1|2] (a value is put, delivered or taken), event [BITS] (raised or acknowledged),
+    "release": ("release ACTOR.., release all", "lets held actors take turns again", ""),
+    "back": ("back [N], back to N", "goes back N steps, or one; or to the state after N steps", """
+        The steps in between become recorded steps ahead: `step`, `next` and `run` make them again, until a different step is made."""),
+    "reverse": ("reverse", "goes back to the last hit of a breakpoint or watchpoint", """
+        A breakpoint is hit when an SPU reaches its place, a watchpoint after a step that affects its thing."""),
+    "last": ("last THING", "goes back to the last step that affected a thing, so that it is the next step", """
+        THING is that of `watch`: `last mem 0x80 4` goes to the step that last wrote one of these bytes, and `last $5` to the instruction that last wrote
+        the register. Repeat it to go further back. If no earlier step did, the session stays where it is."""),
+    "cut": ("cut", "discards the recorded steps ahead: from here on the actors take turns", """
+        A step of another actor than the next recorded one does the same. `other` restores the discarded steps."""),
+    "other": ("other [N]", "goes back to the place where recorded steps were last discarded, and restores them", """
+        Typed twice, it returns to the steps that were made instead, so that two continuations can be compared.
+        All discarded steps are kept: `left` lists them, and `other N` restores those with number N."""),
+    "left": ("left", "lists the discarded steps, the earliest first", ""),
+    "break": ("break [xP] PLACE [if CONDITION]", "sets a breakpoint: stops when an SPU reaches a place; without arguments, lists breakpoints and watchpoints", """
+        PLACE is a label (again, again+8), FILE:LINE or a local store address with 0x. It applies to every SPU that has it, or only to SPU P.
+        A line without code stands for the next line that has some.
+        A channel, by name or number ($ch29, SPU_RdInMbox, 29), means every instruction that reads, counts or writes it.
+        `help watch` defines CONDITION."""),
+    "tbreak": ("tbreak [xP] PLACE [if CONDITION]", "sets a breakpoint that is deleted after its first hit", ""),
+    "watch": ("watch THING [if CONDITION]", "sets a watchpoint: stops after a step that affects a thing", """
+        THING is a range (`help x`) or a register ([xP] $5) that is written; or one of these, at any SPU or, with xP in front, at one:
+        mailbox [in|out|intr], signal [1|2] (a value is written, delivered or read), event [BITS] (raised or acknowledged),
         stall [TAG] (a list stalls, the status is read, it is acknowledged), reservation [A] (of a line: begun or ended),
-        lost (a PUTLLC that isn't stored), tag [TAG] (a tag status is asked for, fixed or taken), atomic [A] (an atomic command of a line is issued or done,
-        or its status is taken), fault, halt. A label of such a name goes before.
-        CONDITION is VALUE == VALUE, or != < <= > >=, and more of them behind `and`. VALUE is a number, $5 (its word 0), $5.2 (its word 2), pc,
-        or a range of 1, 2, 4, 8 or 16 bytes, or 4 where no size is said. A register without xP is one of the processor that comes there or makes the step.
-        Numbers are unsigned, but where one of the two is written with a minus."""),
+        lost (a PUTLLC that fails), tag [TAG] (a tag status is requested, available or read), atomic [A] (an atomic command of a line is issued or
+        completes, or its status is read), fault, halt. A label with such a name takes precedence.
+        CONDITION is VALUE == VALUE, or != < <= > >=; join several with `and`. VALUE is a number, $5 (its word 0), $5.2 (its word 2), pc,
+        or a range of 1, 2, 4, 8 or 16 bytes, 4 by default. A register without xP is one of the SPU that reaches the place or makes the step.
+        Comparisons are unsigned, unless a number has a minus sign."""),
     "delete": ("delete N, delete all", "deletes a breakpoint or a watchpoint", ""),
-    "where": ("where", "prints where all processors are, what they wait for, what ended them, and how far the host has come", ""),
-    "actors": ("actors", "lists who may step now, and how, and who is held", ""),
-    "spe": ("spe [P]", "looks at processor P: `print`, `x`, `next`, `list`, `dis`, `queue`, `tags` and `signals` are of it", """
-        A processor that steps by its name or that stops a run is looked at, too, and where the one that is looked at has stopped, the one that steps."""),
-    "print": ("print [VALUE..] [as WIDTH]", "prints registers, the PC, bytes of labels and ranges, or all registers that aren't zero", """
+    "where": ("where", "prints where each SPU is, what it waits for or why it stopped, and the progress of the host", ""),
+    "actors": ("actors", "lists the possible next steps by actor, and the held actors", ""),
+    "spe": ("spe [P]", "selects SPU P as the current one, for `print`, `x`, `next`, `list`, `dis`, `queue`, `tags` and `signals`", """
+        An SPU also becomes the current one when it is stepped by name or stops a run; if the current SPU has stopped, the SPU that steps becomes it."""),
+    "print": ("print [VALUE..] [as WIDTH]", "prints registers, the PC, bytes of labels and ranges, or all nonzero registers", """
         VALUE is [xP] $5, [xP] $5.2 (its word 2), [xP] pc, LABEL or RANGE (`help x`). WIDTH is bytes, halfwords, words, doublewords or quadwords."""),
-    "display": ("display [VALUE..] [as WIDTH]", "prints what `print` would, now and at each stop; alone it lists what is shown so", ""),
-    "undisplay": ("undisplay N, undisplay all", "shows it no longer at each stop", ""),
+    "display": ("display [VALUE..] [as WIDTH]", "prints values now and at each stop, as `print` does; without arguments, lists them", ""),
+    "undisplay": ("undisplay N, undisplay all", "deletes a display", ""),
     "x": ("x RANGE [as WIDTH]", "prints the bytes of a range", """
-        RANGE is [xP] A [N] in a store (or ls P A N), or mem A [N] in main memory. A is an address, a label, or a register whose word 0 is meant,
-        and N how many bytes; without it they are those of the label, or 16. WIDTH is that of `print`."""),
-    "queue": ("queue [P]", "lists the outstanding commands of an MFC (flow controller)", ""),
-    "tags": ("tags [P]", "prints an MFC's parameters, tag groups, statuses, slot, reservation and mailboxes", ""),
-    "signals": ("signals [P]", "prints a processor's signal registers with their modes (OR or overwrite), its event mask and its pending events", ""),
+        RANGE is [xP] A [N] in a local store (or ls P A N), or mem A [N] in main memory. A is an address, a label, or a register whose word 0 is the
+        address; N is the number of bytes, by default those of the label, or 16. WIDTH is that of `print`."""),
+    "queue": ("queue [P]", "lists the outstanding commands of an MFC", ""),
+    "tags": ("tags [P]", "prints an MFC's parameters, tag groups, statuses, atomic command, reservation and mailboxes", ""),
+    "signals": ("signals [P]", "prints an SPU's signal registers with their modes (OR or overwrite), its event mask and its pending events", ""),
     "list": ("list [PLACE]", "prints the source around a place, or around the PC", """
-        > marks the line of the PC, and * a break. Where no source placed the instruction it prints what `dis` does."""),
-    "dis": ("dis [PLACE [N]]", "prints N words of the store, or 8, as instructions", ""),
+        > marks the line of the PC, and * a breakpoint. For an instruction without a source line it prints the output of `dis`."""),
+    "dis": ("dis [PLACE [N]]", "disassembles N words of the local store, or 8", ""),
     "record": ("record [FILE [over]]", "prints the steps made so far as a record, or writes them to a file, for `cell check`", WRITES),
     "picture": ("picture FILE [over]", "draws the steps made so far as a page for a browser, as tools/picture does", WRITES),
     "help": ("help [COMMAND]", "lists the commands, or explains one", ""),
@@ -77,11 +77,11 @@ SHORT = {"b": "break", "h": "help", "l": "list", "n": "next", "p": "print", "q":
 
 
 def help_lines(names: Sequence[str]) -> List[str]:
-    """What is said of these commands, or of all."""
+    """The help of these commands, or a list of all."""
     if names:
         usage, words, more = COMMANDS[names[0]]
         return [f"{usage}: {words}.", *(line.strip() for line in more.splitlines() if line.strip())]
     width = max(len(usage) for usage, _, _ in COMMANDS.values())
     short = ", ".join(f"{letter} {name}" for letter, name in SHORT.items())
-    return [*(f"{usage:{width}}  {words}" for usage, words, _ in COMMANDS.values()), f"short: {short}; and each command by how it begins",
-            "a word that begins with # begins a comment, up to the end of the line"]
+    return [*(f"{usage:{width}}  {words}" for usage, words, _ in COMMANDS.values()), f"short forms: {short}; any unambiguous prefix of a command works too",
+            "# at the beginning of a word starts a comment"]

@@ -31,7 +31,7 @@ class Looking(Session):
 
     def do_spe(self, words: Sequence[str]) -> List[str]:
         if len(words) > 1:
-            raise Wrong("type `spe` and the number of a processor")
+            raise Wrong("usage: spe N, with the number of an SPU")
         if words:
             self.spe = processor_of(words[0], self.run.spes)
         return self.told_place(self.run.state())
@@ -46,7 +46,7 @@ class Looking(Session):
         """A register or a word of it, the PC, a label's bytes or a range."""
         owner, rest = self.grammar.owned(words)
         spe = self.run.state().spes[self.spe if owner is None else owner]
-        whose = "" if owner is None else f" of processor {owner}"
+        whose = "" if owner is None else f" of SPU {owner}"
         register = self.grammar.register(rest[0], spe.number) if len(rest) == 1 else None
         if register:
             return [f"{register.name}{whose} = {shown_register(register.read(self.run, self.run.place, spe.number), register.part, width)}"]
@@ -56,15 +56,15 @@ class Looking(Session):
             return self.told_range(words, width)
         label = self.places.label(words[0], self.spe)
         if not label:
-            raise Wrong(f"`{words[0]}` is no label of processor {self.spe}, no register ($0 to $127) and not `pc`: `x` prints the bytes at an address")
+            raise Wrong(f"`{words[0]}` is not a label of SPU {self.spe}, a register ($0 to $127) or `pc`: `x` prints the bytes at an address")
         return self.told_label(words[0], *label, width)
 
     def told_label(self, name: str, at: int, size: int, width: Optional[int]) -> List[str]:
         """The bytes of a label, or the first of many."""
         if at >= STORE:
-            return [f"`{name}` is 0x{at:x}, the end of the store: no byte stands there"]
+            return [f"`{name}` is 0x{at:x}, the end of the local store: there are no bytes to print"]
         span = Span(self.spe, at, min(size or PLAIN_SIZE, MOST_PRINTED, STORE - at))
-        return [*self.dump(span, width), *([f"and more, {size} in all: `x {name}` prints them"] if size > MOST_PRINTED else [])]
+        return [*self.dump(span, width), *([f"(the first {MOST_PRINTED} of {size} bytes: `x {name}` prints them all)"] if size > MOST_PRINTED else [])]
 
     def told_registers(self, spe: Spe, width: Optional[int]) -> List[str]:
         """All registers of a processor that aren't zero."""
@@ -85,7 +85,7 @@ class Looking(Session):
     def do_display(self, words: Sequence[str]) -> List[str]:
         things, width = with_width(words)
         if not things:
-            return self.told_displays() or ["nothing is shown at each stop: `display` and what `print` takes do that"]
+            return self.told_displays() or ["no displays: add one with `display VALUE`"]
         parts = self.grammar.split(things)
         told = [self.told_value(part, width) for part in parts]  # what is wrong is said now
         for part in parts:
@@ -107,11 +107,11 @@ class Looking(Session):
     def do_undisplay(self, words: Sequence[str]) -> List[str]:
         if words == ["all"]:
             self.displays.clear()
-            return ["nothing is shown at each stop any more"]
+            return ["all displays deleted"]
         number = number_of(words[0]) if len(words) == 1 else None
         if number is None or number not in self.displays:
-            raise Wrong("type `undisplay` and the number of what is shown, or `undisplay all`: `display` alone lists them")
-        return [f"{number}: `{' '.join(self.displays.pop(number)[0])}` isn't shown any more"]
+            raise Wrong("usage: undisplay N, or undisplay all; `display` lists the numbers")
+        return [f"deleted display {number}: {' '.join(self.displays.pop(number)[0])}"]
 
     # ---- flow controllers
 
@@ -127,14 +127,14 @@ class Looking(Session):
     def spe_in(self, words: Sequence[str]) -> int:
         """The processor that words name, or else the one that is looked at."""
         if len(words) > 1:
-            raise Wrong("type the number of one processor, or nothing for the one that is looked at")
+            raise Wrong("type the number of one SPU, or none for the current SPU")
         return processor_of(words[0], self.run.spes) if words else self.spe
 
     # ---- programs
 
     def do_list(self, words: Sequence[str]) -> Iterable[str]:
         if len(words) > 1:
-            raise Wrong("type `list`, or `list` and one place: a label, FILE:LINE or an address")
+            raise Wrong("usage: list, or list PLACE; PLACE is a label, FILE:LINE or an address")
         spe = self.run.state().spes[self.spe]
         at = self.places.addresses(words[0], [self.spe])[self.spe] if words else spe.pc
         if not words and spe.status.startswith(("stopped", "halted")):
@@ -163,7 +163,7 @@ class Looking(Session):
     def do_dis(self, words: Sequence[str]) -> List[str]:
         count = number_of(words[1]) if len(words) == 2 else WORDS
         if len(words) > 2 or not count or count > MOST_WORDS:
-            raise Wrong(f"type `dis`, a place, and how many words, up to {MOST_WORDS}")
+            raise Wrong(f"usage: dis PLACE N, with N up to {MOST_WORDS} words")
         at = self.places.addresses(words[0], [self.spe])[self.spe] if words else self.run.state().spes[self.spe].pc
         return self.dis(at, count)
 
@@ -187,6 +187,6 @@ def shown_register(data: bytes, part: Optional[int], width: Optional[int]) -> st
         where = "" if part is not None else "word 0: "
         return f"{grouped(data, 4)} ({where}{told_number(int.from_bytes(data[:4], 'big'))})"
     if width > len(data):
-        raise Wrong(f"a word of a register has {counted(len(data), 'byte')}: type `as` and a width that isn't greater")
+        raise Wrong(f"a word of a register has {counted(len(data), 'byte')}: type a smaller width after `as`")
     numbers = [int.from_bytes(data[k:k + width], "big", signed=True) for k in range(0, len(data), width)]
     return f"{grouped(data, width)} (signed: {' '.join(map(str, numbers))})"

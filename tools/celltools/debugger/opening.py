@@ -10,7 +10,7 @@ from celltools.telling.faults import HALTED, has_fault
 from celltools.telling.words import counted
 
 STUCK, BUDGET = "Stuck", "Budget"
-ENDS = {STUCK: "where the run is stuck", BUDGET: "where its budget is spent"}
+ENDS = {STUCK: "deadlock (Stuck)", BUDGET: "budget spent (Budget)"}
 TO_THE_END = "`run` goes to the end"
 
 
@@ -37,7 +37,7 @@ def place_in(run: Run, word: str) -> int:
     """The number of steps of a record after which a session begins."""
     place = number_of(word, run.ahead)
     if place is None:
-        raise Refused(f"`{word}` is no number of steps of this record: it has {run.ahead}")
+        raise Refused(f"`{word}` is not a number of steps of this record: give 0 to {run.ahead}")
     return place
 
 
@@ -49,22 +49,22 @@ def chosen(run: Run, record: Path) -> Tuple[int, Optional[int], str]:
     if last and (state.end == STUCK or has_failed(state.spes[last.spe])):
         return last.place + 1, last.spe, at_last_step(state, last, end)
     if state.end in ENDS:
-        return end, last.spe if last else None, f"this begins at the end, {ENDS[state.end]}"
+        return end, last.spe if last else None, f"starting at the end: {ENDS[state.end]}"
     race = race_of(run, record)
     if race:
-        return race[1], None, f"this begins right before step {race[1]}, the second of the race {race[0]} {race[1]}: `back to {race[0]}` goes to the first"
-    return 0, None, "this begins at its start: it has no race, and no fault at its end"
+        return race[1], None, f"starting before step {race[1]}, the second step of race {race[0]} {race[1]} (`back to {race[0]}` goes to the first)"
+    return 0, None, "starting at the beginning: the run has no race and no fault"
 
 
 def at_last_step(state: State, last: Last, end: int) -> str:
     """What is said of a session that begins after the last step of a processor."""
     spe = state.spes[last.spe]
     if last.place + 1 == end:
-        return f"this begins at the end, {f'with processor {spe.number} {spe.status}' if has_failed(spe) else ENDS[STUCK]}"
-    step = f"after step {last.place}, the last of processor {spe.number}" if last.place >= 0 else f"at the start: processor {spe.number} made no step"
+        return f"starting at the end: {f'SPU {spe.number} {spe.status}' if has_failed(spe) else ENDS[STUCK]}"
+    step = f"after step {last.place}, the last step of SPU {spe.number}" if last.place >= 0 else f"at the beginning, since SPU {spe.number} made no step"
     if not has_failed(spe):
-        return f"the run is stuck at the end, and this begins {step}, which waits ({TO_THE_END})"
-    return f"this begins {step}, which {'halted' if spe.status == HALTED else f'has a fault, {spe.status}'} ({TO_THE_END})"
+        return f"deadlock at the end; starting {step}, which waits ({TO_THE_END})"
+    return f"starting {step}, which {'halted' if spe.status == HALTED else f'has a fault, {spe.status}'} ({TO_THE_END})"
 
 
 def has_failed(spe: Spe) -> bool:

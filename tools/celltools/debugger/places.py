@@ -28,7 +28,7 @@ def part_number(word: str) -> int:
     """The number that a part of a place spells; Wrong where it is none."""
     number = number_of(word)
     if number is None:
-        raise Wrong(f"`{word}` is no number: type a decimal one without a leading zero, or 0x and 1 to 8 digits")
+        raise Wrong(f"`{word}` is not a number: type decimal digits without a leading zero, or 0x and 1 to 8 hexadecimal digits")
     return number
 
 
@@ -38,7 +38,7 @@ def count_of(words: Sequence[str]) -> int:
         return 1
     count = number_of(words[0]) if len(words) == 1 else None
     if not count or count > MOST_STEPS:
-        raise Wrong(f"`{' '.join(words)}` is no number of steps: type a number from 1 to {MOST_STEPS}")
+        raise Wrong(f"`{' '.join(words)}` is not a number of steps: type 1 to {MOST_STEPS}")
     return count
 
 
@@ -62,7 +62,7 @@ def processor_of(word: str, spes: int) -> int:
     number = number_of(word.removeprefix("x"))
     if number is None or number >= spes:
         last = spes - 1
-        raise Wrong(f"`{word}` is no processor: " + (f"type a number from 0 to {last}" if last else "there is processor 0 alone"))
+        raise Wrong(f"`{word}` is not an SPU: " + (f"type a number from 0 to {last}" if last else "there is only SPU 0"))
     return number
 
 
@@ -123,9 +123,9 @@ class Places:
         all_of = {spe: self.address(word, spe) for spe in spes}
         found = {spe: at for spe, at in all_of.items() if at is not None and 0 <= at < STORE}
         if not found:
-            raise Wrong(f"`{word}` is no place of a program: type a label, FILE:LINE or an address of the store; `help break` has more")
+            raise Wrong(f"`{word}` is not a place: type a label, FILE:LINE or a local store address (see `help break`)")
         if any(at % 4 for at in found.values()):
-            raise Wrong(f"no instruction stands at `{word}`: its address is no multiple of 4")
+            raise Wrong(f"there is no instruction at `{word}`: its address is not a multiple of 4")
         return found
 
     def size_of(self, word: str, spe: int) -> int:

@@ -31,7 +31,7 @@ class Session:
         self.is_over = False
 
     def told_count(self) -> str:
-        return f"after {counted(self.run.place, 'step')}; {counted(self.run.ahead, 'step')} ahead"
+        return f"after {counted(self.run.place, 'step')}; {counted(self.run.ahead, 'recorded step')} ahead"
 
     def told_place(self, state: State) -> List[str]:
         """Where the run stands: the processor that is looked at, and at an end all."""
@@ -45,7 +45,7 @@ class Session:
         """What stops a run where one of these processors comes to a place, or to an instruction of a channel."""
         is_label = any(self.places.label(word, spe) for spe in spes)
         if word in KINDS and not is_label:
-            raise Wrong(f"`{word}` is what happens in a step: `watch {word}` stops a run behind it")
+            raise Wrong(f"`{word}` is not a place: `watch {word}` stops a run after it")
         channel = None if is_label else channel_of_place(word)
         if channel is None:
             return Break(word, self.places.addresses(word, spes), condition, is_once)
@@ -58,7 +58,7 @@ def channel_of_place(word: str) -> Optional[int]:
         return channel_named(word)
     number = number_of(word)
     if number not in NAMES:
-        raise Wrong(f"`{word}` is no channel: type one of {', '.join(map(str, NAMES))}, or an address with 0x in front")
+        raise Wrong(f"`{word}` is not a channel: type one of {', '.join(map(str, NAMES))}, or an address that begins with 0x")
     return number
 
 

@@ -65,7 +65,7 @@ def typed(debugger: "Debugger", read: Callable[[str], str] = input) -> Iterator[
             if is_warned or not debugger.run.is_unkept:
                 return
             is_warned = True
-            print("steps that no file has would be lost: `record FILE` keeps them; ctrl-C once more, or the end of input, ends the session")
+            print("unsaved steps would be lost: `record FILE` saves them; Ctrl-C again, or the end of input, ends the session")
             continue
         is_warned = False
         if line.strip():
@@ -86,7 +86,7 @@ def read_line() -> str:
     """The next line of standard input; Refused where it is no script."""
     line = sys.stdin.buffer.readline(MOST_SCRIPT_LINE + 1)
     if len(line) > MOST_SCRIPT_LINE:
-        raise Refused(f"standard input has a line of more than {MOST_SCRIPT_LINE} bytes: it is no script of commands")
+        raise Refused(f"standard input has a line of more than {MOST_SCRIPT_LINE} bytes, so it is not a script of commands")
     return decoded(line)
 
 
@@ -102,7 +102,7 @@ def answered(debugger: "Debugger", line: str) -> bool:
     except OSError as why:
         said = [fault_words(why)]
     except Exception as why:  # a fault of the debugger itself
-        said = [f"the debugger failed at this ({type(why).__name__}: {why}); the steps are kept, and `record FILE` writes them"]
+        said = [f"internal error ({type(why).__name__}: {why}); no steps are lost: `record FILE` saves them"]
     say(*said)
     sys.stdout.flush()
     return is_right
@@ -114,14 +114,14 @@ def talk(debugger: "Debugger", said: Iterable[str] = ()) -> int:
     status = 0
     say(*said)
     if is_terminal:
-        print("`help` tells the commands")
+        print("`help` lists the commands")
         answered(debugger, "where")
         prepare_terminal(debugger)
     for line in typed(debugger) if is_terminal else given(debugger):
         try:
             status |= not answered(debugger, line)
         except KeyboardInterrupt:
-            print(f"interrupted: {debugger.run.place} steps are made", flush=True)
+            print(f"interrupted after {debugger.run.place} steps", flush=True)
             if not is_terminal:
                 return 130
         if debugger.is_over:

@@ -20,7 +20,7 @@ SHOWN = 16  # bytes of a range that are shown
 KINDS = {kind.value: kind for kind in Kind}
 BOXES = ("in", "out", "intr")
 KEYS = {
-    Kind.MAILBOX: "in, out or intr", Kind.SIGNAL: "1 or 2", Kind.EVENT: "the bits of an event or its name, as 0x10 or MFC_IN_MBOX_AVAILABLE_EVENT",
+    Kind.MAILBOX: "in, out or intr", Kind.SIGNAL: "1 or 2", Kind.EVENT: "the bits of an event or its name, such as 0x10 or MFC_IN_MBOX_AVAILABLE_EVENT",
     Kind.STALL: "a tag, from 0 to 31", Kind.TAG: "a tag, from 0 to 31", Kind.RESERVATION: "the address of a line of main memory",
     Kind.ATOMIC: "the address of a line of main memory",
 }  # fmt: skip
@@ -62,18 +62,18 @@ class Range(Thing):
         return written is not None and written.spe == span.spe and written.at < span.at + span.size and span.at < written.at + written.size
 
     def told(self, run: Run, place: int) -> List[str]:
-        """The bytes that were written, before and behind."""
+        """The bytes that were written, before and after."""
         watched, written = self.bytes.span, self.trace.steps[place].writes
         if written is None:
             return []
         at = max(watched.at, written.at)
         span = Span(watched.spe, at, min(SHOWN, min(watched.at + watched.size, written.at + written.size) - at))
-        return [f"    {when} {line}" for when, behind in (("before", place), ("behind", place + 1))
+        return [f"    {when:6} {line}" for when, behind in (("before", place), ("after", place + 1))
                 for line in dump(span, run.bytes_of(span, behind), self.names)]
 
     @property
     def deed(self) -> str:
-        return f"writes into {self}"
+        return f"writes {self}"
 
 
 @dataclasses.dataclass
@@ -84,7 +84,7 @@ class Target(Thing):
     executed: Executed
 
     def __str__(self) -> str:
-        return f"${self.register.number} of processor {self.register.spe}, its value"
+        return f"${self.register.number} of SPU {self.register.spe}"
 
     def does(self, place: int) -> bool:
         fetched = self.executed.fetched(place)
@@ -92,12 +92,12 @@ class Target(Thing):
                 and target_of(self.executed.word(place)) == self.register.number)
 
     def told(self, run: Run, place: int) -> List[str]:
-        return [f"    {when} ${self.register.number} = {quad(run.state(behind).spes[self.register.spe or 0].register(self.register.number))}"
-                for when, behind in (("before", place), ("behind", place + 1))]
+        return [f"    {when:6} ${self.register.number} = {quad(run.state(behind).spes[self.register.spe or 0].register(self.register.number))}"
+                for when, behind in (("before", place), ("after", place + 1))]
 
     @property
     def deed(self) -> str:
-        return f"writes ${self.register.number} of processor {self.register.spe}"
+        return f"writes {self}"
 
 
 @dataclasses.dataclass
@@ -130,7 +130,7 @@ class Matter(Thing):
 
     @property
     def deed(self) -> str:
-        return f"has to do with `{self.text}`"
+        return f"involves `{self.text}`"
 
 
 class Things:
@@ -151,7 +151,7 @@ class Things:
         if register:
             return Target(" ".join(words), register, self.executed)
         if rest and rest[0] not in ("mem", "ls") and self.grammar.address(rest[0], owner) is None:
-            raise Wrong(f"`{rest[0]}` is no address, label or register of processor {owner}, and none of {', '.join(KINDS)}: `help watch` has more")
+            raise Wrong(f"`{rest[0]}` is not an address, a label or register of SPU {owner}, or one of {', '.join(KINDS)} (see `help watch`)")
         found = self.grammar.bytes(words, looked_at)
         size = [] if len(rest) > {"mem": 2, "ls": 3}.get(rest[0], 1) else [str(found.span.size)]
         return Range(" ".join([*words, *size]), found, self.trace, self.names)
@@ -162,8 +162,8 @@ class Things:
             return None
         found = key_of(kind, words[0]) if len(words) == 1 and kind in KEYS else None
         if found is None:
-            what = f"type {KEYS[kind]}" if kind in KEYS else "it stands alone, or behind a processor"
-            raise Wrong(f"`{' '.join(words)}` is nothing of `{kind.value}`: {what}")
+            what = f"type {KEYS[kind]}" if kind in KEYS else "type it alone, or after an SPU such as x1"
+            raise Wrong(f"`{' '.join(words)}` does not fit `{kind.value}`: {what}")
         return found
 
 

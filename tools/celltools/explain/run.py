@@ -42,7 +42,7 @@ def of_faults(name: str, data: bytes, faults: Dict[int, str]) -> Iterator[Tuple[
     for spe, (number, status) in faults_told(data).items():
         is_halt = status == HALTED
         what, seen = ("halted", "the instruction and its values") if is_halt else (f"has a fault, {status}", "the reason")
-        yield f"{name}:{number}", shown(faults.get(spe, f"processor {spe} {what}: tools/states MACHINE {quoted(name)} prints {seen}"))
+        yield f"{name}:{number}", shown(faults.get(spe, f"SPU {spe} {what}: tools/states MACHINE {quoted(name)} prints {seen}"))
 
 
 def run_warnings(name: str, data: bytes, machines: Dict[str, bytes]) -> Iterator[Tuple[str, str]]:

@@ -1,4 +1,4 @@
-"""What stands at the end of a hunt's text: with which command to look at what was found. It is told from the text alone."""
+"""The end of a hunt's text: the commands that show what was found. It is made from the text alone."""
 import pathlib
 import re
 import shlex
@@ -8,7 +8,7 @@ from celltools.common.repository import ROOT
 
 # What the second line counts, and what is said of the first run that has it.
 FOUND = re.compile(r"\d+ (have a race|are stuck|spent the budget|have a fault|have a halt), the first is run (\d+)", re.A)
-ENDS = {"are stuck": "is stuck", "spent the budget": "spent the budget", "have a fault": "has a fault", "have a halt": "has a halt"}
+ENDS = {"are stuck": "a deadlock", "spent the budget": "a spent budget", "have a fault": "a fault", "have a halt": "a halt"}
 RESULT = re.compile(r"result \d+ (\d+)", re.A)
 SHOWN = re.compile(r"(mem|ls (\d+)) 0x([0-9a-f]+) ([0-9a-f]+)", re.A)
 
@@ -30,23 +30,23 @@ def differing(first: str, second: str) -> Optional[str]:
 
 
 def of_results(lines: List[str], machine: str, seed: int) -> Iterator[str]:
-    """How to see who wrote what the first two results of an ending differ in."""
+    """How to find the step that wrote the bytes in which the first two results of an ending differ."""
     start = next((place for place, line in enumerate(lines) if line.startswith("results ")), len(lines))
     runs = [found[1] for found in map(RESULT.fullmatch, lines[start + 1 : start + 3]) if found]
     apart = [line.partition(": ")[2] for line in lines[start:] if line.startswith(("differs: ", "from: "))]
     if len(runs) < 2 or len(apart) < 2:
         return
     byte = differing(*apart[:2])
-    words = f", and there `run` and `last {byte}`" if byte else ""
-    yield f"who wrote what differs, in run {runs[0]}, and likewise in run {runs[1]}: {command('debug', machine, seed, runs[0])}{words}"
+    words = f", then `run` and `last {byte}`" if byte else ""
+    yield f"to find the step that wrote the differing bytes, in run {runs[0]} and likewise in run {runs[1]}: {command('debug', machine, seed, runs[0])}{words}"
 
 
 def advice(lines: List[str], machine: str, seed: int) -> Iterator[str]:
     """A command for each thing that was found, of the first run that has it."""
     found: Dict[str, str] = dict(FOUND.findall(lines[1])) if len(lines) > 1 else {}
     if "have a race" in found:
-        yield f"both orders of a race, as short records: {command('witness', machine, seed, found['have a race'])}"
+        yield f"to see both orders of a race as short records: {command('witness', machine, seed, found['have a race'])}"
     for words, said in ENDS.items():
         if words in found:
-            yield f"a run that {said}, from its end back: {command('debug', machine, seed, found[words])}"
+            yield f"to debug a run with {said}, backwards from its end: {command('debug', machine, seed, found[words])}"
     yield from of_results(lines, machine, seed)

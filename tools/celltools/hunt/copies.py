@@ -58,7 +58,7 @@ def first_of_pipe(descriptor: int, name: str) -> bytes:
         if found or poll.poll(0):
             return found
         time.sleep(PAUSE)
-    raise Refused(f"{name}: it is a pipe, and nobody writes to it: name a file, or start the program that writes first")
+    raise Refused(f"{name}: it is a pipe without a writer: name a file, or start the writer first")
 
 
 # ---- copying
@@ -116,7 +116,7 @@ class Copies:
                 os.makedirs(path, exist_ok=True)
         path = os.path.join(path, last)
         if os.path.exists(path) and pathlib.Path(path).read_bytes() != data:
-            raise Refused(f"{name}: another file of this hunt has this name without its `..`: name both without `..`")
+            raise Refused(f"{name}: it clashes with another file of this hunt once `..` is left out: name both without `..`")
         pathlib.Path(path).write_bytes(data)
 
     @contextlib.contextmanager
@@ -134,7 +134,7 @@ class Copies:
         """Refuses a source with an absolute name that isn't as it was."""
         for name in filter(is_absolute, sources):
             if self.path_of(name) != name and (not is_readable(name) or content(name) != pathlib.Path(self.path_of(name)).read_bytes()):
-                raise Refused(f"{name}: it was edited while ./hunt ran, so its lines may not be those that ran: run ./hunt again")
+                raise Refused(f"{name}: it was edited while ./hunt ran, so its line numbers may be wrong: run ./hunt again")
 
 
 def is_readable(name: str) -> bool:
@@ -145,7 +145,7 @@ def is_readable(name: str) -> bool:
 def refuse_pipe(name: str) -> None:
     """Refuses a source with an absolute name that is a pipe: the program couldn't read it once more."""
     if is_absolute(name) and stat.S_ISFIFO(os.stat(name).st_mode):
-        raise Refused(f"{name}: this source is a pipe, and one with an absolute name is read twice: put its text into a file")
+        raise Refused(f"{name}: this source is a pipe, but sources with absolute names are read twice: put its text into a file")
 
 
 def sources_named(machine: bytes) -> List[str]:

@@ -107,4 +107,4 @@ def part_lines(output: BinaryIO, checksum: str, sites: Sites, machine: Snapshot)
     try:
         yield from whole(lines_made(output, checksum, sites, machine))
     except (ValueError, KeyError, IndexError, TypeError):
-        raise Refused("standard input isn't what the program of ./hunt prints with --json") from None
+        raise Refused("standard input is not an output of ./hunt with --json") from None

@@ -22,7 +22,7 @@ MOST_RUN, MOST_SEED = 0xFFFF_FFFE, 0xFFFF_FFFF_FFFF_FFFF
 MOST_LINE = 1 << 28  # bytes
 CHECKSUM = re.compile(r"[0-9a-f]{64}")
 VERSION = re.compile(r"[0-9]+\.[0-9]+\.[0-9]+")
-AGAIN = "make the part again by ./hunt MACHINE --json"
+AGAIN = "make the part again with `./hunt MACHINE --json`"
 OLDER = b'{"machine":'  # begins what earlier versions printed
 
 
@@ -131,16 +131,16 @@ def object_of(line: bytes) -> Json:
     try:
         found = json.loads(line)
     except (ValueError, RecursionError):
-        raise Wrong("it is no JSON") from None
+        raise Wrong("this is not JSON") from None
     if not isinstance(found, dict):
-        raise Wrong("it is no object of JSON")
+        raise Wrong("this is not a JSON object")
     return found
 
 
 def refuse_other_writing(members: Json, line: bytes) -> None:
     """Refuses a line that has the right members, but not as ./hunt writes them, such as twice or with spaces."""
     if written.line_of(members) != line:
-        raise Wrong("it isn't written as ./hunt writes it")
+        raise Wrong("this is not in the form that ./hunt writes")
 
 
 # ---- lines
@@ -148,10 +148,10 @@ def refuse_other_writing(members: Json, line: bytes) -> None:
 def opening_of(line: bytes) -> Json:
     """The first line of a part."""
     if line.startswith(OLDER):
-        raise Wrong("it is a part of an earlier version, which has no checksum of its lines")
+        raise Wrong("this part is of an earlier version, without a checksum")
     members = object_of(line)
     if written.PART not in members:
-        raise Wrong('no part begins here: its first line has "part"')
+        raise Wrong('no part begins here: the first line of a part has "part"')
     refuse_names(members, ("part", "version", "program", "machine", "sum"))
     refuse_other("part", members["part"], is_number(members["part"], written.FORM, written.FORM), f"{written.FORM}, the form that this tools/hunts reads")
     text_in(members, "version", VERSION, "a version such as 1.0.0")
@@ -202,9 +202,9 @@ class Body:
 
     def count_of(self, runs: int, first: int, most: int) -> Count:
         if not 1 <= runs <= most:
-            raise Wrong(f"{runs} runs have it, not 1 to {most}")
+            raise Wrong(f"it counts {runs} runs, not 1 to {most}")
         if not self.head.start <= first <= self.head.stop - runs:
-            raise Wrong(f"run {first} is the first of {runs}, which is none of the runs {self.head.start} to {self.head.stop - 1}")
+            raise Wrong(f"run {first} cannot be the first of {runs} runs: the part has the runs {self.head.start} to {self.head.stop - 1}")
         return Count(runs, first)
 
     def counted(self, members: Json, most: int) -> Count:
@@ -214,9 +214,9 @@ class Body:
         """Takes in a line. Wrong if it isn't one, or comes too late."""
         stage = next((stage for stage, start in enumerate(STARTS) if line.startswith(start)), None)
         if stage is None:
-            raise Wrong("it is no line of a part")
+            raise Wrong("this is not a line of a part")
         if stage < self.stage:
-            raise Wrong("it comes too late: races come first, then endings, results, missed lines and classes of runs")
+            raise Wrong("this line is out of order: races come first, then endings, results, missed lines and classes of runs")
         self.stage = stage
         taking: List[Callable[[bytes, int], None]] = [self.take_race, self.take_ending, self.take_result, self.take_missed, self.take_kinds]
         taking[stage](line, offset)
@@ -224,7 +224,7 @@ class Body:
     def take_once(self, what: str, key: str, members: Json, line: bytes, count: Count) -> None:
         refuse_other_writing(members, line)
         if key in self.seen[what]:
-            raise Wrong("an earlier line of this part is of the same")
+            raise Wrong("an earlier line of this part has the same key")
         self.seen[what][key] = None
         self.hearer.take_told(what, key, members, count)
 
@@ -251,12 +251,12 @@ class Body:
     def take_result(self, line: bytes, offset: int) -> None:
         found = written.RESULT.fullmatch(line)
         if not found:
-            raise Wrong("it is no result: the number of an ending, a number of runs, the first of them, and a text")
+            raise Wrong("this is not a result: a list of an ending's number, a number of runs, the first of them, and a text")
         number, runs, first = int(found[1]), int(found[2]), int(found[3])
         if number >= len(self.endings):
-            raise Wrong(f"there is no ending {number} in this part, which has {len(self.endings)}")
+            raise Wrong(f"there is no ending {number}: this part has {len(self.endings)}")
         if first <= self.last_first:
-            raise Wrong(f"its first run is {first}, and that of the result before it is {self.last_first}: results come in the order of their first runs")
+            raise Wrong(f"its first run is {first}, that of the previous result is {self.last_first}: results are sorted by their first runs")
         self.last_first = first
         count = self.count_of(runs, first, self.left[number])
         self.left[number] -= runs
@@ -275,10 +275,10 @@ class Body:
         try:
             digests = written.unpacked(text_in(members, written.KINDS))
         except ValueError:
-            raise Wrong(f'"{written.KINDS}" is no base64 of numbers of 64 bits') from None
+            raise Wrong(f'"{written.KINDS}" is not base64 of 64-bit numbers') from None
         runs = members["runs"]
         if not isinstance(runs, list) or len(runs) != len(digests) or not all(is_number(each, 1, self.head.runs) for each in runs):
-            raise Wrong(f'"runs" isn\'t a list of {len(digests)} numbers from 1 to {self.head.runs}')
+            raise Wrong(f'"runs" is not a list of {len(digests)} numbers from 1 to {self.head.runs}')
         refuse_other_writing(members, line)
         self.kinds += sum(runs)
         self.hearer.take_kinds(digests, runs)
@@ -302,19 +302,19 @@ class Body:
         refuse_sum("the classes of runs", self.kinds, head.runs)
         for what, counts in self.counts.items():
             if sum(count.runs for count in counts) < head.flaws[what].runs:
-                raise Wrong(f"its lines of `{what}` count fewer than the {head.flaws[what].runs} runs that its head counts")
+                raise Wrong(f"the lines of `{what}` count fewer runs than the head, which counts {head.flaws[what].runs}")
             refuse_first(f"the lines of `{what}`", counts, head.flaws[what])
 
 
 def refuse_sum(what: str, found: int, wanted: int) -> None:
     if found != wanted:
-        raise Wrong(f"{what} count {found} runs, and it has {wanted}")
+        raise Wrong(f"{what} count {found} runs instead of {wanted}")
 
 
 def refuse_first(what: str, counts: Sequence[Count], wanted: Count) -> None:
     first = min((count.first for count in counts if count.first is not None), default=None)
     if wanted.first is not None and first != wanted.first:
-        raise Wrong(f"{what} begin with run {first}, and its head says run {wanted.first}")
+        raise Wrong(f"{what} begin with run {first} instead of run {wanted.first}, as in the head")
 
 
 STARTS = (b'{"race":', b'{"number":', b"[", b'{"missed":', b'{"kinds":')  # of the lines after the head, in their order
@@ -408,7 +408,7 @@ class Reader:
         members = object_of(line)
         refuse_names(members, (written.LAST, "sha256"))
         if not is_number(members[written.LAST], count, count):
-            raise Wrong(f'"{written.LAST}" is {json.dumps(members[written.LAST])}, and the part has {count} before this one: lines were removed or added')
+            raise Wrong(f'"{written.LAST}" is {json.dumps(members[written.LAST])}, but the part has {count} lines before this one: lines were removed or added')
         if members["sha256"] != checksum:
-            raise Wrong(f"its lines aren't those that ./hunt wrote: their SHA-256 is {checksum}")
+            raise Wrong(f"the lines of this part were changed: their SHA-256 is {checksum}")
         refuse_other_writing(members, line)

@@ -27,15 +27,15 @@ RULES = {
     "race": Rule("DmaRace", "Two steps of a run touch a byte, one of them writes it, and neither happens before the other.",
                  "Make the first wait for the second, or the other way round. `tools/race --run K MACHINE` names the missing wait, and `tools/witness --run K "
                  "MACHINE` prints both orders as records. docs/guide/races.md has the rules."),
-    "stuck": Rule("Deadlock", "A run ends with a processor that waits for what never comes.",
-                  "`tools/debug --run K MACHINE` begins at the end of the run and shows what each processor waits for."),
-    "budget": Rule("BudgetSpent", "A run spends its budget of steps: a processor still runs.",
-                   "Raise `budget` in the machine file if the program only takes long. Otherwise `tools/debug --run K MACHINE` shows the loop that goes on."),
-    "fault": Rule("Fault", "A processor stops at a word that is no instruction, a channel that isn't there, or a transfer that breaks a rule.",
+    "stuck": Rule("Deadlock", "A run ends in a deadlock: an SPU waits, and no step is possible.",
+                  "`tools/debug --run K MACHINE` begins at the end of the run and shows what each SPU waits for."),
+    "budget": Rule("BudgetSpent", "A run spends its budget of steps while an SPU still runs.",
+                   "Raise `budget` in the machine file if the program only takes long. Otherwise `tools/debug --run K MACHINE` shows the endless loop."),
+    "fault": Rule("Fault", "An SPU stops at a word that is not an instruction, a channel that does not exist, or a command that breaks a rule.",
                   "The message names the rule that was broken. docs/reference/machine.md has all rules of commands and channels."),
-    "halt": Rule("Halt", "A processor executes a halt whose condition holds.",
-                 "`tools/debug --run K MACHINE` begins at the end of the run, and `last` shows who wrote the operands of the halt."),
-    "missed": Rule("LineMissed", "The states of a run lack a line that is expected of every run.",
+    "halt": Rule("Halt", "An SPU executes a halt instruction whose condition holds.",
+                 "`tools/debug --run K MACHINE` begins at the end of the run, and `last` finds the step that wrote the operands of the halt."),
+    "missed": Rule("LineMissed", "The states of a run lack a line that --expect requires of every run.",
                    "`./hunt MACHINE record K` prints the states of the run, to compare them with the file of --expect."),
 }  # fmt: skip
 PLACE = re.compile(r"(.+?):(\d+)(?::\d+)?")

@@ -1,4 +1,4 @@
-"""Runs that spend their budget end at different places of their loops, each in its own. Of the ends of such runs a text has a few, and tells together where the
+"""Runs that spend their budget end at different places of their loops, each in its own. A text lists a few of the ends of such runs, and sums up where the
 processors were in all of them."""
 import collections
 import re
@@ -44,7 +44,7 @@ def processor_line(spe: str, statuses: Counter[str]) -> str:
     told = statuses.most_common(MOST_PLACES)
     elsewhere = sum(statuses.values()) - sum(runs for _, runs in told)
     said = [f"{status} ({runs})" for status, runs in told] + ([f"elsewhere ({elsewhere})"] if elsewhere else [])
-    return f"    processor {spe}: {', '.join(said)}"
+    return f"    SPU {spe}: {', '.join(said)}"
 
 
 def together(blocks: List[Block]) -> Iterator[str]:
@@ -55,7 +55,7 @@ def together(blocks: List[Block]) -> Iterator[str]:
         all_runs += int(runs)
         for part in filter(None, map(PART.fullmatch, (parts or "").split(" | "))):
             found.setdefault(part[1], collections.Counter())[place_words(part[2])] += int(runs)
-    yield f"and {len(blocks) - MOST_TOLD} more ends of runs that spent the budget, which --json tells; in all {all_runs} of these runs:"
+    yield f"and {len(blocks) - MOST_TOLD} more ends of runs that spent the budget (--json lists them); positions in all {all_runs} of these runs:"
     yield from (processor_line(spe, statuses) for spe, statuses in found.items())
 
 

@@ -132,7 +132,7 @@ class Hunt:
         try:
             file = opened(name)
         except OSError as why:
-            raise Refused(f"{name}: {why.strerror}: name a file of what `./hunt MACHINE --json` printed") from None
+            raise Refused(f"{name}: {why.strerror}: name an output of `./hunt MACHINE --json`") from None
         for part in Reader(self.names[number], file).parts(lambda part: self.hearer(number, part)):
             self.parts.append(part)
         if not isinstance(file, Kept):
@@ -182,7 +182,7 @@ class Hunt:
             file.seek(self.results.offset[place])
             found = written.RESULT.fullmatch(file.readline())
         if not found or self.results.places.get(self.results.digest(self.results.ending[place], found[4])) != place:
-            raise Refused(f"{self.names[self.results.file[place]]}: it has changed since it was read: call this again")
+            raise Refused(f"{self.names[self.results.file[place]]}: the file changed while it was read: run this command again")
         return found[4]
 
 
@@ -214,23 +214,23 @@ def refuse_others(first: Part, part: Part) -> None:
     there = place_of(first)
     for name, what in (("version", "version"), ("program", "state of the program")):
         if part.opening[name] != first.opening[name]:
-            raise Refused(f"{place_of(part)}: it is of {what} {part.opening[name]}, and {there} is of {first.opening[name]}: make both parts with one")
+            raise Refused(f"{place_of(part)}: this part is of {what} {part.opening[name]}, but {there} is of {first.opening[name]}: make both with the same one")
     if part.opening["sum"] != first.opening["sum"]:
-        raise Refused(f"{place_of(part)}: another hunt than that of {there}: {part.opening['machine']}, one of its sources, or the lines of --expect or --pass "
-                      "are others")
+        raise Refused(f"{place_of(part)}: this part is of another hunt than {there}: {part.opening['machine']}, one of its sources, or a file of --expect or --pass "
+                      "differs")
     if part.head.seed != first.head.seed:
-        raise Refused(f"{place_of(part)}: seed {part.head.seed}, and {there} has seed {first.head.seed}")
+        raise Refused(f"{place_of(part)}: this part has seed {part.head.seed}, but {there} has seed {first.head.seed}")
     if part.head.expects != first.head.expects:  # of one file, which is the one's --expect and the other's --pass
-        raise Refused(f"{place_of(part)}: its lines of --expect or --pass are others than those of {there}")
+        raise Refused(f"{place_of(part)}: its --expect or --pass differs from that of {there}")
 
 
 def refuse_gaps(parts: Sequence[Part]) -> None:
     """Refuses parts, in the order of their runs, of which two share a run, or between two of which a run is missing."""
     for before, after in zip(parts, parts[1:]):
         if after.head.start < before.head.stop:
-            raise Refused(f"{place_of(after)}: run {after.head.start} is in {place_of(before)} as well")
+            raise Refused(f"{place_of(after)}: run {after.head.start} is also in {place_of(before)}")
         if after.head.start > before.head.stop:
-            raise Refused(f"{place_of(after)}: it begins with run {after.head.start}, and the runs from {before.head.stop} on are in no file")
+            raise Refused(f"{place_of(after)}: it begins with run {after.head.start}, but the runs from {before.head.stop} on are missing")
 
 
 # ---- writing

@@ -25,7 +25,7 @@ def place_of(sites: Sites, part: str) -> Optional[str]:
             return f"{sites.machine}:{sites.script[int(action)][0]}"
         return place_at(sites, int(step_of or spe_of), int(step_at or spe_at, 16))
     except (IndexError, ValueError):  # also of a number with more digits than Python reads
-        raise Refused(f"`{part}` is no site of {sites.machine}: give the machine file that was hunted") from None
+        raise Refused(f"`{part}` is not a place of {sites.machine}: name the machine file of the hunt") from None
 
 
 def place_at(sites: Sites, spe: int, address: int) -> Optional[str]:

@@ -1,7 +1,7 @@
-"""What tools/race tells of a record: its race in words, or that there is none, and how the run ended."""
+"""What tools/race prints of a record: its race in words, or that there is none, and how the run ended."""
 from typing import Iterable, List, Optional, Sequence, Tuple
 
-from celltools.order.reasons import Race
+from celltools.order.reasons import BEFORE, REASONS, SHARED, Race, fix_title
 from celltools.run.effects import Trace, shared_bytes
 from celltools.run.runs import Path, ask_tracer, places_before, verdict
 from celltools.run.snapshots import record_lines
@@ -10,9 +10,9 @@ from celltools.telling.faults import faults_of, has_faults
 from celltools.telling.words import Teller
 
 END_WORDS = {
-    "Stuck": "the run is stuck: no step was allowed any more. tools/states {files} shows what waits",
-    "Budget": "the run spent its budget: this says nothing of what would have come. Give `budget` a greater number, or look for a loop that goes on",
-    "Open": "the record stops where the run goes on: this says nothing of what would have come",
+    "Stuck": "deadlock (Stuck): no further step is possible; tools/states {files} prints what each SPU waits for",
+    "Budget": "the run spent its budget, so later steps are not checked: raise `budget` in the machine file, or look for an endless loop",
+    "Open": "the record ends before the run does (Open), so later steps are not checked",
 }
 
 def paragraph(title: str, lines: Iterable[str]) -> List[str]:
@@ -24,15 +24,15 @@ def told_race(machine: Path, record: Path, first: int, second: int) -> List[str]
     trace = Trace(ask_tracer("effects", machine, record))
     teller = Teller(trace, Sites(machine, str(machine)))
     race = Race(teller, first, second, places_before(machine, record, second))
-    shared = [f"{teller.names.range(span)}: the first {way} them, the second {other} them" for way, other, span in shared_bytes(race.one, race.two)]
+    shared = [f"{teller.names.range(span)}: the first {way}, the second {other}" for way, other, span in shared_bytes(race.one, race.two)]
     return [
         f"race {first} {second}",
         *paragraph(f"first, step {first}", [teller.what(first), *teller.origin(first)]),
         *paragraph(f"second, step {second}", [teller.what(second), *teller.origin(second)]),
-        *paragraph("they share", shared),
-        *paragraph("how far the order comes", race.how_far()),
-        *paragraph("why nothing orders the first before the second", race.reasons()),
-        *paragraph("what would order them", race.remedies()),
+        *paragraph(SHARED, shared),
+        *paragraph(BEFORE, race.how_far()),
+        *paragraph(REASONS, race.reasons()),
+        *paragraph(fix_title(race.remedies()), race.remedies()),
     ]
 
 

@@ -92,7 +92,7 @@ def others() -> Iterator[Entry]:
 def mended(groups: List[Entry]) -> Entry:
     """The mended programs of lessons, which stand in no list."""
     names = dict.fromkeys(lesson["mended"] for group in groups for lesson in group["examples"] if lesson["mended"])
-    return {"title": "", "examples": [example(name, f"{capital(name.replace('_', ' '))}, mended", head_of(name)) for name in names]}
+    return {"title": "", "examples": [example(name, f"{capital(name.replace('_', ' '))}, fixed", head_of(name)) for name in names]}
 
 
 def own_program() -> Dict[str, str]:

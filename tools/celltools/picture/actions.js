@@ -315,7 +315,7 @@ function headline() {
   byId('verdict').textContent = `${verdict} · ${facts.ending.words}`;
   byId('verdict').classList.add(facts.ending.level);
   const steps = whole ? `${whole.record}, its short record: ${count(facts.count)} of ${count(whole.count)} steps` : `${facts.record}: ${count(facts.count)} steps`;
-  byId('summary').textContent = `${steps}, ${facts.spes} processor${facts.spes > 1 ? 's' : ''}`;
+  byId('summary').textContent = `${steps}, ${facts.spes} SPU${facts.spes > 1 ? 's' : ''}`;
   if (!story) for (const id of ['to-race', 'only']) byId(id).hidden = true;
 }
 async function begin() {

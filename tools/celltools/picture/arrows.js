@@ -41,7 +41,7 @@ function arrowOf([from, to, rule], is_strong) {
   const ends = endsOf(from, to), name = facts.rules[rule], group = GROUP[name];
   if (!ends) return null;
   const pieces = isIssue(name) ? issueLine(ends, is_strong) : curve(ends, OFF_DOT);
-  return { ends, name, group, pieces, is_strong, title: `<title>${name}: step ${from} before step ${to}</title>` };
+  return { ends, name, group, pieces, is_strong, title: `<title>${name}: step ${from} happens before step ${to}</title>` };
 }
 function arrowArt({ ends, group, pieces, is_strong, title }) {
   if (group === 'lane') return `<path d="${brokenDown(ends.x1, ends.y1, ends.y2)}" stroke="var(--ink)" stroke-width="3" opacity=".8">${title}</path>`;
@@ -80,7 +80,7 @@ function missingLine(bar_boxes) {
 }
 function missingArt(pieces) {
   if (!pieces.length) return '';
-  const path = broken(pieces), title = `<title>no rule orders step ${story.first} before step ${story.second}</title>`;
+  const path = broken(pieces), title = `<title>step ${story.first} does not happen before step ${story.second}</title>`;
   return `<path d="${path}" fill="none" stroke="var(--paper)" stroke-width="5" opacity=".8"/>`
     + `<path id="missing" d="${path}" fill="none" stroke="var(--race)" stroke-width="2.4" stroke-dasharray="6 4" marker-end="url(#m-race)">${title}</path>`;
 }

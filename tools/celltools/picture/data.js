@@ -11,7 +11,7 @@ const escaped = text => String(text).replace(/[&<>"]/g, c => ({ '&': '&amp;', '<
 const hex = number => '0x' + number.toString(16);
 const count = number => number.toLocaleString('en');
 const base = name => (name || '').split('/').pop();
-const placeName = place => place === MEMORY ? 'main memory' : `store of processor ${place}`;
+const placeName = place => place === MEMORY ? 'main memory' : `the local store of SPU ${place}`;
 
 async function opened(text) {
   const bytes = Uint8Array.from(atob(text), c => c.charCodeAt(0));
@@ -80,7 +80,7 @@ function commandText(bar) {
 
 // A signal register has its processor and its number, 1 or 2; a command names both by its address.
 const registerOf = bar => [bar.ea >> 1, (bar.ea & 1) + 1];
-const signalName = (spe, register) => `signal register ${register} of processor ${spe}`;
+const signalName = (spe, register) => `signal register ${register} of SPU ${spe}`;
 
 const bars = [], barOf = new Map();
 function readTables(text) {

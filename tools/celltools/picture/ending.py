@@ -1,4 +1,4 @@
-"""How a run ended: how well, and of what waits or has a fault what it waits for and which step was its last."""
+"""How a run ended: how well, and for each processor and command that waits or has a fault, why and its last step."""
 import dataclasses
 import enum
 from typing import TYPE_CHECKING, Callable, Dict, Iterator, List, Optional, Tuple
@@ -13,8 +13,8 @@ from celltools.telling.words import name_of, with_article
 if TYPE_CHECKING:
     from celltools.picture.run import Run
 
-TITLES = {"Stuck": "Why nothing goes on", "Budget": "Where it was when its budget was spent", "Open": "Where it stops"}
-WORDS = {"Budget": "Budget: all {count:,} steps are spent", "Open": "Open: another step is still allowed"}
+TITLES = {"Stuck": "Why the run is deadlocked", "Budget": "Where the budget ended", "Open": "Where the record ends"}
+WORDS = {"Stuck": "deadlock (Stuck)", "Budget": "Budget: all {count:,} steps are spent", "Open": "Open: the run can go on"}
 MOST_NAMED = 3  # processors that are told by their numbers
 Said = Tuple[str, Optional[int]]  # what is told of an actor or a command, and its last step, if it made one
 
@@ -75,7 +75,7 @@ def words_of(run: "Run") -> Iterator[str]:
         yield f"{named(halted)} halted"
     done, actions = run.end.host
     if done < actions and run.end.word in ("AllStopped", "Stuck"):
-        yield f"the host did {done} of {actions} actions"
+        yield f"{done} of {actions} host actions done"
 
 
 def spes_that(run: "Run", kind: str) -> List[int]:
@@ -86,9 +86,9 @@ def spes_that(run: "Run", kind: str) -> List[int]:
 def named(spes: List[int]) -> str:
     """Processors by their numbers, or where they are many by how many they are."""
     if len(spes) > MOST_NAMED:
-        return f"{len(spes)} processors"
+        return f"{len(spes)} SPUs"
     numbers = list(map(str, spes))
-    return f"processor {numbers[0]}" if len(spes) == 1 else f"processors {', '.join(numbers[:-1])} and {numbers[-1]}"
+    return f"SPU {numbers[0]}" if len(spes) == 1 else f"SPUs {', '.join(numbers[:-1])} and {numbers[-1]}"
 
 
 def agreed(spes: List[int], verb: str) -> str:
@@ -104,7 +104,7 @@ def said_of(run: "Run") -> Iterator[Said]:
         yield command_wait(run, (spe, number)), steps[-1] if steps else run.trace.issues[spe, number]
     done, actions = run.end.host
     if done < actions:
-        yield f"the host waits in its action {done}, {run.sites.action(done)}", last_of(run, HOST)
+        yield f"the host waits at action {done}, {run.sites.action(done)}", last_of(run, HOST)
 
 
 def of_processors(run: "Run", kind: str, lines_of: Callable[..., List[str]]) -> Iterator[Said]:
@@ -122,11 +122,11 @@ def last_of(run: "Run", chain: int) -> Optional[int]:
 def command_wait(run: "Run", key: Key) -> str:
     """Why a command isn't done."""
     member = run.order.commands[key]
-    name = f"{with_article(name_of(member.command))} of tag {member.command.tag}, command {key[1]} of processor {key[0]},"
+    name = f"{with_article(name_of(member.command))} with tag {member.command.tag} (command {key[1]} of SPU {key[0]})"
     if key in run.end.stalled:
-        return f"{name} is stalled behind element {len(member.elements) - 1}: it waits for an acknowledgement of its tag (`wrch` of channel 26)"
+        return f"{name} is stalled after list element {len(member.elements) - 1} until its tag is acknowledged (wrch $ch26)"
     held = [node for node, rule in member.entry if rule == "Queue" and any(is_within(run, other, node) for other in run.end.outstanding)]
-    return f"{name} isn't done" + (": it waits for an earlier command (Queue)" if held else "")
+    return f"{name} is not complete" + (": it waits for an earlier command   [Queue]" if held else "")
 
 
 def is_within(run: "Run", key: Key, node: int) -> bool:

@@ -78,7 +78,7 @@ function ruleLabel(pieces, text, color, solid, line_boxes) {
 
 // The words at the arrow that is missing: on it, where it is long, or beside it, above or below it, where that is free.
 function missingLabel(pieces, bar_boxes) {
-  const text = 'no rule orders them', w = widthOf(text, STRONG_FONT) + 16, longest = pieces.reduce((one, other) => lengthOf(other) > lengthOf(one) ? other : one);
+  const text = 'not ordered', w = widthOf(text, STRONG_FONT) + 16, longest = pieces.reduce((one, other) => lengthOf(other) > lengthOf(one) ? other : one);
   const near = [0, 10, -10, 20, -20, 30, -30, 40, -40, 60, -60, 80, -80, 120, -120]
     .flatMap(by => pointsOn(part => pointAlong(pieces, part), [w / 2 + 12, -w / 2 - 12, w, -w]).map(([x, y]) => [x, y + by]));
   if (lengthOf(longest) > 1.5 * w) near.unshift(...[.5, .4, .6, .3, .7].map(part => pointOf(longest, part)));
@@ -93,7 +93,7 @@ function missingLabel(pieces, bar_boxes) {
 // What a command moves, or where to.
 function amountOf(bar) {
   if (bar.kind === 'BARRIER') return '';
-  if (bar.kind === 'SNDSIG') return ` → SPE ${registerOf(bar)[0]} sig ${registerOf(bar)[1]}`;
+  if (bar.kind === 'SNDSIG') return ` → SPU ${registerOf(bar)[0]} sig ${registerOf(bar)[1]}`;
   return bar.kind.endsWith('L') ? `, ${bar.size / 8} el.` : `, ${count(bar.size)} B`;
 }
 // The name of a command beside its issue, as long as there is room for.

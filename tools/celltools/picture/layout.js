@@ -9,7 +9,7 @@ let lanes = [], width = 0, to_bars = 42, rows = [], row_starts = [];
 let keys_shown = new Set();
 
 const isRacing = place => story !== null && (place === story.first || place === story.second);
-const laneName = lane => lane === MEMORY_COLUMN ? 'Memory' : lane === HOST ? 'Host' : `${lane % 2 ? 'MFC' : 'SPE'} ${lane >> 1}`;
+const laneName = lane => lane === MEMORY_COLUMN ? 'Memory' : lane === HOST ? 'Host' : `${lane % 2 ? 'MFC' : 'SPU'} ${lane >> 1}`;
 const hasScript = () => facts.script.length > 0;
 
 function laneOfKey(place) {

@@ -22,14 +22,14 @@ const TOLD = [
   ['tags', 'tag', ([groups]) => [`reads the tag status ${hex(+groups)}: tags ${tagsOf(+groups)}`, `tags ${tagsOf(+groups)}`, `tags ${hex(+groups)}`]],
   ['stalls', 'tag', ([groups]) => [`reads the stall status ${hex(+groups)}: stalls ${tagsOf(+groups)}`, `stalls ${tagsOf(+groups)}`, `stalls ${hex(+groups)}`]],
   ['ack', 'tag', ([tag]) => [`resumes tag ${tag}`, `resumes tag ${tag}`, 'resumes']],
-  ['request', 'plain', ([, groups]) => [`asks ${tagsOf(+groups)}`, `asks ${tagsOf(+groups)}`, `asks ${hex(+groups)}`]],
+  ['request', 'plain', ([, groups]) => [`requests the tag status: tags ${tagsOf(+groups)}`, `requests ${tagsOf(+groups)}`, `requests ${hex(+groups)}`, 'requests']],
   ['atomic', 'atomic', ([kind]) => [ATOMICS[kind], ATOMICS[kind]]],
   ['atomicread', 'atomic', (_, { rdch: [, bits] }) => [`reads the atomic status ${bits}: ${STATUSES[bits] || ''}`, `status ${bits}: ${STATUSES[bits] || ''}`, `status ${bits}`]],
-  ['put', 'mail', ([, box, value]) => [`puts ${hex(+value)} into its ${BOXES[box]}`, `puts ${BOXES[box]} ${hex(+value)}`, `puts ${BOXES[box]}`, 'puts']],
-  ['take', 'mail', ([, box, value]) => [`takes ${hex(+value)} out of its ${BOXES[box]}`, `takes ${BOXES[box]} ${hex(+value)}`, `takes ${BOXES[box]}`, 'takes']],
+  ['put', 'mail', ([, box, value]) => [`writes ${hex(+value)} to its ${BOXES[box]}`, `writes ${BOXES[box]} ${hex(+value)}`, `writes ${BOXES[box]}`, 'writes']],
+  ['take', 'mail', ([, box, value]) => [`reads ${hex(+value)} from its ${BOXES[box]}`, `reads ${BOXES[box]} ${hex(+value)}`, `reads ${BOXES[box]}`, 'reads']],
   ['ended', 'end', () => ['ends', 'ends']],
   ['signal', 'mail', ([, register], { rdch: [, value] }) =>
-    [`takes ${hex(+value)} out of signal ${register}`, `takes signal ${register} ${hex(+value)}`, `takes signal ${register}`, `signal ${register}`]],
+    [`reads ${hex(+value)} from signal ${register}`, `reads signal ${register} ${hex(+value)}`, `reads signal ${register}`, `signal ${register}`]],
   ['rchcnt', 'plain', ([channel, number]) => countedForms(`counts ${COUNTED[channel] || `channel ${channel}`}`, number)],
   ['rdch', 'plain', ([channel, bits]) => channel === '0' ? [`reads the events ${hex(+bits)}: ${eventsOf(bits)}`, `events ${eventsOf(bits)}`, `events ${eventsInBrief(bits)}`, 'events']
     : [`reads ${hex(+bits)} from channel ${channel}`]],
@@ -54,9 +54,9 @@ const valueText = ({ fields: { deliver, take } }) => deliver || take ? `: ${hex(
 function flowText(step) {
   if (step.letter === 'a') return atomicText(step);
   const bar = barOfStep(step), name = `#${step.command}`;
-  if (step.letter === 'r') return `${name} retires`;
+  if (step.letter === 'r') return `${name} completes`;
   if (step.letter === 'e') return `${name} element${step.fields.element ? ` ${step.fields.element[0]}${step.fields.element[2] === '1' ? ', flag' : ''}` : ': a fault'}`;
-  if (bar.kind === 'SNDSIG') return step.fields.signal ? `${name} to SPE ${step.fields.signal[0]} sig ${step.fields.signal[1]}${valueText(step)}` : `${name} to no one`;
+  if (bar.kind === 'SNDSIG') return step.fields.signal ? `${name} to SPU ${step.fields.signal[0]} sig ${step.fields.signal[1]}${valueText(step)}` : `${name} to no register`;
   return bar.kind.endsWith('L') ? `${name} el. ${step.element} piece ${step.part}` : `${name} piece ${step.part}`;
 }
 function atomicText(step) {
@@ -74,7 +74,7 @@ function stepText(step) {
   if (step.lane === HOST) return `host: ${actionOf(step.place)}${valueText(step)}`;
   if (step.lane % 2) return `MFC ${step.spe}: ${flowText(step)}`;
   const [file, line, text] = sourceOf(step), told = toldOf(step);
-  return `SPE ${step.spe}: ${text}${told ? `, ${told.whole}` : ''}${line ? ` (${file}:${line})` : ''}`;
+  return `SPU ${step.spe}: ${text}${told ? `, ${told.whole}` : ''}${line ? ` (${file}:${line})` : ''}`;
 }
 
 const CODE_FONT = '11.5px ui-monospace, "DejaVu Sans Mono", monospace', CHIP_FONT = '600 10.5px system-ui, "DejaVu Sans", sans-serif';

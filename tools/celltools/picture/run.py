@@ -88,12 +88,12 @@ class Run:
             return None
         first, second = self.pair
         if not first < second < self.count:
-            raise Refused(f"there are no steps {first} and {second}, one behind the other: the record has {self.count} steps, from 0")
+            raise Refused(f"--race {first} {second}: give two steps in order, from 0 to {self.count - 1}")
         race = Race(self.teller, first, second, self.order.before(second), self.order)
         if first in race.before:
-            raise Refused(f"steps {first} and {second} don't race: they are ordered")
+            raise Refused(f"steps {first} and {second} do not race: step {first} happens before step {second}")
         if not shared_bytes(race.one, race.two):
-            raise Refused(f"steps {first} and {second} don't race: they share no byte that one of them writes")
+            raise Refused(f"steps {first} and {second} do not race: neither writes a byte that the other touches")
         return race
 
     @functools.cached_property

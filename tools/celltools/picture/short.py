@@ -41,7 +41,7 @@ def drawn(run: Run) -> Run:
 
 
 def rows_before(rows: List[int], place: int) -> int:
-    """How many rows stand before a step: steps, and what is folded between them."""
+    """How many rows come before a step: steps, and folded rows between them."""
     before = [-1, *(row for row in rows if row < place), place]
     return len(before) - 2 + sum(later > row + 1 for row, later in zip(before, before[1:]))
 

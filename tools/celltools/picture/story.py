@@ -1,26 +1,26 @@
-"""What a picture says of a race beside its steps: why the two aren't ordered."""
+"""What a picture says of a race next to its steps: why the two aren't ordered."""
 from typing import Iterable, List, Optional, Tuple
 
 from celltools.order.graph import Link, Past
-from celltools.order.reasons import Race
+from celltools.order.reasons import BEFORE, REASONS, SHARED, Race, fix_title
 from celltools.picture.others import other_races
 from celltools.picture.run import Run
 from celltools.run.effects import shared_bytes
 
-BEHIND = "`check` names the race whose later step comes first. Others may follow from it: mend this one, run it again, and look at the new record."
+BEHIND = "`check` reports the first race of the record. Later ones may follow from it: fix this one, run the program again, and check the new record."
 
 
 def race_words(run: Run, race: Race) -> List[Tuple[str, List[str]]]:
     """The paragraphs of a race, each a title and its lines, as tools/race tells it."""
     teller = run.teller
-    shared = [f"{span.size} bytes, {teller.names.range(span)}: the first {way} them, the second {other} them" for way, other, span in shared_bytes(race.one, race.two)]
+    shared = [f"{span.size} bytes, {teller.names.range(span)}: the first {way}, the second {other}" for way, other, span in shared_bytes(race.one, race.two)]
     return [
         (f"first, step {race.first}", [teller.what(race.first), *teller.origin(race.first)]),
         (f"second, step {race.second}", [teller.what(race.second), *teller.origin(race.second)]),
-        ("they share", shared),
-        ("how far the order comes", race.how_far()),
-        ("why nothing orders the first before the second", race.reasons()),
-        ("what would order them", race.remedies()),
+        (SHARED, shared),
+        (BEFORE, race.how_far()),
+        (REASONS, race.reasons()),
+        (fix_title(race.remedies()), race.remedies()),
     ]
 
 

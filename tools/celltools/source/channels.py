@@ -51,7 +51,7 @@ def channel_named(word: str) -> Optional[int]:
 
 def channel_name(number: int) -> str:
     """The number of a channel, with its name where it has one."""
-    return f"channel {number}" + (f", {NAMES[number]}" if number in NAMES else "")
+    return f"channel {number}" + (f" ({NAMES[number]})" if number in NAMES else "")
 
 
 def channel_of(word: int) -> Optional[int]:

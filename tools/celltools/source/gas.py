@@ -159,7 +159,7 @@ class Writer(Known):
 
     def renamed(self, name: str) -> str:
         if not NAME.fullmatch(name):
-            raise Unwritable(f"`{name}` is no name")
+            raise Unwritable(f"`{name}` is not a name")
         return self.ending.get(name, name)
 
     def place(self) -> Placed:
@@ -172,7 +172,7 @@ class Writer(Known):
             return 0
         one, two = (self.earlier.places.get(name) for name in (left, right))
         if one is None or two is None or one[:2] != two[:2]:
-            raise Unwritable(f"the distance of `{left}` and `{right}` isn't known here: both have to be in one section, without `.org` between them")
+            raise Unwritable(f"the distance of `{left}` and `{right}` is not known: both must be in the same section, without `.org` between them")
         return one[2] - two[2]
 
     def numeric_label(self, digits: str, count: int) -> str:
@@ -190,7 +190,7 @@ class Writer(Known):
         if found := NUMERIC_LABEL.fullmatch(word):
             count = self.counts[found[1]] + (found[2] == "f")
             if count == 0:
-                raise Unwritable(f"no line before defines the label {found[1]}")
+                raise Unwritable(f"no earlier line defines label {found[1]}")
             return Value(self.numeric_label(found[1], count), 0)
         if word == ".":
             self.here = self.here or self.fresh(f".Lhere{len(self.lines)}")
@@ -226,10 +226,10 @@ class Writer(Known):
     def evaluated(self, name: str, text: str, depth: int) -> Value:
         """The value that an expression gives a name now."""
         if name in self.open_sets:
-            raise Unwritable(f"`{name}` is set to a value of itself")
+            raise Unwritable(f"the value of `{name}` depends on itself")
         self.left_to_work_out -= 1
         if self.left_to_work_out < 0:
-            raise Unwritable(f"more than {MOST_WORKED_OUT} values of names that later lines set have to be worked out")
+            raise Unwritable(f"more than {MOST_WORKED_OUT} values depend on names that later lines set")
         self.open_sets.add(name)
         try:
             return Expression(text, self, depth).value()
@@ -247,7 +247,7 @@ class Writer(Known):
     def constant(self, text: str, what: str) -> int:
         value = Expression(text, self).value()
         if value.name or value.number < 0:
-            raise Unwritable(f"{what} is a number from 0 on, and not `{cut_short(text)}`")
+            raise Unwritable(f"{what} must be a number that is not negative: `{cut_short(text)}`")
         return value.number
 
     def expression(self, text: str, is_distance: bool = False) -> str:
@@ -271,7 +271,7 @@ class Writer(Known):
             return REGISTERS[bare.lower()]
         value = Value(None, int(bare)) if SHORT_NUMBER.fullmatch(bare) else Expression(bare, self).value()
         if value.name or not 0 <= value.number <= LAST_REGISTER:
-            raise Unwritable(f"`{text}` is no register: type $0 to ${LAST_REGISTER}, $lr or $sp")
+            raise Unwritable(f"`{text}` is not a register: write $0 to ${LAST_REGISTER}, $lr or $sp")
         return f"${value.number}"
 
     def displaced(self, text: str) -> str:
@@ -376,7 +376,7 @@ class Writer(Known):
             rest = "0"
         operands = self.operands(rest, form)
         if not fits_form(operands, FORMS[form][0].split(",")):
-            raise Unwritable(f"`{word}` takes {FORMS[form][0]}, and not `{cut_short(rest)}`")
+            raise Unwritable(f"`{word}` takes {FORMS[form][0]}, not `{cut_short(rest)}`")
         return [f"\t{word}\t{','.join(operands)}"]
 
     def reason_against(self, word: str) -> str:
@@ -384,7 +384,7 @@ class Writer(Known):
         if word not in self.source.macros:
             return why_no_instruction(word)
         name, line = self.source.origin(self.source.macros[word])
-        return f"`{word}` is the macro of {name}:{line}, and there are no macros in this language"
+        return f"`{word}` is the macro of {name}:{line}, but macros are not supported"
 
     def section_line(self, word: str, rest: str) -> List[str]:
         """Changes the section."""
@@ -393,7 +393,7 @@ class Writer(Known):
             chosen = self.previous
         elif word == ".popsection":
             if not self.stack:
-                raise Unwritable("`.popsection` without a `.pushsection` before it")
+                raise Unwritable("`.popsection` without an earlier `.pushsection`")
             chosen, previous = self.stack.pop()
         elif word == ".pushsection":
             self.stack.append((self.section, self.previous))
@@ -403,7 +403,7 @@ class Writer(Known):
         elif rest in ("", "0"):
             chosen = word, ""
         else:
-            raise Unwritable("there are no numbered subsections")
+            raise Unwritable("numbered subsections are not supported")
         self.previous, self.section = previous, chosen
         return self.changed_section()
 
@@ -417,7 +417,7 @@ class Writer(Known):
     def refuse_small(self, word: str) -> None:
         """Refuses what places fewer than four bytes, where it stands in the text."""
         if (word in STRINGS or DATA[word][0] < 4) and is_text_section(*self.section):
-            raise Unwritable(f"`{word}` is for data, and this is text: place it after `.data`, or write `.long`")
+            raise Unwritable(f"`{word}` is not supported in text: place it after `.data`, or write `.long`")
 
     def data(self, word: str, rest: str) -> List[str]:
         self.refuse_small(word)
@@ -466,7 +466,7 @@ class Writer(Known):
         """The words of text up to a multiple of so many bytes: each has a value once, twice or four times, by the bytes that the directive fills with."""
         value, count = Expression(fill, self).value(), -self.place()[2] % max(size, WORD_BYTES)
         if value.name:
-            raise Unwritable(f"`{word}`: `{fill}` is no number, and text is filled with one")
+            raise Unwritable(f"`{word}`: text is padded with a number, not with `{fill}`")
         if not count or most and 0 < self.constant(most, "the most bytes of an alignment") < count:
             return []
         part = value.number % (1 << 8 * ALIGNING[word])
@@ -477,9 +477,9 @@ class Writer(Known):
         if is_text_section(*self.section):
             return
         if fill and Expression(fill, self).value() != Value(None, 0):
-            raise Unwritable(f"`{word}`: data is filled with zeros, and not with `{fill}`: write the bytes by `.fill`")
+            raise Unwritable(f"`{word}`: data is padded with zeros, not with `{fill}`: write the bytes with `.fill`")
         if most and 0 < self.constant(most, "the most bytes of an alignment") < size - 1:
-            raise Unwritable(f"`{word}`: an alignment is always made, also if it takes more than {most} bytes: leave the last number out")
+            raise Unwritable(f"`{word}`: a limit of {most} bytes for the padding is not supported: leave the last number out")
 
     def filling(self, word: str, rest: str) -> List[str]:
         """Bytes of one value: as zeros that are skipped, or written out."""
@@ -490,16 +490,16 @@ class Writer(Known):
             size = self.constant(parts[1], "a size") if len(parts) > 1 else 1
             parts = parts[1:]
         if size > MOST_FILLED:
-            raise Unwritable(f"`{word}`: a number to repeat has at most {MOST_FILLED} bytes, and not {size}")
+            raise Unwritable(f"`{word}`: the number to repeat can have at most {MOST_FILLED} bytes, not {size}")
         value = Expression(parts[1], self).value() if len(parts) > 1 else Value(None, 0)
         if count == 0 or value == Value(None, 0):
             return [f"\t.space\t{count * size}"]
         words = {1: ".byte", 2: ".short", 4: ".long"}  # of a greater size GNU as takes four bytes of the value
         if value.name or size not in words or count > MOST_REPEATS:
-            raise Unwritable(f"`{word}`: at most {MOST_REPEATS:,} numbers of 1, 2 or 4 bytes are written out, and not `{cut_short(rest)}`")
+            raise Unwritable(f"`{word}`: only up to {MOST_REPEATS:,} numbers of 1, 2 or 4 bytes are supported, not `{cut_short(rest)}`")
         self.refuse_small(words[size])
         if self.place()[2] + count * size > STORE:
-            raise Unwritable(f"`{word}` ends above the local store, {STORE:,} bytes")
+            raise Unwritable(f"`{word}` goes beyond the end of the local store, {STORE:,} bytes")
         return [f"\t{words[size]}\t{','.join([str(value.number)] * count)}"]
 
     def place_commons(self) -> None:
@@ -568,7 +568,7 @@ def section_named(rest: str) -> Section:
 def power_of_two(number: int) -> int:
     """Which power of two a number is."""
     if number < 1 or number & (number - 1):
-        raise Unwritable(f"{number} is no power of two")
+        raise Unwritable(f"{number} is not a power of two")
     return number.bit_length() - 1
 
 
@@ -586,7 +586,7 @@ def string(text: str) -> str:
         return found[0]
 
     if not re.fullmatch(r'"(?:\\.|[^"\\])*"', text, re.S):
-        raise Unwritable("strings are in double quotes, with commas between them")
+        raise Unwritable("strings must be in double quotes and separated by commas")
     return re.sub(r"\\(x[0-9A-Fa-f]+|.)", escape, text, flags=re.S)
 
 
@@ -605,7 +605,7 @@ def written(sources: Sequence[Source]) -> Writer:
         if (writer.places, writer.values) == (earlier.places, earlier.values):
             break
     else:
-        writer.faults.append(Fault(1, f"{sources[0].name}:1", "the addresses depend on distances that depend on them"))
+        writer.faults.append(Fault(1, f"{sources[0].name}:1", "addresses and distances depend on each other"))
     return writer
 
 

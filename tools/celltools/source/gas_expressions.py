@@ -52,7 +52,7 @@ def number_value(word: str) -> int:
         return int(word[2], 8) if word[2] in OCTAL else CHARACTERS.get(word[2], ord(word[2]))
     base, found = next(((base, found) for base, form in NUMBERS if (found := form.fullmatch(word))), (10, None))
     if not found:
-        raise Unwritable(f"`{word}` is no number")
+        raise Unwritable(f"`{word}` is not a number")
     value = value_of(found[1], base)
     if value is None:
         raise Unwritable(f"`{word if len(word) <= SHOWN else word[:SHOWN] + '..'}` has more than 64 bits")
@@ -67,7 +67,7 @@ def wrapped(number: int) -> int:
 def divided(left: int, right: int) -> Tuple[int, int]:
     """The quotient toward zero, and the remainder that goes with it."""
     if right == 0:
-        raise Unwritable("a division by zero")
+        raise Unwritable("division by zero")
     whole = abs(left) // abs(right) * (1 if (left < 0) == (right < 0) else -1)
     return whole, left - whole * right
 
@@ -79,10 +79,10 @@ def combined(mark: str, left: Value, right: Value) -> Value:
     if mark == "-" and not right.name:
         return Value(left.name, wrapped(left.number - right.number))
     if left.name or right.name:
-        raise Unwritable("only a number can be added to a label or taken from it")
+        raise Unwritable("only a number can be added to a label or subtracted from it")
     a, b = left.number, right.number
     if mark in ("<<", ">>") and not 0 <= b < 64:
-        raise Unwritable(f"a shift by {b}")
+        raise Unwritable(f"a shift must be by 0 to 63 bits, not by {b}")
     if mark in COMPARED:
         return Value(None, -1 if COMPARED[mark](a, b) else 0)
     work: Dict[str, Callable[[], int]] = {
@@ -96,7 +96,7 @@ def combined(mark: str, left: Value, right: Value) -> Value:
 def negated(value: Value, times: int) -> Value:
     """What one `!` or two make of a number: whether it is 0, or isn't."""
     if value.name:
-        raise Unwritable(f"`!` takes a number, and `{value.name}` is a label")
+        raise Unwritable(f"`!` takes a number, but `{value.name}` is a label")
     return Value(None, int((value.number == 0) == (times == 1)))
 
 
@@ -113,7 +113,7 @@ class Expression:
     def value(self) -> Value:
         value = self.ranked(1)
         if self.words:
-            raise Unwritable(f"`{self.words[0]}` in an expression")
+            raise Unwritable(f"unexpected `{self.words[0]}` in an expression")
         return value
 
     def ranked(self, least: int) -> Value:
@@ -138,12 +138,12 @@ class Expression:
 
     def prefixed(self) -> Value:
         if not self.words:
-            raise Unwritable("an expression is missing")
+            raise Unwritable("missing expression")
         word = self.words.popleft()
         if word == "(":
             value = self.within(lambda: self.ranked(1))
             if not self.words or self.words.popleft() != ")":
-                raise Unwritable("`)` is missing")
+                raise Unwritable("missing `)`")
             return value
         if word in ("-", "~", "+", "!", "!!"):
             value = self.within(self.prefixed)

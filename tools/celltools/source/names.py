@@ -73,18 +73,18 @@ class Names:
 
     def line(self, number: int) -> str:
         """A line of main memory by its number."""
-        return f"the line at {self.address(None, number * MEMORY_LINE)}"
+        return f"line {self.address(None, number * MEMORY_LINE)}"
 
     def start(self, span: Span) -> str:
         """Where a span begins."""
-        return f"{self.address(span.spe, span.at)} of {place_of(span)}"
+        return f"{self.address(span.spe, span.at)} in {place_of(span)}"
 
     def range(self, span: Span) -> str:
         """A span as its first and its last address. The last is named where its name has another beginning."""
         last = span.at + span.size - 1
         same = base_of(self.of(span.spe, span.at)) == base_of(self.of(span.spe, last))
         end = f"0x{last:x}" if same else self.address(span.spe, last)
-        return f"{self.address(span.spe, span.at)} to {end} of {place_of(span)}"
+        return f"{self.address(span.spe, span.at)} to {end} in {place_of(span)}"
 
 
 NONE = Names([], [])  # of a machine that isn't known
@@ -96,4 +96,4 @@ def base_of(name: str) -> str:
 
 
 def place_of(span: Span) -> str:
-    return "main memory" if span.spe is None else f"the store of processor {span.spe}"
+    return "main memory" if span.spe is None else f"the local store of SPU {span.spe}"

@@ -112,7 +112,7 @@ def plan_lines(text: bytes, name: object) -> Sequence[PlanLine]:
         return plan_of(text)
     except Refused as why:
         found = FAULTY_LINE.search(str(why))
-        said = f"{name}:{found[1]}: no line of a machine file\n    tools/explain {quoted(name)} says it in words" if found else f"{name}: {why}"
+        said = f"{name}:{found[1]}: not a line of a machine file\n    tools/explain {quoted(name)} says it in words" if found else f"{name}: {why}"
         raise Refused(said) from None
 
 
@@ -178,7 +178,7 @@ class Sites:
     def at(self, spe: int, address: int) -> Site:
         """The site of an instruction."""
         found = self.of_processor[spe].get(address)
-        return found or Site(self.machine, 0, f"nothing was placed at 0x{address:05x} of the store", 0)
+        return found or Site(self.machine, 0, f"no source line at 0x{address:05x} of the local store", 0)
 
     def action(self, number: int) -> str:
         """The host's action of a number."""

@@ -11,7 +11,7 @@ from celltools.run.effects import MEMORY_LINE, Trace
 from celltools.run.machine_state import Spe, State
 from celltools.run.runs import Path
 from celltools.run.stepping import Run
-from celltools.source.channels import ABSENT, COMMANDS, NAMES, READ, WRITE, channel_name, channel_of
+from celltools.source.channels import ABSENT, COMMANDS, NAMES, READ, channel_name, channel_of
 from celltools.source.gas_words import ABSENT_NAMES
 from celltools.source.language import STORE
 from celltools.source.names import NONE, Names
@@ -67,23 +67,23 @@ Rules = Iterator[Tuple[bool, str, str]]  # each whether it is broken, the kind o
 
 
 def within_store(name: str, at: int, size: int, owner: Owner) -> Rules:
-    yield at + size > STORE, "store", f"{name} {owner.local(at)} with size {size} leaves the store, which ends at 0x{STORE:x}"
+    yield at + size > STORE, "store", f"{name} {owner.local(at)} with size {size} goes beyond the end of the local store, 0x{STORE:x}"
 
 
 def within_memory(name: str, at: int, size: int, owner: Owner) -> Rules:
-    yield at + size > owner.memory, "memory", f"{name} {owner.remote(at)} with size {size} leaves main memory, which ends at 0x{owner.memory:x}"
+    yield at + size > owner.memory, "memory", f"{name} {owner.remote(at)} with size {size} goes beyond the end of main memory, 0x{owner.memory:x}"
 
 
 def transfer_rules(local: str, ls: int, remote: str, ea: int, size: int, owner: Owner) -> Rules:
     """The rules of a transfer between an address of the store and one of main memory, each with what it is called."""
     here, there = f"{local} {owner.local(ls)}", f"{remote} {owner.remote(ea)}"
-    yield size > MOST_BYTES, "size", f"size {size} is above {MOST_BYTES}"
-    yield size % WHOLE != 0 and size not in SMALL, "size", f"size {size} is none of {', '.join(map(str, SMALL))} and no multiple of {WHOLE}"
+    yield size > MOST_BYTES, "size", f"size {size} is greater than {MOST_BYTES}"
+    yield size % WHOLE != 0 and size not in SMALL, "size", f"size {size} is not one of {', '.join(map(str, SMALL))} or a multiple of {WHOLE}"
     if 0 < size < WHOLE:
-        yield ea % size != 0, "alignment", f"{there} is no multiple of the size, {size}"
-        yield ls % WHOLE != ea % WHOLE, "alignment", f"the low four bits of {here} and {there} differ, and size {size} wants them equal"
+        yield ea % size != 0, "alignment", f"{there} is not a multiple of the size, {size}"
+        yield ls % WHOLE != ea % WHOLE, "alignment", f"the low four bits of {here} and {there} differ, but size {size} requires them to be equal"
     elif size:
-        yield from ((at % WHOLE != 0, "alignment", f"{what} is no multiple of {WHOLE}, which size {size} wants") for at, what in ((ls, here), (ea, there)))
+        yield from ((at % WHOLE != 0, "alignment", f"{what} is not a multiple of {WHOLE}, as size {size} requires") for at, what in ((ls, here), (ea, there)))
     yield from within_store(local, ls, size, owner)
     yield from within_memory(remote, ea, size, owner)
 
@@ -93,22 +93,22 @@ def of_transfer(asked: Asked, owner: Owner) -> Rules:
 
 
 def of_list(asked: Asked, owner: Owner) -> Rules:
-    yield asked.size % LIST_ENTRY != 0, "size", f"size {asked.size}, that of the list, is no multiple of {LIST_ENTRY}"
-    yield asked.size > MOST_BYTES, "size", f"size {asked.size}, that of the list, is above {MOST_BYTES}"
-    yield asked.low % LIST_ENTRY != 0, "alignment", f"EAL {owner.local(asked.low)}, the list's address in the store, is no multiple of {LIST_ENTRY}"
+    yield asked.size % LIST_ENTRY != 0, "size", f"list size {asked.size} is not a multiple of {LIST_ENTRY}"
+    yield asked.size > MOST_BYTES, "size", f"list size {asked.size} is greater than {MOST_BYTES}"
+    yield asked.low % LIST_ENTRY != 0, "alignment", f"EAL {owner.local(asked.low)}, the local store address of the list, is not a multiple of {LIST_ENTRY}"
     yield from within_store("the list at EAL", asked.low, asked.size, owner)
 
 
 def of_signal(asked: Asked, owner: Owner) -> Rules:
-    yield asked.size != SIGNAL, "size", f"size {asked.size} has to be {SIGNAL}"
-    yield asked.lsa % SIGNAL != 0, "alignment", f"LSA {owner.local(asked.lsa)} is no multiple of {SIGNAL}"
+    yield asked.size != SIGNAL, "size", f"size is {asked.size} and must be {SIGNAL}"
+    yield asked.lsa % SIGNAL != 0, "alignment", f"LSA {owner.local(asked.lsa)} is not a multiple of {SIGNAL}"
     yield from within_store("LSA", asked.lsa, SIGNAL, owner)
-    yield asked.low > MOST_REGISTER, "memory", f"EAL 0x{asked.low:x} is the number of no signal register: it is above {MOST_REGISTER}"
+    yield asked.low > MOST_REGISTER, "memory", f"EAL 0x{asked.low:x} is not the number of a signal register: it is greater than {MOST_REGISTER}"
 
 
 def of_line(asked: Asked, owner: Owner) -> Rules:
     for what, at in ((f"LSA {owner.local(asked.lsa)}", asked.lsa), (f"EAL {owner.remote(asked.low)}", asked.low)):
-        yield at % MEMORY_LINE != 0, "alignment", f"{what} is no multiple of {MEMORY_LINE}"
+        yield at % MEMORY_LINE != 0, "alignment", f"{what} is not a multiple of {MEMORY_LINE}"
     yield from within_store("LSA", asked.lsa, MEMORY_LINE, owner)
     yield from within_memory("EAL", asked.low, MEMORY_LINE, owner)
 
@@ -133,34 +133,34 @@ def rules_of(name: str) -> Callable[[Asked, Owner], Rules]:
 
 def command_rules(name: str, asked: Asked, owner: Owner) -> Rules:
     """All rules of a command, in the order in which they are tested."""
-    yield name not in ATOMIC and asked.tag > MOST_TAG, "tag", f"tag {asked.tag} is above {MOST_TAG}"
+    yield name not in ATOMIC and asked.tag > MOST_TAG, "tag", f"tag {asked.tag} is greater than {MOST_TAG}"
     yield from rules_of(name)(asked, owner)
-    yield name != "BARRIER" and asked.high != 0, "high", f"EAH is 0x{asked.high:x} and has to be 0"
+    yield name != "BARRIER" and asked.high != 0, "high", f"EAH is 0x{asked.high:x} and must be 0"
 
 
 def broken_by_command(opcode: int, asked: Asked, owner: Owner) -> Broken:
     """What a command breaks; None where it breaks nothing."""
     name = NAMES_OF_COMMANDS.get(opcode & LOW_HALF)
     if name is None:
-        return "opcode", f"0x{opcode & LOW_HALF:x} is the opcode of no command"
+        return "opcode", f"0x{opcode & LOW_HALF:x} is not the opcode of a command"
     return first_broken(command_rules(name, asked, owner))
 
 
 def broken_by_element(place: int, ea: int, size: int, owner: Owner) -> Broken:
     """What an element of a list breaks that is the next to come at a place in the store; None where it breaks nothing."""
     ls = place + ea % WHOLE if size < WHOLE else place
-    return first_broken(transfer_rules("its place", ls, "its address", ea, size, owner))
+    return first_broken(transfer_rules("its local store address", ls, "its effective address", ea, size, owner))
 
 
 def broken_by_channel(word: int) -> str:
     """Why a processor can't execute an instruction of a channel."""
     channel, opcode = channel_of(word) or 0, word >> 21
-    way = {READ: "reads", WRITE: "writes"}.get(opcode, "counts")
     if channel in ABSENT:
-        return f"it {way} channel {channel}, {ABSENT[channel]}: {ABSENT_NAMES[ABSENT[channel].lower()]}"
+        return f"channel {channel} ({ABSENT[channel]}) is not supported: {ABSENT_NAMES[ABSENT[channel].lower()]}"
     if channel not in NAMES:
-        return f"it {way} {channel_name(channel)}, which isn't there"
-    return f"it {way} {channel_name(channel)}, which can only be {'written' if opcode == READ else 'read'} and counted"
+        return f"there is no channel {channel}"
+    other, done = ("written", "read") if opcode == READ else ("read", "written")
+    return f"{channel_name(channel)} can only be {other} and counted, not {done}"
 
 
 # ---- of a run
@@ -179,7 +179,7 @@ class Faults:
         if not has_fault(spe):
             return None
         if spe.status.startswith("badword"):
-            return f"the word 0x{spe.word:08x} spells no instruction"
+            return f"0x{spe.word:08x} is not an instruction"
         if spe.status.startswith("badchannel"):
             return broken_by_channel(spe.word or 0)
         return self.of_element(spe) if self.is_element(spe) else self.of_command(spe, state)
@@ -190,8 +190,8 @@ class Faults:
         if not words:
             return None
         if spe.status == HALTED:
-            return f"processor {spe.number} halted at {words}"
-        return f"{f'processor {spe.number} {spe.status}' if self.is_element(spe) else self.standing.stands(spe)}: {words}"
+            return f"SPU {spe.number} halted at {words}"
+        return f"{f'SPU {spe.number} {spe.status}' if self.is_element(spe) else self.standing.stands(spe)}: {words}"
 
     def of_halt(self, spe: Spe) -> str:
         """The instruction that halted a processor, with its place and the values that it compared, which are in the registers still."""
@@ -235,7 +235,7 @@ class Faults:
         words = self.run.bytes_of(step.reads) if step.reads else b""
         size, ea = int.from_bytes(words[:4], "big") % ELEMENT_SIZES, int.from_bytes(words[4:], "big")
         issue = trace.issues[command.key]
-        what = f"element {number} of command {command.number} ({name_of(command)}, issued in step {issue}, at {Teller(trace, self.standing.sites).site(issue)})"
+        what = f"list element {number} of command {command.number} ({name_of(command)}, issued in step {issue}, at {Teller(trace, self.standing.sites).site(issue)})"
         return said(spe, what, broken_by_element(place_behind(trace, command.ls, last), ea, size, self.owner(spe)))
 
 
@@ -260,7 +260,7 @@ def place_behind(trace: Trace, lsa: int, last: int) -> int:
 def said(spe: Spe, what: str, broken: Broken) -> str:
     """The sentence of a refusal. That what is broken is of the kind that the status names is tested, and not believed."""
     kind = spe.status.split()[-1]
-    words = broken[1] if broken and broken[0] == kind else f"the test of kind `{kind}` fails, which docs/reference/machine.md has"
+    words = broken[1] if broken and broken[0] == kind else f"it breaks rule `{kind}` of docs/reference/machine.md"
     return f"{what} is refused: {words}"
 
 

@@ -4,11 +4,10 @@ from typing import Iterable, Iterator, List, Mapping, Optional, Sequence, Tuple
 from celltools.run.effects import Command
 from celltools.source.channels import SIGNAL_REGISTERS, events_in
 from celltools.source.names import NONE, Names
-from celltools.telling.words import ATOMIC, BOXES, name_of, signal_register, tags
+from celltools.telling.words import ATOMIC, BOXES, counted, name_of, request_of, signal_register, tags
 
 Told = Mapping[str, Sequence[str]]  # the fields of a line by their names
-HOW = {"0": "at once", "1": "any"}
-STATUSES = {"0": "PUTLLC stored", "1": "PUTLLC lost its line", "2": "PUTLLUC", "4": "GETLLAR"}
+STATUSES = {"0": "PUTLLC succeeded", "1": "PUTLLC failed: its reservation was lost", "2": "PUTLLUC", "4": "GETLLAR"}
 
 
 def fields_of(line: str) -> Tuple[List[str], Told]:
@@ -18,27 +17,27 @@ def fields_of(line: str) -> Tuple[List[str], Told]:
 
 
 def flow_lines(told: Told, spe: int, names: Names) -> Iterator[str]:
-    """A processor's flow controller beside its outstanding commands, in words."""
+    """A processor's MFC without its outstanding commands, in words."""
     lsa, high, low, size, tag = map(int, told["params"])
     yield f"next command: LSA {names.address(spe, lsa)}, EAH 0x{high:x}, EAL 0x{low:x}, size {size}, tag {tag}"
     yield f"tag mask: {groups_of(told['mask'][0])}"
     if "request" in told:
         how, groups = told["request"]
-        yield f"pending tag request: {HOW.get(how, 'all')} {tags(int(groups))}"
+        yield f"pending tag status request: {request_of(int(how), int(groups))}"
     if "fixed" in told:
         groups, issued = told["fixed"]
-        yield f"unread tag status: {groups_of(groups)}, fixed when {issued} commands had been issued"
+        yield f"unread tag status: {groups_of(groups)}, taken after {counted(int(issued), 'command')} had been issued"
     if "stalls" in told:
-        yield f"unread stall status: {groups_of(told['stalls'][0])}"
+        yield f"unread list stall status: {groups_of(told['stalls'][0])}"
     if "atomic" in told:
         kind, local, line = told["atomic"]
-        yield f"atomic command in its slot: {ATOMIC[kind]} of {names.line(int(line))}, {names.address(spe, int(local))} of the store"
+        yield f"outstanding atomic command: {ATOMIC[kind]} of {names.line(int(line))}, at {names.address(spe, int(local))} in the local store"
     if "status" in told:
         status = told["status"][0]
-        yield f"unread atomic status: {status}, {STATUSES.get(status, 'unknown')}"
+        yield f"unread atomic status: {status} ({STATUSES.get(status, 'unknown')})"
     if "reserved" in told:
         line, state = told["reserved"]
-        yield f"reservation: of {names.line(int(line))}, {'held' if state == 'held' else 'lost: a store has touched it since'}"
+        yield f"reservation: {names.line(int(line))}, {'held' if state == 'held' else 'lost to a later store'}"
     for box in (box for box in BOXES if box in told):
         yield f"{BOXES[box].removeprefix('the ')}: {', '.join(f'0x{int(value):x}' for value in told[box])}"
 
@@ -64,7 +63,7 @@ def signal_of(told: Told, register: int) -> Optional[int]:
 def signal_line(told: Told, register: int, is_or: bool) -> str:
     """The same in words."""
     value = signal_of(told, register)
-    return f"signal register {register}: {'nothing' if value is None else f'0x{value:x}'}, in {'OR' if is_or else 'overwrite'} mode"
+    return f"signal register {register}: {'empty' if value is None else f'0x{value:x}'}, {'OR' if is_or else 'overwrite'} mode"
 
 
 def used_lines(told: Told, in_or_mode: Sequence[int]) -> Iterator[str]:
@@ -74,14 +73,14 @@ def used_lines(told: Told, in_or_mode: Sequence[int]) -> Iterator[str]:
 
 
 def groups_of(groups: str) -> str:
-    return f"0x{int(groups):08x}, {tags(int(groups))}"
+    return f"0x{int(groups):08x} ({tags(int(groups))})"
 
 
 def command_line(words: Sequence[str], told: Told, names: Names) -> str:
     """An outstanding command in words."""
     spe, number, kind, mark, *rest = words
     command = Command(int(spe), int(number), kind, mark, *map(int, rest))
-    return f"command {number}: {name_of(command)} of tag {command.tag}{moved(command, names)}{', '.join(['', *left_of(told, names)])}"
+    return f"command {number}: {name_of(command)}, tag {command.tag}{moved(command, names)}{', '.join(['', *left_of(told, names)])}"
 
 
 def moved(command: Command, names: Names) -> str:
@@ -90,10 +89,10 @@ def moved(command: Command, names: Names) -> str:
         return ""
     local = names.address(command.spe, command.ls)
     if command.kind in ("putl", "getl"):
-        return f", a list of {command.size} bytes at {names.address(command.spe, command.ea)} of the store, elements from {local} on"
+        return f", list of {command.size} bytes at {names.address(command.spe, command.ea)} in the local store, data at {local}"
     if command.kind == "sndsig":
-        return f", {command.size} bytes from {local} of the store to {signal_register(command.ea)}"
-    store, memory = f"{local} of the store", f"{names.address(None, command.ea)} of main memory"
+        return f", {command.size} bytes from {local} in the local store to {signal_register(command.ea)}"
+    store, memory = f"{local} in the local store", f"{names.address(None, command.ea)} in main memory"
     source, target = (memory, store) if command.kind == "get" else (store, memory)
     return f", {command.size} bytes from {source} to {target}"
 
@@ -101,16 +100,16 @@ def moved(command: Command, names: Names) -> str:
 def left_of(told: Told, names: Names) -> Iterator[str]:
     """What is left of an outstanding command."""
     if "read" in told:
-        yield "{} of {} elements read".format(*told["read"])
+        yield "{} of {} list elements fetched".format(*told["read"])
     left, parts = told.get("left", ("0", "0"))
     if "element" in told:
         number, _, flagged, memory, size = told["element"]
-        stalls = ", behind which it stalls" if flagged == "1" else ""
-        yield f"{left} of {parts} pieces left of element {number} ({size} bytes at {names.address(None, int(memory))} of main memory{stalls})"
+        stalls = ", stall flag set" if flagged == "1" else ""
+        yield f"{left} of {parts} pieces left of list element {number} ({size} bytes at {names.address(None, int(memory))} in main memory{stalls})"
     elif parts != "0":
         yield f"{left} of {parts} pieces left"
     if "stalled" in told:
-        yield "stalled: it waits for an acknowledgement of its tag (`wrch` of channel 26)"
+        yield "stalled until its tag is acknowledged (wrch $ch26)"
 
 
 def in_words(line: str, or_modes: Iterable[Tuple[int, int]], names: Names = NONE) -> List[str]:
@@ -122,5 +121,5 @@ def in_words(line: str, or_modes: Iterable[Tuple[int, int]], names: Names = NONE
     if name == "flow":
         spe = int(words[0])
         in_or_mode = [register for other, register in or_modes if other == spe]
-        return [f"flow controller {spe}", *(f"    {said}" for said in [*flow_lines(told, spe, names), *used_lines(told, in_or_mode)])]
+        return [f"MFC {spe}", *(f"    {said}" for said in [*flow_lines(told, spe, names), *used_lines(told, in_or_mode)])]
     return [f"    {command_line(words, told, names)}"] if name == "command" else []

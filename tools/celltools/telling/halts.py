@@ -15,8 +15,8 @@ class Halt(NamedTuple):
 
 # By how many bits an opcode has, and the opcode.
 HALTS: Dict[Tuple[int, int], Halt] = {
-    (11, 0x3D8): Halt("equals", True, False), (11, 0x258): Halt("is above", True, False), (11, 0x2D8): Halt("is above", False, False),
-    (8, 0x7F): Halt("equals", True, True), (8, 0x4F): Halt("is above", True, True), (8, 0x5F): Halt("is above", False, True),
+    (11, 0x3D8): Halt("equals", True, False), (11, 0x258): Halt("is greater than", True, False), (11, 0x2D8): Halt("is greater than", False, False),
+    (8, 0x7F): Halt("equals", True, True), (8, 0x4F): Halt("is greater than", True, True), (8, 0x5F): Halt("is greater than", False, True),
 }  # fmt: skip
 
 
@@ -33,7 +33,7 @@ def condition_of(word: int, register: Callable[[int], str]) -> str:
     """The condition of a halt instruction, with the values that it compared. `register` answers the hexadecimal digits of a register."""
     halt = halt_of(word)
     if halt is None:
-        return f"the word 0x{word:08x} is no halt instruction"
+        return f"0x{word:08x} is not a halt instruction"
     first = word >> 7 & FIELD
     left = value_of(first, register)
     if halt.is_immediate:

@@ -11,15 +11,15 @@ from celltools.run.effects import MEMORY_LINE, NO_COMMAND, Command, Step, Trace,
 from celltools.source.channels import EVENT_ACK, events_in
 from celltools.source.target_registers import ends_rightly
 from celltools.telling.executed import Executed
-from celltools.telling.flows import HOW, STATUSES
+from celltools.telling.flows import STATUSES
 from celltools.telling.halts import halt_of
-from celltools.telling.words import ATOMIC, BOXES, over_untaken, tags
+from celltools.telling.words import ATOMIC, BOXES, over_untaken, request_of, tags
 
 PLACES = 16  # of a queue
 ELEMENT_BYTES = 8
 LOST, SIGNAL_1, SIGNAL_2, OUTBOUND, INTERRUPT, INBOUND, QUEUE, STALL, TAG = 0x400, 0x200, 0x100, 0x80, 0x40, 0x10, 0x8, 0x2, 0x1
 SIGNALS = {1: SIGNAL_1, 2: SIGNAL_2}
-DONE = {0: "is stored", 1: "isn't stored: its line was no longer reserved"}  # by the status of a PUTLLC
+DONE = {0: "succeeds", 1: "fails: its reservation was lost"}  # by the status of a PUTLLC
 ROOM = {"out": OUTBOUND, "intr": INTERRUPT}
 Key = Union[int, str, None]  # of what happens
 
@@ -115,7 +115,7 @@ class Happenings:
 
     def raise_event(self, spe: int, bit: int) -> None:
         self.flows[spe].pending |= bit
-        self.tell(Kind.EVENT, spe, bit, f"raises the event {events_in(bit)} at processor {spe}")
+        self.tell(Kind.EVENT, spe, bit, f"raises event {events_in(bit)} at SPU {spe}")
 
     # ---- one step
 
@@ -142,20 +142,20 @@ class Happenings:
         kind, _, number = step.told["atomic"]
         spe, at = step.processor, int(number) * MEMORY_LINE
         flow = self.flows[spe]
-        name = f"processor {spe}'s reservation of the line at 0x"
+        name = f"SPU {spe}'s reservation of line 0x"
         if step.writes and step.writes.spe is None:
             self.store(step, own=spe)
         if kind == "getllar":
             if flow.line not in (None, at):
-                self.tell(Kind.RESERVATION, spe, flow.line, f"ends {name}{flow.line:x}, by another one")
+                self.tell(Kind.RESERVATION, spe, flow.line, f"ends {name}{flow.line:x} (a GETLLAR of another line)")
             flow.line = at
             self.tell(Kind.RESERVATION, spe, at, f"begins {name}{at:x}")
         elif kind == "putllc":
             if flow.line is not None:
-                self.tell(Kind.RESERVATION, spe, flow.line, f"ends {name}{flow.line:x}, by its own PUTLLC")
+                self.tell(Kind.RESERVATION, spe, flow.line, f"ends {name}{flow.line:x} (its own PUTLLC)")
             flow.line = None
             if step.number("status") == 1:
-                self.tell(Kind.LOST, spe, at, f"the PUTLLC of processor {spe} isn't stored: the line at 0x{at:x} was no longer reserved")
+                self.tell(Kind.LOST, spe, at, f"the PUTLLC of line 0x{at:x} by SPU {spe} fails: its reservation was lost")
 
     def store(self, step: Step, own: Optional[int]) -> None:
         """Bytes of main memory are written, which ends the reservations of their lines."""
@@ -168,7 +168,7 @@ class Happenings:
             if spe == own and is_conditional:
                 continue
             line, self.flows[spe].line = self.flows[spe].line, None
-            self.tell(Kind.RESERVATION, spe, line, f"ends processor {spe}'s reservation of the line at 0x{line:x}, by a store")
+            self.tell(Kind.RESERVATION, spe, line, f"ends SPU {spe}'s reservation of line 0x{line:x} (a store)")
             if spe != own:
                 self.raise_event(spe, LOST)
 
@@ -212,14 +212,14 @@ class Happenings:
         flow, tag = self.flows[step.processor], one.command.tag
         one.is_stalled = True
         had, flow.stalls = flow.stalls, flow.stalls | 1 << tag
-        self.tell(Kind.STALL, step.processor, 1 << tag, f"command {step.command} of processor {step.processor}, of tag {tag}, stalls behind its element {one.read - 1}")
+        self.tell(Kind.STALL, step.processor, 1 << tag, f"command {step.command} of SPU {step.processor} (tag {tag}) stalls after list element {one.read - 1}")
         if not had:
             self.raise_event(step.processor, STALL)
 
     def read_stalls(self, step: Step) -> None:
         groups = step.number("stalls") or 0
         self.flows[step.processor].stalls = 0
-        self.tell(Kind.STALL, step.processor, groups, f"processor {step.processor} reads the stall status, 0x{groups:08x}, {tags(groups)}, which clears it")
+        self.tell(Kind.STALL, step.processor, groups, f"SPU {step.processor} reads and clears the list stall status 0x{groups:08x} ({tags(groups)})")
 
     def acknowledge_stall(self, step: Step) -> None:
         flow, tag = self.flows[step.processor], step.number("ack") or 0
@@ -227,15 +227,15 @@ class Happenings:
         for number in resumed:
             flow.outstanding[number].is_stalled = False
         numbers = ", ".join(map(str, resumed))
-        what = "no list of it stalls" if not resumed else f"command {numbers} no longer stalls" if len(resumed) == 1 else f"commands {numbers} no longer stall"
-        self.tell(Kind.STALL, step.processor, 1 << tag if tag < 32 else 0, f"processor {step.processor} acknowledges the stall of tag {tag}: {what}")
+        what = "no list with this tag is stalled" if not resumed else f"command {numbers} resumes" if len(resumed) == 1 else f"commands {numbers} resume"
+        self.tell(Kind.STALL, step.processor, 1 << tag if tag < 32 else 0, f"SPU {step.processor} acknowledges the stall of tag {tag}: {what}")
         self.complete(step.processor, [number for number in resumed if flow.outstanding[number].is_complete()])
 
     # ---- mailboxes and signals
 
     def put(self, step: Step) -> None:
         spe, box = mailbox(step)
-        self.tell(Kind.MAILBOX, spe, box, f"puts 0x{int(step.told['put'][2]):x} into {BOXES[box]} of processor {spe}")
+        self.tell(Kind.MAILBOX, spe, box, f"writes 0x{int(step.told['put'][2]):x} to {BOXES[box]} of SPU {spe}")
         counts = self.flows[spe].counts
         counts[box] += 1
         if box == "in" and counts[box] == 1:
@@ -243,7 +243,7 @@ class Happenings:
 
     def take(self, step: Step) -> None:
         spe, box = mailbox(step)
-        self.tell(Kind.MAILBOX, spe, box, f"takes 0x{int(step.told['take'][2]):x} out of {BOXES[box]} of processor {spe}")
+        self.tell(Kind.MAILBOX, spe, box, f"reads 0x{int(step.told['take'][2]):x} from {BOXES[box]} of SPU {spe}")
         self.flows[spe].counts[box] -= 1
         if box in ROOM:
             self.raise_event(spe, ROOM[box])
@@ -254,12 +254,12 @@ class Happenings:
         if "deliver" not in step.told:
             ready.discard(register)
             self.flows[spe].delivered[register] = []
-            self.tell(Kind.SIGNAL, spe, register, f"takes 0x{step.number('rdch', 1):x} out of signal register {register} of processor {spe}")
+            self.tell(Kind.SIGNAL, spe, register, f"reads 0x{step.number('rdch', 1):x} from signal register {register} of SPU {spe}")
             return
         value, before = step.number("deliver") or 0, self.flows[spe].delivered.get(register, [])
         over = over_untaken(before, value, (spe, register) in self.executed.sites.or_modes)
         self.flows[spe].delivered[register] = [value, *before]
-        self.tell(Kind.SIGNAL, spe, register, f"delivers 0x{value:x} to signal register {register} of processor {spe}{over}")
+        self.tell(Kind.SIGNAL, spe, register, f"delivers 0x{value:x} to signal register {register} of SPU {spe}{over}")
         if register not in ready:
             ready.add(register)
             self.raise_event(spe, SIGNALS[register])
@@ -273,24 +273,24 @@ class Happenings:
         if channel == EVENT_ACK:
             cleared = self.flows[step.processor].pending & value
             self.flows[step.processor].pending &= ~value
-            pending = "which was pending" if cleared == value else f"of which {events_in(cleared)} was pending" if cleared else "which wasn't pending"
-            self.tell(Kind.EVENT, step.processor, value, f"acknowledges {events_in(value)} at processor {step.processor}, {pending}")
+            pending = "which was pending" if cleared == value else f"of which {events_in(cleared)} was pending" if cleared else "which was not pending"
+            self.tell(Kind.EVENT, step.processor, value, f"acknowledges {events_in(value)} at SPU {step.processor}, {pending}")
 
     # ---- tag groups
 
     def request(self, step: Step) -> None:
         how, groups = step.number("request") or 0, step.number("request", 1) or 0
         self.flows[step.processor].asked = groups
-        self.tell(Kind.TAG, step.processor, groups, f"processor {step.processor} asks for a tag status: {HOW.get(str(how), 'all')} {tags(groups)}")
+        self.tell(Kind.TAG, step.processor, groups, f"SPU {step.processor} requests a tag status: {request_of(how, groups)}")
 
     def fixed(self, step: Step) -> None:
         asked = self.flows[step.processor].asked
-        self.tell(Kind.TAG, step.processor, asked, f"fixes the tag status that processor {step.processor} asked for {tags(asked)}")
+        self.tell(Kind.TAG, step.processor, asked, f"makes the tag status of SPU {step.processor} available ({tags(asked)})")
         self.raise_event(step.processor, TAG)
 
     def read_tags(self, step: Step) -> None:
         groups = step.number("tags") or 0
-        self.tell(Kind.TAG, step.processor, groups, f"processor {step.processor} takes the tag status 0x{groups:08x}, {tags(groups)}")
+        self.tell(Kind.TAG, step.processor, groups, f"SPU {step.processor} reads the tag status 0x{groups:08x} ({tags(groups)})")
 
     # ---- atomic commands
 
@@ -298,25 +298,25 @@ class Happenings:
         """An atomic command that is issued, or done."""
         kind, _, number = step.told["atomic"]
         line = int(number) * MEMORY_LINE
-        name = f"{ATOMIC[kind]} of the line at 0x{line:x}"
+        name = f"{ATOMIC[kind]} of line 0x{line:x}"
         self.flows[step.processor].atomic = line
         if step.kind == "instruction":
-            self.tell(Kind.ATOMIC, step.processor, line, f"processor {step.processor} issues a {name}")
+            self.tell(Kind.ATOMIC, step.processor, line, f"SPU {step.processor} issues a {name}")
         else:
-            self.tell(Kind.ATOMIC, step.processor, line, f"the {name} of processor {step.processor} {DONE.get(step.number('status') or 0, 'is done')}")
+            self.tell(Kind.ATOMIC, step.processor, line, f"the {name} by SPU {step.processor} {DONE.get(step.number('status') or 0, 'completes')}")
 
     def read_atomic(self, step: Step) -> None:
         status = step.number("rdch", 1) or 0
-        self.tell(Kind.ATOMIC, step.processor, self.flows[step.processor].atomic, f"processor {step.processor} takes the atomic status {status} ({STATUSES.get(str(status), 'unknown')})")
+        self.tell(Kind.ATOMIC, step.processor, self.flows[step.processor].atomic, f"SPU {step.processor} reads the atomic status {status} ({STATUSES.get(str(status), 'unknown')})")
 
     # ---- faults
 
     def end(self, step: Step) -> None:
         """A processor runs no more: by a fault, unless its instruction is a stop or a halt."""
         if step.kind == "element" or not ends_rightly(self.executed.word(self.place)):
-            self.tell(Kind.FAULT, step.processor, None, f"a fault ends processor {step.processor}")
+            self.tell(Kind.FAULT, step.processor, None, f"a fault stops SPU {step.processor}")
         elif halt_of(self.executed.word(self.place)):
-            self.tell(Kind.HALT, step.processor, None, f"a halt instruction ends processor {step.processor}")
+            self.tell(Kind.HALT, step.processor, None, f"a halt instruction stops SPU {step.processor}")
 
 
 BY_FIELD: Dict[str, Callable[[Happenings, Step], None]] = {

@@ -28,9 +28,9 @@ def of_step(words: Words, state: State, head: str) -> List[str]:
     if state.end == "Budget":
         return [ENDS["Budget"]]
     if kind == "h":
-        return [line.strip() for line in words.host(state)] or ["the machine file has no action of the host"]
+        return [line.strip() for line in words.host(state)] or ["the machine file has no host actions"]
     if number is None or number >= len(state.spes):
-        return [f"the machine file has no processor {number}"]
+        return [f"the machine file has no SPU {number}"]
     spe = state.spes[number]
     return of_processor(words, state, spe) if kind == "x" else of_controller(words, state, spe, head)
 
@@ -44,10 +44,10 @@ def of_processor(words: Words, state: State, spe: Spe) -> List[str]:
 def of_controller(words: Words, state: State, spe: Spe, head: str) -> List[str]:
     """What a flow controller has to do."""
     if spe.status.startswith("dmafault"):
-        return [f"processor {spe.number} has a fault, {spe.status}: its flow controller makes no step any more"]
+        return [f"SPU {spe.number} has a fault ({spe.status}), so its MFC makes no more steps"]
     if head.startswith("a "):
-        return [f"no atomic command of processor {spe.number} is in its slot"]
+        return [f"SPU {spe.number} has no outstanding atomic command"]
     key = spe.number, int(head.split()[2])
     if key not in words.run.trace.commands:
-        return [f"command {key[1]} of processor {spe.number} isn't issued before"]
-    return [f"of processor {spe.number} these commands are outstanding:", *words.queue(spe.number, state)]
+        return [f"command {key[1]} of SPU {spe.number} has not been issued"]
+    return [f"outstanding commands of SPU {spe.number}:", *words.queue(spe.number, state)]

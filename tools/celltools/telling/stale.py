@@ -11,8 +11,8 @@ from celltools.run.runs import Path, Refused
 from celltools.telling.not_allowed import reason
 
 STEPS = {
-    "x": "an instruction of processor {0}", "p": "piece {3} of command {1} of processor {0}", "e": "the reading of an element of command {1} of processor {0}",
-    "r": "the end of command {1} of processor {0}", "a": "the atomic command of processor {0}", "h": "an action of the host",
+    "x": "an instruction of SPU {0}", "p": "piece {3} of command {1} of SPU {0}", "e": "the fetch of a list element of command {1} of SPU {0}",
+    "r": "the completion of command {1} of SPU {0}", "a": "the atomic command of SPU {0}", "h": "a host action",
 }  # fmt: skip
 NO_NAMES = ("/dev/", "/proc/")  # what is there stands for an open file
 
@@ -22,7 +22,7 @@ def told(machine: Path, record: Path, place: Optional[int]) -> List[str]:
     newer = list(newer_files(machine, record))
     lines = [] if place is None else told_step(machine, record, place)
     if newer:
-        lines.append(f"the record is older than {' and '.join(newer)}: make it anew with ./cell run {quoted(machine)} >{quoted(record)}")
+        lines.append(f"the record is older than {' and '.join(newer)}: make it again with ./cell run {quoted(machine)} >{quoted(record)}")
     return lines
 
 
@@ -30,12 +30,12 @@ def told_step(machine: Path, record: Path, place: int) -> List[str]:
     """What the step at a place is in the record, and how the machine stands there now."""
     heads = steps_in(decoded(bytes_of(record, MOST_RECORD_BYTES)))
     letter, *numbers = heads[place].split()
-    was = f"in the record step {place} is `{heads[place]}`, {STEPS[letter].format(*numbers)}; as the files are now"
+    was = f"step {place} of the record is `{heads[place]}`, {STEPS[letter].format(*numbers)}"
     try:
         with tempfile.TemporaryDirectory(prefix="cell-stale-") as folder:
-            return [f"{was}, before it:", *(f"    {line}" for line in reason(machine, folder, heads, place))]
+            return [f"{was}; with the present files, the state before it is:", *(f"    {line}" for line in reason(machine, folder, heads, place))]
     except Refused:
-        return [f"{was}, it can't come there"]
+        return [f"{was}; with the present files, it cannot come there"]
 
 
 def newer_files(machine: Path, record: Path) -> Iterator[str]:

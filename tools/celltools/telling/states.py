@@ -13,9 +13,9 @@ from celltools.telling.waiting import Standing
 from celltools.telling.words import ATOMIC, Teller, with_article
 
 ENDS = {
-    "AllStopped": "the run has ended: no processor runs, and no command is outstanding",
-    "Stuck": "the run is stuck: no step is allowed any more",
-    "Budget": "the budget is spent: the machine file allows no further step",
+    "AllStopped": "the run has ended (AllStopped): no SPU runs, and no command is outstanding",
+    "Stuck": "deadlock (Stuck): no further step is possible",
+    "Budget": "the budget is spent (Budget): the machine file allows no further step",
 }
 ROW = 16  # bytes of a line
 LAST_PRINTABLE = 0x7E
@@ -83,12 +83,12 @@ class Words(Standing):
         spe = numbers[0]
         if letter == "a":
             kind, _, line = self.flow(spe, state)["atomic"]
-            return f"{with_article(ATOMIC[kind])} of {self.sites.names.line(int(line))}, of processor {spe}"
+            return f"{with_article(ATOMIC[kind])} of {self.sites.names.line(int(line))} by SPU {spe}"
         command = self.teller().command_of(self.run.trace.commands[spe, numbers[1]])
         if letter == "p":
-            element = f" of element {numbers[2]}" if (spe, numbers[1]) in self.run.trace.elements else ""
+            element = f" of list element {numbers[2]}" if (spe, numbers[1]) in self.run.trace.elements else ""
             return f"piece {numbers[3]}{element} of {command}"
-        return f"{'the next element' if letter == 'e' else 'the end'} of {command}"
+        return f"{'the fetch of the next list element' if letter == 'e' else 'the completion'} of {command}"
 
     # ---- steps that were made
 
@@ -120,7 +120,7 @@ class Words(Standing):
         for old, new in zip(before.spes, after.spes):
             for number in sorted(old.registers.keys() | new.registers.keys()):
                 if old.register(number) != new.register(number):
-                    whose = f" of processor {old.number}" if len(before.spes) > 1 else ""
+                    whose = f" of SPU {old.number}" if len(before.spes) > 1 else ""
                     yield f"    ${number}{whose} = {quad(new.register(number))}"
         for took in after.took[len(before.took):]:
             yield f"    the host {took}"
@@ -130,7 +130,7 @@ class Words(Standing):
     def queue(self, spe: int, state: State) -> List[str]:
         """The outstanding commands of a processor."""
         lines = [command_line(*self.command_fields(line), self.sites.names) for number, line in state.flows if number == spe and line.startswith("command ")]
-        return lines or [f"no command of processor {spe} is in the queue"]
+        return lines or [f"the MFC command queue of SPU {spe} is empty"]
 
     def command_fields(self, line: str) -> Tuple[List[str], Told]:
         (_, *words), told = fields_of(line)

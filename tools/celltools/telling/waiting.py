@@ -11,16 +11,16 @@ from celltools.run.snapshots import steps_of
 from celltools.source.channels import ATOMIC, COMMAND, EVENT_STATUS, channel_name, channel_of, events_in, may_wait
 from celltools.source.disassembly import Disassembler
 from celltools.source.sites import Sites
-from celltools.telling.flows import HOW, Told, events_of, fields_of
-from celltools.telling.words import counted, tags
+from celltools.telling.flows import Told, events_of, fields_of
+from celltools.telling.words import counted, request_of
 
-TAG_UPDATE = 23
+REQUEST = "wrch $ch23 (MFC_WrTagUpdate)"  # which requests a tag status
 FETCHED = re.compile(r" \| fetch \d+ (\d+) ")
 
 WAITS = {
-    3: "nothing is in signal register 1",
-    4: "nothing is in signal register 2",
-    27: "no atomic status is there",
+    3: "signal register 1 is empty",
+    4: "signal register 2 is empty",
+    27: "no atomic status is available",
     28: "the outbound mailbox is full",
     29: "the inbound mailbox is empty",
     30: "the outbound interrupt mailbox is full",
@@ -65,8 +65,8 @@ class Standing:
             return str(site)
         text = self.words.text(at, word)
         if not site:
-            return f"no line placed it: {text}"
-        return f"{site.place}: {text}" + ("" if site.word == word else f" (written over: it was {site.text})")
+            return f"no source line: {text}"
+        return f"{site.place}: {text}" + ("" if site.word == word else f" (overwritten; was {site.text})")
 
     def learn(self, state: State) -> None:
         """Asks at once for the texts of all instructions that no source has as they stand."""
@@ -75,7 +75,7 @@ class Standing:
 
     def stands(self, spe: Spe) -> str:
         """Where a processor is."""
-        place = f"processor {spe.number} {spe.status} at 0x{spe.pc:05x}"
+        place = f"SPU {spe.number} {spe.status} at 0x{spe.pc:05x}"
         return f"{place}, {self.instruction(spe)}" if is_at_instruction(spe) else place
 
     def waits(self, spe: Spe, state: State) -> Optional[str]:
@@ -83,8 +83,8 @@ class Standing:
         if not spe.runs or f"x {spe.number}" in state.may or state.end == "Budget" or spe.word is None or not may_wait(spe.word):
             return None
         channel = channel_of(spe.word) or EVENT_STATUS
-        why = NO_VALUE[channel](self, spe, state) if channel in NO_VALUE else WAITS.get(channel, "it has no count")
-        return f"it waits at channel {channel}: {why}"
+        why = NO_VALUE[channel](self, spe, state) if channel in NO_VALUE else WAITS.get(channel, "its count is 0")
+        return f"waits on {channel_name(channel)}: {why}"
 
     def remark(self, spe: Spe, state: State) -> Optional[str]:
         """What there is to say of how a processor stands: what it waits for, if it does."""
@@ -93,13 +93,13 @@ class Standing:
     def no_event(self, spe: Spe, state: State) -> str:
         """Why a processor has no event that it could read."""
         mask, pending = events_of(self.flow(spe.number, state))
-        outside = f"; pending outside it: {events_in(pending)}" if pending else ""
-        return (f"no event of its mask, {events_in(mask)}, is pending" if mask else "its event mask is 0, so no event shows") + outside
+        outside = f"; pending but not in the mask: {events_in(pending)}" if pending else ""
+        return (f"no event of its mask {events_in(mask)} is pending" if mask else "its event mask is 0") + outside
 
     def no_place(self, spe: Spe, state: State) -> str:
         """Why a command isn't issued: an atomic one needs the slot, every other one a place of the queue."""
         opcode = int(spe.register((spe.word or 0) & 0x7F)[4:8], 16)  # the lower halfword of word 0
-        return "an atomic command is in the slot" if opcode in ATOMIC else "all places of the queue are taken"
+        return "another atomic command is outstanding" if opcode in ATOMIC else "the MFC command queue is full"
 
     def no_tag_status(self, spe: Spe, state: State) -> str:
         """Why a tag status doesn't come: it isn't fixed yet, an earlier instruction took it, or none was asked for."""
@@ -107,16 +107,16 @@ class Standing:
         if "request" in flow:
             how, groups = flow["request"]
             outstanding = [fields_of(line) for number, line in state.flows if number == spe.number and line.startswith("command ")]
-            left = [f"command {words[2]} of tag {words[5]}{' (stalled)' if 'stalled' in told else ''}"
+            left = [f"command {words[2]} (tag {words[5]}{', stalled' if 'stalled' in told else ''})"
                     for words, told in outstanding if has_group(int(groups), int(words[5]))]
-            asked = f"{self.step_at(spe.number, requests.asked)} asked for {HOW.get(how, 'all')} {tags(int(groups))}"
-            return f"no tag status is there yet: {asked}, and {' and '.join(left) or 'nothing'} {'is' if len(left) < 2 else 'are'} outstanding"
+            asked = f"{self.step_at(spe.number, requests.asked)} requested {request_of(int(how), int(groups))}"
+            return f"the tag status is not available yet: {asked}, and {' and '.join(left) or 'nothing'} {'is' if len(left) < 2 else 'are'} outstanding"
         if requests.asked is None:
-            return f"no tag status is there, and none was asked for: ask by `wrch` of {channel_name(TAG_UPDATE)}"
+            return f"no tag status was requested: request one with {REQUEST}"
         if requests.taken is None:
-            return "no tag status is there"
+            return "no tag status is available"
         asked, taken = (self.step_at(spe.number, place) for place in (requests.asked, requests.taken))
-        return f"no tag status is there: the one asked for in {asked} was taken in {taken}; ask for another one (`wrch` of {channel_name(TAG_UPDATE)})"
+        return f"no tag status is available: the one requested in {asked} was read in {taken}; request another with {REQUEST}"
 
     def steps_made(self) -> Sequence[str]:
         """The effects of the steps that were made, as far as they are known."""
@@ -134,10 +134,10 @@ class Standing:
         """What is behind a stall status that has no bit: lists may wait for an acknowledgement of what was read before."""
         stalled = [fields_of(line)[0] for number, line in state.flows if number == spe.number and line.startswith("command ") and line.endswith("| stalled")]
         if not stalled:
-            return "no list has stalled"
-        named = " and ".join(f"command {words[2]} of tag {words[5]}" for words in stalled)
-        how = "has stalled, was read" if len(stalled) == 1 else "have stalled, were read"
-        return f"no stall is unread: {named} {how} and not acknowledged (`wrch` of channel 26)"
+            return "no list command has stalled"
+        named = " and ".join(f"command {words[2]} (tag {words[5]})" for words in stalled)
+        have, them = ("has", "its tag") if len(stalled) == 1 else ("have", "their tags")
+        return f"all stalls have been read, but {named} {have} not been acknowledged: write {them} with wrch $ch26"
 
     def where(self, state: State, looked_at: Optional[int]) -> Iterator[str]:
         """Where all processors are, and the host."""
@@ -154,8 +154,8 @@ class Standing:
         """How far the host has come."""
         done, actions = state.host
         if actions:
-            may = "" if done == actions or "h" in state.may else ", which isn't allowed yet"
-            yield f"  the host has done {done} of {counted(actions, 'action')}" + (f"; next {self.sites.action(done)}{may}" if done < actions else "")
+            may = "" if done == actions or "h" in state.may else " (not possible yet)"
+            yield f"  host: {done} of {counted(actions, 'action')} done" + (f"; next: {self.sites.action(done)}{may}" if done < actions else "")
 
     def flow(self, spe: int, state: State) -> Told:
         """What run_trace tells of a processor's flow controller, by names."""

@@ -9,21 +9,27 @@ from celltools.source.sites import Sites, callers
 
 COMMANDS = {"put": "PUT", "get": "GET", "putl": "PUTL", "getl": "GETL", "barrier": "BARRIER", "putqlluc": "PUTQLLUC",
             "sndsig": "SNDSIG"}
+HOW = {0: "the current status of", 1: "any of"}  # how a request of a tag status waits, by the number that is written; every other waits for all
 MARKS = {"-": "", "fence": "F", "barrier": "B"}
 ATOMIC = {"getllar": "GETLLAR", "putllc": "PUTLLC", "putlluc": "PUTLLUC"}
 DELIVERED = re.compile(r" \| deliver (\d+) ")
-OUTCOMES = {("putllc", 0): "stored", ("putllc", 1): "lost its line and didn't store"}
+OUTCOMES = {("putllc", 0): "succeeded", ("putllc", 1): "failed because its reservation was lost"}
 BOXES = {"in": "the inbound mailbox", "out": "the outbound mailbox", "intr": "the outbound interrupt mailbox"}
-OF_EVENTS = {("rdch", EVENT_STATUS): "the reading of the event status", ("rdch", EVENT_MASK_READ): "the reading of the event mask",
-             ("wrch", EVENT_MASK_WRITE): "the setting of the event mask", ("wrch", EVENT_ACK): "the acknowledgement of events"}
+OF_EVENTS = {("rdch", EVENT_STATUS): "a read of the event status", ("rdch", EVENT_MASK_READ): "a read of the event mask",
+             ("wrch", EVENT_MASK_WRITE): "a write of the event mask", ("wrch", EVENT_ACK): "an acknowledgement of events"}
 
 
 def tags(groups: int) -> str:
-    """The tags of a set of groups."""
+    """The tags of a set of tag groups."""
     named = [str(tag) for tag in range(32) if has_group(groups, tag)]
     if len(named) > 8:
-        return f"of groups 0x{groups:x}"
-    return "of no tag" if not named else ("of tag " if len(named) == 1 else "of tags ") + ", ".join(named)
+        return f"tag groups 0x{groups:x}"
+    return "no tag" if not named else ("tag " if len(named) == 1 else "tags ") + ", ".join(named)
+
+
+def request_of(how: int, groups: int) -> str:
+    """The tag status that a request asks for: at once, or when one or all of its groups are complete."""
+    return f"{HOW.get(how, 'all of')} {tags(groups)}"
 
 
 def name_of(command: Command) -> str:
@@ -32,11 +38,12 @@ def name_of(command: Command) -> str:
 
 def signal_register(number: int) -> str:
     """The signal register that a SNDSIG names by its effective address."""
-    return f"signal register {number % 2 + 1} of processor {number // 2}"
+    return f"signal register {number % 2 + 1} of SPU {number // 2}"
 
 
-def counted(count: int, what: str) -> str:
-    return f"{count} {what}" + ("" if count == 1 else "s")
+def counted(count: int, what: str, plural: str = "") -> str:
+    """A number with its noun, whose plural is regular unless one is given."""
+    return f"{count} {what if count == 1 else plural or f'{what}s'}"
 
 
 def with_article(name: str) -> str:
@@ -58,15 +65,15 @@ def held_before(trace: Trace, place: int) -> List[int]:
 
 
 def over_untaken(before: Sequence[int], value: int, is_or: bool) -> str:
-    """What a delivery of a value does to those in its signal register that nobody took, the latest first, as an ending; nothing if there are none."""
+    """What a delivery of a value does to those in its signal register that were never read, the latest first, as an ending; nothing if there are none."""
     if not before:
         return ""
     if not is_or:
-        return f" (overwrites 0x{before[0]:x}, which nobody took)"
+        return f" (overwrites 0x{before[0]:x}, which was never read)"
     held = 0
     for part in before:
         held |= part
-    return f" (makes 0x{held | value:x} with 0x{held:x}, which nobody took)"
+    return f" (ORed with 0x{held:x}, which was never read: 0x{held | value:x})"
 
 
 class Teller:
@@ -88,7 +95,7 @@ class Teller:
     def who(self, place: int) -> str:
         """The processor or the host whose step it is, that of a flow controller its processor."""
         spe = self.trace.steps[place].spe
-        return "the host" if spe is None else f"processor {spe}"
+        return "the host" if spe is None else f"SPU {spe}"
 
     def site(self, place: int) -> str:
         """Where an instruction or an action of the host stands."""
@@ -119,7 +126,7 @@ class Teller:
         at = self.program_step(place)
         lines = [f"at {self.site(at)}" if at == place else f"issued in step {at}, at {self.site(at)}"]
         if self.trace.steps[at].kind == "instruction" and self.is_replaced(at):
-            lines[0] += ", which stood there at the start and was written over before this step"
+            lines[0] += " (overwritten by the run before this step)"
         while at in self.called:
             at = self.called[at]
             lines.append(f"called from {self.site(at)}")
@@ -141,37 +148,38 @@ class Teller:
         return self.command_of(self.trace.command_of(self.trace.steps[place]))
 
     def command_of(self, command: Command) -> str:
-        return f"{with_article(name_of(command))} of tag {command.tag} (command {command.number} of processor {command.spe})"
+        return f"{with_article(name_of(command))} with tag {command.tag} (command {command.number} of SPU {command.spe})"
 
     def atomic(self, place: int) -> str:
-        """The atomic command of a step, with what came of it."""
+        """The atomic command of a step, with its outcome."""
         step = self.trace.steps[place]
         kind, _, line = step.told["atomic"]
         status = step.number("status")
         outcome = None if status is None else OUTCOMES.get((kind, status))
-        return f"{ATOMIC[kind]} of {self.names.line(int(line))}" + (f", which {outcome}" if outcome else "")
+        return f"{ATOMIC[kind]} of {self.names.line(int(line))} by {self.who(place)}" + (f", which {outcome}" if outcome else "")
 
     def what(self, place: int) -> str:
         """What a step is."""
         step = self.trace.steps[place]
         who = self.who(place)
         if step.kind == "host":
-            return f"an action of the host{self.untaken(place)}"
+            return f"a host action{self.untaken(place)}"
         if step.kind == "instruction":
-            return f"{self.instruction(place)}, by {who}"
+            words = self.instruction(place)
+            return f"{words} {'of' if words.endswith('instruction') else 'by'} {who}"
         if step.kind == "atomic":
-            return f"{with_article(self.atomic(place))}, by {who}"
+            return with_article(self.atomic(place))
         if step.kind == "retirement":
-            return f"the end of {self.command(place)}, which moves no byte"
+            return f"the completion of {self.command(place)}, which moves no bytes"
         if step.kind == "element":
             found = self.trace.element_of(place)
-            return f"the reading of element {found[2] if found else 0} of {self.command(place)}"
-        element = f" of element {step.element}" if self.trace.element_of(place) else ""
+            return f"the fetch of list element {found[2] if found else 0} of {self.command(place)}"
+        element = f" of list element {step.element}" if self.trace.element_of(place) else ""
         way = f"{step.reads.size} bytes from {self.names.start(step.reads)} to {self.target(step)}" if step.reads else ""
         return f"piece {step.part}{element} of {self.command(place)}: {way}{self.untaken(place)}"
 
     def untaken(self, place: int) -> str:
-        """What a delivery does to a value of its signal register that nobody took, as an ending; nothing of any other step."""
+        """What a delivery does to a value of its signal register that was never read, as an ending; nothing of any other step."""
         step = self.trace.steps[place]
         if "deliver" not in step.told:
             return ""
@@ -183,7 +191,7 @@ class Teller:
         command = self.trace.command_of(step)
         if step.writes and command.kind != "sndsig":
             return self.names.start(step.writes)
-        return signal_register(command.ea) + ("" if "signal" in step.told else ", which isn't there")
+        return signal_register(command.ea) + ("" if "signal" in step.told else " (no such register)")
 
     def instruction(self, place: int) -> str:
         """What an instruction is, apart from its processor."""
@@ -192,39 +200,39 @@ class Teller:
             return "a load" if step.reads else "a store"
         issued = step.issued()
         if issued:
-            return f"the issue of {with_article(name_of(issued))} of tag {issued.tag}"
+            return f"the issue of {with_article(name_of(issued))} with tag {issued.tag}"
         if "atomic" in step.told:
             return f"the issue of {with_article(ATOMIC[step.told['atomic'][0]])}"
         if "signal" in step.told:
-            return f"an instruction that takes 0x{step.number('rdch', 1):x} out of signal register {step.number('signal', 1)}"
+            return f"a read of 0x{step.number('rdch', 1):x} from signal register {step.number('signal', 1)}"
         events = next((words for (way, channel), words in OF_EVENTS.items() if step.number(way) == channel), None)
         if events:
-            return f"{events}, {events_in(step.number('rdch' if 'rdch' in step.told else 'wrch', 1) or 0)}"
-        names = {"tags": "the reading of a tag status", "stalls": "the reading of the stall status", "atomicread": "the reading of an atomic status",
-                 "put": "an instruction that puts", "take": "an instruction that takes", "ended": "the last instruction"}
+            return f"{events} {events_in(step.number('rdch' if 'rdch' in step.told else 'wrch', 1) or 0)}"
+        names = {"tags": "a read of the tag status", "stalls": "a read of the list stall status", "atomicread": "a read of the atomic status",
+                 "put": "a write of", "take": "a read of", "ended": "the last instruction"}
         found = next((name for name in names if name in step.told), "")
         if found in ("put", "take"):
-            return f"{names[found]} 0x{int(step.told[found][2]):x} {'into' if found == 'put' else 'out of'} {BOXES[step.told[found][1]]}"
+            return f"{names[found]} 0x{int(step.told[found][2]):x} {'to' if found == 'put' else 'from'} {BOXES[step.told[found][1]]}"
         return names.get(found, "an instruction")
 
     def word(self, place: int) -> str:
-        """What passes something on, or takes it: a step that moves a line whole, a value of a mailbox, or a signal."""
+        """A step by which sides synchronize: an atomic command or PUTQLLUC, a mailbox's value, a signal, or the wait for a processor's end."""
         step = self.trace.steps[place]
         if step.kind in ("atomic", "piece"):
             return self.what(place)
         if "signal" in step.told:
             return self.signal(place)
         if "awaited" in step.told:
-            return f"the host finds that processor {step.number('awaited')} doesn't run"
+            return f"the host sees that SPU {step.number('awaited')} has stopped"
         spe, box, value = step.told.get("put") or step.told["take"]
-        way = "puts" if "put" in step.told else "takes"
-        return f"{self.who(place)} {way} 0x{int(value):x}, {BOXES[box]} of processor {spe}"
+        way, to = ("writes", "to") if "put" in step.told else ("reads", "from")
+        return f"{self.who(place)} {way} 0x{int(value):x} {to} {BOXES[box]} of SPU {spe}"
 
     def signal(self, place: int) -> str:
-        """What delivers to a signal register, or reads it."""
+        """A delivery to a signal register, or a read of it."""
         step = self.trace.steps[place]
         spe, register = map(int, step.told["signal"])
-        what = f"signal register {register} of processor {spe}"
+        what = f"signal register {register} of SPU {spe}"
         if step.kind == "host":
             return f"the host delivers 0x{step.number('deliver'):x} to {what}"
-        return f"{self.who(place)} takes 0x{step.number('rdch', 1):x} out of {what}"
+        return f"{self.who(place)} reads 0x{step.number('rdch', 1):x} from {what}"

@@ -85,7 +85,7 @@ def of_bytes(names: Names, span: Span, first: bytes, second: bytes, name: str = 
 # ---- the parts of a state
 
 def statuses(state: State) -> List[Part]:
-    return [Part(f"processor {spe.number}", (f"{spe.status} at 0x{spe.pc:05x}",)) for spe in state.spes]
+    return [Part(f"SPU {spe.number}", (f"{spe.status} at 0x{spe.pc:05x}",)) for spe in state.spes]
 
 
 def host_parts(state: State) -> List[Part]:
@@ -94,12 +94,12 @@ def host_parts(state: State) -> List[Part]:
 
 
 def registers(state: State) -> List[Part]:
-    return [Part(f"${number} of processor {spe.number}", (quad(spe.register(number)),)) for spe in state.spes for number in range(REGISTERS)]
+    return [Part(f"${number} of SPU {spe.number}", (quad(spe.register(number)),)) for spe in state.spes for number in range(REGISTERS)]
 
 
 def controllers(state: State, sites: Sites) -> List[Part]:
-    """The flow controllers with their commands, a part for each."""
-    return [Part(f"flow controller {spe.number}",
+    """The MFCs with their commands, a part for each."""
+    return [Part(f"MFC {spe.number}",
                  tuple(said for number, line in state.flows if number == spe.number for said in in_words(line, sites.or_modes, sites.names)))
             for spe in state.spes]
 
@@ -177,7 +177,7 @@ class Both:
 
     def found_by(self, step: Step, reader: Reader) -> Difference:
         """What a step finds in each order."""
-        name = f"{{}}, when {step.line} {reader.way} them"
+        name = f"{{}}, as step `{step.line}` {reader.way} them"
         if reader.way != "fetches":
             return of_bytes(self.names, reader.span, *self.bytes_of(reader.span, reader.places(self.count)), name)
         words = self.bytes_of(step.fetched, reader.places(self.count))

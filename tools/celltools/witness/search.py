@@ -84,13 +84,13 @@ def race_of(machine: Path, record: Path) -> Race:
     """The race that `check` finds. Refused where it finds none."""
     said = verdict(machine, record)[0]
     if not said.startswith("race "):
-        raise Refused(f"no race: {said}, so there is none to show")
+        raise Refused(f"no race: `check` says {said}, so there is nothing to show")
     first, second = map(int, said.split()[1:3])
     return Race(Order(Trace(ask_tracer("effects", machine, record)[:second + 1])), first, second)
 
 
 def changes(heads: Sequence[str]) -> int:
-    """How often steps go on to another actor."""
+    """How often a step has another actor than the one before it: the context switches."""
     actors = list(map(actor_of, heads))
     return sum(one != other for one, other in zip(actors, actors[1:]))
 
@@ -189,9 +189,9 @@ def with_all(race: Race) -> List[int]:
 
 
 WAYS: Dict[str, Callable[[Race], List[int]]] = {
-    "those that it needs, each actor going on as long as it may": by_actors,
-    "those that it needs, in the record's own order": as_recorded,
-    "all but those behind the first of the two, in the record's own order": with_all,
+    "reordered for few context switches": by_actors,
+    "in the order of the record": as_recorded,
+    "in the order of the record, with all steps that need not follow the first of the two": with_all,
 }
 
 

@@ -1,4 +1,4 @@
-"""Tells in words what was found of a race's two orders: the steps, what differs behind them, and why a record is refused."""
+"""Describes the two orders of a race: the steps, the differences after them, and why a record isn't a run."""
 from typing import Iterable, Iterator, List, Sequence, Tuple
 
 from celltools.run.runs import Path
@@ -7,8 +7,8 @@ from celltools.telling.words import Teller, counted
 from celltools.witness.outcomes import OPEN, TURNS, Difference, Ends, Outcome, outcome_of
 from celltools.witness.search import FIRST, SECOND, Search, Witness, changes
 
-MOST_TOLD = 6  # differences of one kind
-BENIGN = "nothing differs behind the two steps, so whatever comes then is the same: on these steps the race is benign"
+MOST_TOLD = 6  # differences of one kind that are listed
+BENIGN = "after both steps nothing differs, so the race is benign in this run"
 
 
 def under(lines: Iterable[str]) -> Iterator[str]:
@@ -21,19 +21,20 @@ def told_orders(search: Search, names: Tuple[str, str], teller: Teller) -> Itera
     """The two records: how long they are, and their last steps."""
     race, pair = search.race, search.pair
     count, heads = len(pair.first.heads), pair.first.heads
-    yield f"race {race.first} {race.second}, by {count} of the {race.second + 1} steps up to it: {pair.way}"
-    yield (f"{names[0]}, the first order: {count} steps with {changes(heads)} changes of actor, where the record has {changes(race.heads)} up to the race"
-           f"{'' if pair.first.is_taken else ' (not written)'}")
+    was, now = (race.second + 1, changes(race.heads)), (count, changes(heads))
+    how = f"reduced from {was[0]} to {now[0]} steps and from {was[1]} to {counted(now[1], 'context switch', 'context switches')}" if was != now else f"all {count} steps are needed"
+    yield f"race {race.first} {race.second}: {how}" + (f" ({pair.way})" if len(search.pairs) > 1 else "")
+    yield f"{names[0]}, the order of the record{'' if pair.first.is_taken else ' (not written)'}:"
     for number, place in enumerate((race.first, race.second), count - 2):
         yield from under(told_step(teller, place, number))
-    yield f"{names[1]}, the second order: the same steps, these two the other way round{'' if pair.second.is_taken else ' (not written)'}"
+    yield f"{names[1]}, the reverse order: the same steps with these two swapped{'' if pair.second.is_taken else ' (not written)'}"
 
 
 def told_step(teller: Teller, place: int, number: int) -> Iterator[str]:
     """One of the two steps, by its place in the record that was made."""
     yield f"step {number}, {teller.trace.steps[place].line}: {teller.what(place)}"
     at = teller.program_step(place)
-    was = ", which was written over before this step" if teller.trace.steps[at].kind == "instruction" and teller.is_replaced(at) else ""
+    was = " (overwritten by the run before this step)" if teller.trace.steps[at].kind == "instruction" and teller.is_replaced(at) else ""
     yield f"    {'at' if at == place else 'issued at'} {teller.site(at)}{was}"
 
 
@@ -66,33 +67,33 @@ def names_of(differences: Sequence[Difference]) -> str:
 
 
 def told_outcome(outcome: Outcome) -> Iterator[str]:
-    """What comes out of the two orders."""
+    """The results of the two orders."""
     for difference in outcome.racing:
         yield from told_difference(difference)
     if outcome.ends is None:
         yield BENIGN
         return
-    yield "behind the two steps these differ:"
+    yield "after both steps, these differ:"
     yield from under(told_differences(outcome.behind))
     yield from told_ends(outcome.ends, outcome.behind)
 
 
 def told_ends(ends: Ends, behind: Sequence[Difference]) -> Iterator[str]:
-    """How the two runs end. What differs as it did behind the two steps isn't told again."""
+    """How the two runs end. Differences that were there after the two steps aren't listed again."""
     first, second = ends.words
-    how = f"both {end_words(first, '')}" if first == second else f"the first {end_words(first, 's')}, the second {end_words(second, 's')}"
-    bytes_shown = f"the bytes of {counted(ends.shown, '`show` line')}" if ends.shown else "and the machine file shows no bytes"
-    looked_at = f"statuses, registers, what the host took, {bytes_shown}"
-    yield f"run on, the actors taking turns, {how}{'; these differ:' if ends.differences else f', and these are the same: {looked_at}'}"
+    how = f"both runs {end_words(first, '')}" if first == second else f"the first {end_words(first, 's')}, the second {end_words(second, 's')}"
+    bytes_shown = f"and the bytes of {counted(ends.shown, '`show` line')}" if ends.shown else "(the machine file shows no bytes)"
+    compared = f"statuses, registers, values that the host read {bytes_shown}"
+    yield f"continued round-robin, {how}; {'these differ:' if ends.differences else f'no difference in {compared}'}"
     told_before = [difference for difference in ends.differences if difference in behind]
     if told_before:
-        yield f"    as behind the two steps: {names_of(told_before)}"
+        yield f"    as after the two steps: {names_of(told_before)}"
     yield from under(told_differences([difference for difference in ends.differences if difference not in behind]))
 
 
 def end_words(end: str, ending: str) -> str:
     """How a run ends, or that it goes on; the verb with its ending."""
-    return f"end{ending} {end}" if end != OPEN else f"{'goes' if ending else 'go'} on behind {TURNS[-1]} more steps"
+    return f"end{ending} {end}" if end != OPEN else f"{'does' if ending else 'do'} not end within {TURNS[-1]} more steps"
 
 
 # ---- refusals
@@ -102,18 +103,18 @@ def told_refusals(machine: Path, folder: str, search: Search) -> Iterator[str]:
     for pair in search.pairs:
         for order, witness in pair.named:
             if not witness.is_taken:
-                yield f"the {order} order is refused ({pair.way}): {what_is_wrong(witness)}"
+                yield f"the {order} order is not a run ({pair.way}): {what_is_wrong(witness)}"
                 yield from under(reason(machine, folder, witness.heads, witness.not_allowed) if witness.not_allowed is not None else ())
     if len(search.pairs) > 1 and search.pair.taken == 2:
-        yield f"both are taken ({search.pair.way})"
+        yield f"both orders are runs ({search.pair.way})"
 
 
 def what_is_wrong(witness: Witness) -> str:
     """Why a record isn't taken, in a few words."""
     place = witness.not_allowed
     if place is not None:
-        return f"its step {place}, {witness.heads[place]} (step {witness.places[place]} of the record), isn't allowed there"
-    return f"it is a run, but `check` doesn't find the race at its last two steps: it says `{witness.said}`"
+        return f"its step {place}, `{witness.heads[place]}` (step {witness.places[place]} of the record), is not possible there"
+    return f"it has no race at its last two steps: `check` says `{witness.said}`"
 
 
 def told(machine: Path, folder: str, search: Search, names: Tuple[str, str], teller: Teller) -> List[str]:
