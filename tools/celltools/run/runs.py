@@ -27,7 +27,7 @@ ADVICE = [
     (r"cannot read record file", "{record}: it isn't there, or can't be read: ./cell run {machine} >FILE makes a record"),
     (r"record file, line (\d+)", "{record}:{number}: tools/explain {record} explains it"),
     (r"record file", "{record}: tools/explain {record} explains it"),
-    (r"step (\d+) is not allowed", "the record is no run of this machine file as it is now: make it again, or print the states before that step: "
+    (r"step (\d+) is not allowed", "the record isn't a run of this machine file as it is now: make it again, or print the states before that step: "
                                    "tools/states {machine} {record} {number}"),
     (r"states differ", "the record was made with another machine file, or was edited: make it again: ./cell run {machine} >FILE"),
 ]
