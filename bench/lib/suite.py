@@ -78,7 +78,7 @@ def chain(spus: int, steps: int) -> Program:
 
 def three(before: int, after: int) -> Program:
     """News that are older than the sender: an SPU stores 1 and later 2. A second SPU sees the 1 and tells a third one, which still reads the 1 although the
-    second one has long gone on. Three orderings: the second SPU reads between the stores, the third one after its message and before the store of 2."""
+    second one has long gone on. Three orderings: the second SPU reads after the store of 1, the third one after its message and before the store of 2."""
     writer = Source().work(before).store(0, 1).work(after).store(0, 2)
     teller = Source().work(after).fetch(0).add("ceqi $13,$10,1", "brz $13,quit").store(LINE, 1)
     reader = Source().work(2 * before).fetch(LINE).add("lr $20,$10").fetch(0).add("ceqi $13,$10,1", "brz $13,quit", "brnz $20,bad")
