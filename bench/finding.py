@@ -5,9 +5,9 @@ Usage: bench/finding.py [--seed S] [--finds N] [--seconds X] [--only TEXT].. [--
        bench/finding.py --check [--seed S] [--only TEXT]..
        bench/finding.py --write FOLDER [--only TEXT]..
 
-It measures the hunt of this clone, and each PROGRAM, which is the `hunt` of another one. A line for each program of the suite, or for those whose names have a
-TEXT, has for each hunt: the runs a find, the steps a find, the runs, the finds, and the spent budgets that are no find. `>N` means that N runs found nothing,
-which the means count as half a find. The last lines have, for each group of programs and for all:
+It measures the hunt of this clone, and each PROGRAM, such as the bin/hunt of an older commit (not ./hunt, whose start counts as processor time). A line for each
+program of the suite, or for those whose names have a TEXT, has for each hunt: the runs a find, the steps a find, the runs, the finds, and the spent budgets that
+are no find. `>N` means that N runs found nothing, which the means count as half a find. The last lines have, for each group of programs and for all:
 
   - the geometric means of the runs and of the steps that this clone's hunt needs for a find
   - for each PROGRAM, by how much this clone's hunt is better: the geometric means of its runs and steps a find divided by those of this clone's, without the
