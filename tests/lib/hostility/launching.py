@@ -13,7 +13,7 @@ from typing import Callable, Dict, Iterator, List
 from celltools.common.repository import ROOT
 from lib.hostility.rows import Ended, Row, ended, shown
 
-SECONDS = 20
+SECONDS = 120  # after which a program hangs, also on a full machine
 MEGABYTES = 2048
 NOBODY = 65534
 PATH_WITHOUT_KIT = "/usr/bin:/bin"

@@ -82,7 +82,7 @@ ROWS = [*NAMES, *NO_FORMS, *NUMBERS, *ENDLESS]
 def status_of(program: str, words: Sequence[str]) -> int:
     """The status of a program whose own name isn't UTF-8."""
     command: List[Union[str, bytes]] = [b"\xff", *words]
-    return subprocess.run(command, executable=pathlib.Path(ROOT, program), stdin=subprocess.DEVNULL, capture_output=True, timeout=10).returncode
+    return subprocess.run(command, executable=pathlib.Path(ROOT, program), stdin=subprocess.DEVNULL, capture_output=True, timeout=120).returncode
 
 
 def a_program_of_any_name() -> Iterator[str]:
