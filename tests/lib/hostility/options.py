@@ -11,9 +11,8 @@ from celltools.common.repository import ROOT, version
 from lib.hostility.rows import Row
 
 TOOLS = sorted(str(path.relative_to(ROOT)) for folder in ("tools", "tools/dev") for path in (ROOT / folder).iterdir() if path.is_file() and os.access(path, os.X_OK))
-LEFT = {"tools/dev/wasm"}  # whose checksum page/MANIFEST has
 OWN_WORDS = {"tools/launch"}  # whose words are those of another program
-PROGRAMS = ["hunt", *(name for name in TOOLS if name not in LEFT)]
+PROGRAMS = ["hunt", *TOOLS]
 READERS = [name for name in PROGRAMS if name not in OWN_WORDS]  # which refuse what is no option
 OF_BOTH = ("tools/race", "tools/picture", "tools/states", "tools/witness")  # which take a machine file and a record
 VERSION = rf"\Acell {version()}\nsources: [0-9a-f]{{64}}\nbin/: .*proved with .*\nprograms: .*\n\Z"
