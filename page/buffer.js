@@ -1,5 +1,5 @@
 // @ts-check
-// The text of a file as an array of lines. It keeps its own history, cursor and scroll position, so that they outlive a change of tab.
+// The text of a file as an array of lines. It keeps its own history, cursor and scroll position, so that they outlive its textarea.
 
 /**
  * @typedef {{ line: number, column: number }} Place both count from 0
@@ -43,6 +43,7 @@ export class TextBuffer {
   constructor(text, watched) {
     this.lines = plain(text).split('\n');
     this.watched = watched;
+    this.changes = 0; // of the text, also those that undo and redo make
     /** How many changes touched a watched line. */
     this.watchedChanges = 0;
     /** @type {string | null} The text, if it was asked for since the last change. */
@@ -147,6 +148,7 @@ export class TextBuffer {
     if (watched && (made.some(line => watched.test(line)) || this.lines.slice(start.line, end.line + 1).some(line => watched.test(line)))) this.watchedChanges++;
     if (made.length < MOST_SPREAD) this.lines.splice(start.line, count, ...made);
     else this.lines = [...this.lines.slice(0, start.line), ...made, ...this.lines.slice(end.line + 1)];
+    this.changes++;
     this.joined = null;
   }
 }

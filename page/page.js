@@ -83,7 +83,7 @@ const isChanged = () => editor.opened !== null && editor.opened.isChanged;
 /** Puts the program back as it was given, or its changes back into it. @param {'reset' | 'bringBack'} act */
 function putBack(act) {
   const program = /** @type {import('./work.js').Program} */ (editor.opened);
-  editor.view.keepPlace();
+  editor.view?.keepPlace();
   program[act]();
   work.touch(program);
   editor.refresh();
@@ -326,7 +326,7 @@ function wire() {
     showList(false);
   };
   wireStops(byId('list'), 'a');
-  byId('skip').onclick = event => { event.preventDefault(); byId('text').focus(); };
+  byId('skip').onclick = event => { event.preventDefault(); editor.view?.text.focus(); };
   byId('list-button').onclick = () => showList(!document.body.classList.contains('listing'));
   byId('wide').onclick = () => byId('wide').setAttribute('aria-pressed', String(document.body.classList.toggle('wide')));
   addEventListener('hashchange', openAddress);

@@ -1,7 +1,7 @@
 // @ts-check
-// Shows a TextBuffer in a textarea. A long file has only the lines around the visible ones in it: a browser lays out a whole textarea again for each key,
-// which takes 100 ms at 20,000 lines. Such a file is scrolled by the element around the textarea, and what a selection has outside of it is kept here.
-import { byId } from './dom.js';
+// Shows a TextBuffer in a textarea of its own. A long file has only the lines around the visible ones in it: a browser lays out a whole textarea again for each
+// key, which takes 100 ms at 20,000 lines. Such a file is scrolled by the element around the textarea, and what a selection has outside of it is kept here.
+import { byId, make } from './dom.js';
 import { ordered, plain } from './buffer.js';
 
 /** @typedef {import('./buffer.js').TextBuffer} TextBuffer
@@ -15,15 +15,21 @@ const MOST_PRESSED = 2000; // lines that stay in the textarea while a selection 
 const SLACK = 2; // empty lines below the last one, in which a new line is drawn until the textarea has grown
 const PADDING = 8; // pixels, as page.css has it
 const INDENT = /^[ \t]*/;
+const PLAIN = { wrap: 'off', spellcheck: 'false', autocapitalize: 'off', autocomplete: 'off' }; // a program is no prose
 
 export class TextView {
-  /** @param {TextBuffer} buffer
+  /** A hidden textarea in the element `code`.
+   * @param {TextBuffer} buffer
+   * @param {string} label the name of the textarea for a screen reader
    * @param {{ changed: () => void, moved: () => void }} page called after the user changes the text, and after it scrolls */
-  constructor(buffer, page) {
+  constructor(buffer, label, page) {
     this.page = page;
     this.buffer = buffer;
-    this.pane = /** @type {HTMLElement} */ (byId('pane'));
-    this.text = /** @type {HTMLTextAreaElement} */ (byId('text'));
+    this.drawn = -1; // the number of changes of the buffer that the textarea has
+    this.text = /** @type {HTMLTextAreaElement} */ (make('textarea', { ...PLAIN, 'aria-label': label, 'aria-describedby': 'faults-said left' }));
+    this.sheet = make('div', { class: 'sheet' });
+    this.pane = make('div', { class: 'pane', hidden: true }, this.sheet, this.text);
+    byId('code').append(this.pane);
     this.first = 0;
     this.last = 0;
     /** What the textarea holds. */
@@ -34,10 +40,12 @@ export class TextView {
     this.isComposing = false; // whether an input method is at work, which a change of the textarea's value would end
     this.placed = { start: 0, end: 0, direction: 'none', anchor: 0 }; // the selection as it was put into the textarea
     this.lineHeight = parseFloat(getComputedStyle(this.text).lineHeight);
+    this.removed = new AbortController();
+    this.resized = new ResizeObserver(() => this.follow());
     this.listen();
   }
   listen() {
-    const { text } = this;
+    const { text, removed: { signal } } = this;
     text.addEventListener('input', event => this.take(/** @type {InputEvent} */ (event)));
     text.addEventListener('beforeinput', event => this.beforeInput(event));
     text.addEventListener('keydown', event => this.key(event));
@@ -48,24 +56,41 @@ export class TextView {
     text.addEventListener('compositionstart', () => { if (this.reachesOut) this.write(''); this.isComposing = true; });
     text.addEventListener('compositionend', () => { this.isComposing = false; this.fit(); });
     text.addEventListener('pointerdown', () => { this.isPressed = true; this.buffer.endTyping(); });
-    for (const kind of ['pointerup', 'pointercancel']) addEventListener(kind, () => { if (this.isPressed) { this.isPressed = false; this.follow(); } });
-    document.addEventListener('selectionchange', () => { if (document.activeElement === text) this.readSelection(); });
-    new ResizeObserver(() => this.follow()).observe(this.pane);
+    for (const kind of ['pointerup', 'pointercancel']) addEventListener(kind, () => { if (this.isPressed) { this.isPressed = false; this.follow(); } }, { signal });
+    document.addEventListener('selectionchange', () => { if (document.activeElement === text) this.readSelection(); }, { signal });
+    this.resized.observe(this.pane);
   }
 
   // ---- what is shown
 
-  /** Shows another buffer, at its own cursor and scroll position.
-   * @param {TextBuffer} buffer */
-  show(buffer) {
-    this.keepPlace();
-    this.buffer = buffer;
-    this.refill(buffer.scroll);
+  /** Shows the textarea. It is as it was left, unless the buffer was changed without it. */
+  show() {
+    if (!this.pane.hidden) return;
+    this.pane.hidden = false;
+    if (this.drawn === this.buffer.changes) this.scrollTo(this.buffer.scroll);
+    else this.refill(this.buffer.scroll);
   }
-  /** Remembers the cursor and scroll position of the buffer that is shown. */
+  hide() {
+    this.keepPlace();
+    this.pane.hidden = true;
+  }
+  /** Removes the textarea from the page. Its text, history, cursor and scroll position stay in the buffer. */
+  remove() {
+    this.removed.abort();
+    this.resized.disconnect();
+    this.pane.remove();
+  }
+  /** Notes the selection and scroll position in the buffer: a browser may forget the scroll position of what is hidden, and a textarea that is removed has none. */
   keepPlace() {
+    if (this.drawn !== this.buffer.changes) return; // another text is shown than the buffer has
     this.readSelection();
     if (this.pane.clientHeight) this.buffer.scroll = { top: this.top, left: this.scroller.scrollLeft };
+  }
+  /** @param {{ top: number, left: number }} scroll in pixels */
+  scrollTo({ top, left }) {
+    this.scroller.scrollTop = top;
+    this.scroller.scrollLeft = left;
+    this.page.moved();
   }
   get scroller() { return this.isWhole ? this.text : this.pane; }
   get top() { return this.scroller.scrollTop; }
@@ -82,11 +107,11 @@ export class TextView {
 
   /** Puts the lines around a scroll position into the textarea.
    * @param {{ top: number, left: number }} scroll in pixels */
-  refill({ top, left }) {
+  refill(scroll) {
     const { lines } = this.buffer, { count } = this;
     this.isWhole = count <= WHOLE && count === lines.length && isSmall(lines);
     if (this.isWhole) [this.first, this.last] = [0, count];
-    else [this.first, this.last] = this.windowAt(Math.floor((top - PADDING) / this.lineHeight));
+    else [this.first, this.last] = this.windowAt(Math.floor((scroll.top - PADDING) / this.lineHeight));
     this.isCut = false;
     const shown = [];
     for (let at = this.first; at < this.last; at++) {
@@ -96,11 +121,10 @@ export class TextView {
     }
     this.shown = shown.join('\n');
     this.text.value = this.shown;
+    this.drawn = this.buffer.changes;
     this.size();
     this.placeSelection();
-    this.scroller.scrollTop = top;
-    this.scroller.scrollLeft = left;
-    this.page.moved();
+    this.scrollTo(scroll);
   }
   /** The lines that the textarea of a long file holds if this is the first visible one.
    * @param {number} line @returns {[number, number]} */
@@ -119,7 +143,7 @@ export class TextView {
   size() {
     const { isWhole, text: { style } } = this;
     this.pane.classList.toggle('long', !isWhole);
-    byId('sheet').style.height = isWhole ? '0' : this.heightOf(this.count);
+    this.sheet.style.height = isWhole ? '0' : this.heightOf(this.count);
     style.top = isWhole ? '' : `${this.first * this.lineHeight}px`;
     style.height = isWhole ? '' : this.heightOf(this.last - this.first);
     style.width = '';
@@ -166,7 +190,7 @@ export class TextView {
     const height = this.heightOf(this.last - this.first);
     if (this.text.style.height !== height) {
       this.text.style.height = height;
-      byId('sheet').style.height = this.heightOf(this.count);
+      this.sheet.style.height = this.heightOf(this.count);
       this.text.scrollTop = 0;
     }
     this.widen();
@@ -261,6 +285,7 @@ export class TextView {
     this.buffer.replace(from, to, inserted, /^(insert(Text|CompositionText|LineBreak)|deleteContent(Backward|Forward))$/.test(event.inputType));
     this.last += this.buffer.lines.length - before;
     this.shown = now;
+    this.drawn = this.buffer.changes;
     this.placed.start = -1;
     this.readSelection();
     this.isCut = this.isCut || this.buffer.lines[from.line].length > LONGEST || inserted.length > LONGEST;
@@ -288,7 +313,8 @@ export class TextView {
   undo() { if (this.buffer.undo()) this.changedHere(); }
   redo() { if (this.buffer.redo()) this.changedHere(); }
 
-  /** Does by the buffer what the browser can't do: its own history knows no other tabs, and the textarea not the whole selection.
+  /** Does by the buffer what the browser can't do: it forgets its own history when the lines in the textarea are set anew, which a scroll or "As it was" does, and
+   * the textarea hasn't the whole selection.
    * @param {InputEvent} event */
   beforeInput(event) {
     const { inputType } = event;

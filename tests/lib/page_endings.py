@@ -132,13 +132,13 @@ def the_editor_is_few_keys_away(student: Student) -> None:
     student.open("")
     for stops in range(1, MOST_STOPS + 2):
         student.browser.key("Tab")
-        if student.browser.answer("document.activeElement.id") == "text":
+        if student.browser.answer("document.activeElement.tagName") == "TEXTAREA":
             break
     student.expect(f"the editor is more than {MOST_STOPS} stops of the Tab key away", stops <= MOST_STOPS)
     student.open("")
     student.browser.key("Tab")
     student.browser.key("Enter")
-    student.expect("the first link doesn't lead to the editor", student.browser.answer("document.activeElement.id") == "text")
+    student.expect("the first link doesn't lead to the editor", student.browser.answer("document.activeElement.tagName") == "TEXTAREA")
     student.browser.answer("document.querySelector('#list [tabindex=\"0\"]').focus()")
     before = student.browser.answer("document.activeElement.getAttribute('href')")
     student.browser.key("ArrowDown")

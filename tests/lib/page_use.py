@@ -14,6 +14,8 @@ MOST_TABS = 40
 NARROW = 1150  # up to here the list stands behind a button
 CONTROL = 2  # of a key, by the browser's protocol
 LESSON, SOURCE, WAIT, BEHIND = "mail_race", "sender_race.s", "\trdch\t$9,$ch24", 16  # what mends the lesson, and the line behind which it is written
+PANE = ".pane:not([hidden])"  # around the textarea of the file that is shown
+TEXT = f"{PANE} textarea"
 OWN = ("file:", "blob:", "data:", "about:")  # how addresses begin that are no host's
 NAMELESS = """[...document.querySelectorAll('button, input, textarea, iframe, [tabindex="0"], a')].filter(node => node.checkVisibility()
     && !(node.getAttribute('aria-label') || node.labels && node.labels.length || node.title || node.textContent.trim() || node.getAttribute('aria-labelledby')))
@@ -107,8 +109,8 @@ class Student:
 
     def to_line(self, number: int) -> None:
         """Puts the cursor at the end of a line of the editor."""
-        self.browser.answer("document.getElementById('text').scrollTop = 0")
-        self.click("#text", (30, 8 + 19 * (number - 0.5)))
+        self.browser.answer(f"document.querySelector({json.dumps(TEXT)}).scrollTop = 0")
+        self.click(TEXT, (30, 8 + 19 * (number - 0.5)))
         self.browser.key("End")
 
     def look(self) -> None:
@@ -195,13 +197,13 @@ def a_link_is_reopened(student: Student) -> None:
     link = student.browser.answer("document.getElementById('link').value")
     student.look()
     student.open("#" + link.partition("#")[2])
-    student.expect_in("the program of the link", WAIT.split("\t")[-1], student.browser.answer("document.getElementById('text').value"))
+    student.expect_in("the program of the link", WAIT.split("\t")[-1], student.browser.answer(f"document.querySelector({json.dumps(TEXT)}).value"))
     student.expect_in("the check of its run", "no race", checked(student))
 
 
 def checked(student: Student) -> str:
     """What a check by keys says."""
-    student.click("#text", (30, 30))
+    student.click(TEXT, (30, 30))
     student.browser.key("Enter", CONTROL)
     student.settle("!document.getElementById('verdict').hidden")
     return student.text("#verdict")

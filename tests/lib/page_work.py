@@ -8,7 +8,7 @@ import zlib
 from typing import Callable, Dict, List, NamedTuple, Tuple
 
 from lib.browser import CONTROL, SHIFT, Browser
-from lib.page_use import SECONDS, Student
+from lib.page_use import PANE, SECONDS, TEXT, Student
 
 WIDTH = 1400
 LESSON, SECOND_LESSON, LONG_LESSON = "mail_race", "reuse_race", "mutex_early_race"
@@ -22,7 +22,8 @@ STILL = 0.3  # seconds in which what doesn't change stays
 LEAST_VISITS, MOST_VISITS = 2, 5  # to each file
 FRAME, PAUSE, QUIET = 0.05, 0.3, 1.5  # seconds: in which a key is shown, after which the page begins what it does in a pause, and until that is done
 NO_STORAGE = "Object.defineProperty(window, 'localStorage', { get() { throw new DOMException('none', 'SecurityError') } })"
-TEXT, PLACE = "document.getElementById('text').value", "(t => [t.selectionStart, t.selectionEnd, t.scrollTop])(document.getElementById('text'))"
+AREA = f"document.querySelector({json.dumps(TEXT)})"  # of the file that is shown
+PLACE = f"(t => [t.selectionStart, t.selectionEnd, t.scrollTop])({AREA})"
 
 
 class KeyTime(NamedTuple):
@@ -54,7 +55,7 @@ def linked_files(student: Student) -> Dict[str, str]:
 
 
 def text(student: Student) -> str:
-    return str(student.browser.answer(TEXT))
+    return str(student.browser.answer(f"{AREA}.value"))
 
 
 def to_file(student: Student, name: str) -> None:
@@ -161,7 +162,7 @@ def as_it_was_is_undone(student: Student) -> None:
     student.expect_in("the text that was typed since", "# later work", text(student))
     student.click("#restore")
     student.expect("As it was changes nothing", "# later work" not in text(student))
-    student.click("#text", (30, 30))
+    student.click(TEXT, (30, 30))
     student.browser.key("z", CONTROL)
     student.expect_in("the text after Ctrl+Z", "# later work", text(student))
 
@@ -176,6 +177,51 @@ def place(student: Student) -> List[float]:
         before = found
         time.sleep(STILL)
     return found
+
+
+def as_it_was_reaches_hidden_files(student: Student) -> None:
+    """A file that isn't shown is put back, too, and its own Ctrl+Z undoes that."""
+    student.lesson(LESSON)
+    to_file(student, RECEIVER)
+    type_work(student)
+    given = text(student).replace(WORK, "")
+    to_file(student, MACHINE)
+    type_work(student)
+    student.click("#restore")
+    student.expect("As it was leaves the file that is shown", WORK not in text(student))
+    to_file(student, RECEIVER)
+    student.expect("As it was leaves a file that isn't shown", text(student) == given)
+    student.click(TEXT, (30, 30))
+    student.browser.key("z", CONTROL)
+    student.expect_in("the text after Ctrl+Z", WORK, text(student))
+    to_file(student, MACHINE)
+    student.expect("Ctrl+Z in one file changes another", WORK not in text(student))
+
+
+def two_tabs_show_the_same_text(student: Student) -> None:
+    """Of a file that both show, and of one that the second one shows later."""
+    browser = student.browser
+    browser.open(student.page.as_uri() + f"#{LESSON}", WIDTH)
+    student.settle("document.body && document.body.dataset.ready")
+    behind, front = browser.session, browser.sessions[True]
+    to_file_behind = f"document.querySelector('#files [data-file$=\"{RECEIVER}\"]').click()"
+    browser.answer(to_file_behind)
+    browser.session = front
+    student.lesson(LESSON)
+    type_work(student)
+    to_file(student, RECEIVER)
+    type_work(student)
+    to_file(student, MACHINE)
+    student.to_line(text(student).split("\n").index(f"source examples/races/{RECEIVER}") + 1)
+    student.type("2")
+    browser.session = behind
+    student.settle("document.querySelector('#files [aria-selected=true]').dataset.file === document.querySelector('#files [role=tab]').dataset.file")
+    student.expect_in("the file that the other tab changed", f"{RECEIVER}2", text(student))
+    browser.answer("document.querySelectorAll('#files [role=tab]')[1].click()")
+    student.settle("document.querySelector('#files [aria-selected=true]').dataset.file.endsWith('sender_race.s')")
+    student.expect_in("a file that the other tab changed before", WORK, text(student))
+    browser.open("about:blank", WIDTH)
+    browser.session = front
 
 
 LINE = 20  # pixels: Firefox brings the whole line of the cursor into view
@@ -195,13 +241,67 @@ def a_tab_keeps_undo_cursor_and_scroll(student: Student) -> None:
     after = place(student)
     is_kept = after[:2] == before[:2] and abs(after[2] - before[2]) <= LINE
     student.expect(f"cursor and scroll are {after} after another tab, and {before} before", is_kept)
-    student.browser.answer("document.getElementById('text').focus()")
+    student.browser.answer(f"{AREA}.focus()")
     student.browser.key("z", CONTROL)
     student.expect("Ctrl+Z doesn't undo what was typed", WORK not in text(student))
     student.browser.key("z", CONTROL | SHIFT)
     student.expect_in("the text after Ctrl+Shift+Z", WORK, text(student))
     to_file(student, ".cell")
     student.expect_in("the other file after Ctrl+Z", "# of the machine", text(student))
+
+
+def areas(student: Student) -> List[str]:
+    """The names of the files that have a textarea, with a star after the one that is shown."""
+    found: List[str] = student.browser.answer("""[...document.querySelectorAll('#code textarea')]
+        .map(node => node.getAttribute('aria-label').split(/[ /]/).pop() + (node.checkVisibility() ? '*' : ''))""")
+    return found
+
+
+def selected(student: Student) -> List[object]:
+    """The selection of the textarea that is shown, and the number that `number_area` gave to it."""
+    found: List[object] = student.browser.answer(f"(t => [t.selectionStart, t.selectionEnd, t.selectionDirection, t.number])({AREA})")
+    return found
+
+
+def number_area(student: Student, number: int) -> None:
+    """Marks the textarea that is shown, as an element."""
+    student.browser.answer(f"{AREA}.number = {number}")
+
+
+def select_lines(student: Student, line: int, count: int) -> List[object]:
+    """Selects lines by keys, downwards."""
+    student.to_line(line)
+    student.browser.key("Home")
+    for _ in range(count):
+        student.browser.key("ArrowDown", SHIFT)
+    return selected(student)
+
+
+def each_file_has_a_textarea(student: Student) -> None:
+    """It comes when the file is shown first, keeps its selection while another one is shown, and goes with the file."""
+    student.lesson(LESSON)
+    to_file(student, MACHINE)
+    to_file(student, RECEIVER)
+    files = ["sender_race.s", MACHINE, f"{RECEIVER}*"]
+    student.expect(f"the textareas are {areas(student)}, not {files}", areas(student) == files)
+    number_area(student, 1)
+    receiver = select_lines(student, 3, 4)
+    student.expect(f"nothing is selected: {receiver}", receiver[0] != receiver[1])
+    to_file(student, MACHINE)
+    number_area(student, 2)
+    machine = select_lines(student, 1, 1)
+    to_file(student, RECEIVER)
+    student.expect(f"the selection is {selected(student)} after another tab, and {receiver} before", selected(student) == receiver)
+    to_file(student, MACHINE)
+    student.expect(f"the selection is {selected(student)} after another tab, and {machine} before", selected(student) == machine)
+    student.to_line(text(student).split("\n").index(f"source examples/races/{RECEIVER}") + 1)
+    student.type("2")  # another name
+    student.settle(f"document.querySelector('#files [data-file$=\"{RECEIVER}2\"]')")
+    student.expect(f"the textareas are {areas(student)} without {RECEIVER}", areas(student) == ["sender_race.s", f"{MACHINE}*"])
+    to_file(student, f"{RECEIVER}2")
+    student.expect("a new file isn't empty", text(student) == "" and areas(student)[-1] == f"{RECEIVER}2*")
+    student.lesson(SECOND_LESSON)
+    student.expect(f"the textareas of another lesson are {areas(student)}", areas(student) == ["reuse_race.s*"])
 
 
 def leaving_is_asked_without_storage(student: Student) -> None:
@@ -280,8 +380,9 @@ class TypedFile:
         student.browser.open(student.page.as_uri() + self.link, WIDTH, is_in_front=True)
         student.settle(f"document.querySelector('#files [data-file=\"{self.name}.s\"]')")
         to_file(student, f"{self.name}.s")
-        student.browser.answer("for (const id of ['pane', 'text']) document.getElementById(id).scrollTop = 0")
-        student.settle("document.getElementById('text').getBoundingClientRect().top <= document.getElementById('pane').getBoundingClientRect().top + 1")
+        pane = f"document.querySelector({json.dumps(PANE)})"
+        student.browser.answer(f"for (const node of [{pane}, {AREA}]) node.scrollTop = 0")
+        student.settle(f"{AREA}.getBoundingClientRect().top <= {pane}.getBoundingClientRect().top + 1")
         student.click("#code", (200, 100))
         student.browser.key("End", CONTROL if is_at_end and self.lines == LONG else 0)
         student.type(begun)
@@ -347,7 +448,7 @@ class LongFile:
     def lines(self) -> List[str]:
         """The lines of the whole source; the textarea keeps the keyboard."""
         found = linked_files(self.student).get("a.s", "").split("\n")
-        self.student.browser.answer("document.getElementById('text').focus({ preventScroll: true })")
+        self.student.browser.answer(f"{AREA}.focus({{ preventScroll: true }})")
         return found
 
     def expect(self, what: str, wanted: List[str]) -> None:
@@ -405,9 +506,9 @@ def a_long_selection_is_replaced(student: Student) -> None:
 
 USES: Tuple[Callable[[Student], None], ...] = (
     a_reload_keeps_the_text, back_keeps_the_text, a_commented_source_line_keeps_the_text, a_second_link_keeps_the_first, as_it_was_is_undone,
-    a_tab_keeps_undo_cursor_and_scroll, leaving_is_asked_without_storage, leaving_is_not_asked_with_storage, a_click_on_a_tab_outlives_the_faults,
-    a_large_link_is_refused, a_key_costs_the_same_in_a_long_file, a_long_file_is_edited,
-    a_long_selection_is_replaced)
+    as_it_was_reaches_hidden_files, two_tabs_show_the_same_text, a_tab_keeps_undo_cursor_and_scroll, each_file_has_a_textarea,
+    leaving_is_asked_without_storage, leaving_is_not_asked_with_storage, a_click_on_a_tab_outlives_the_faults,
+    a_large_link_is_refused, a_key_costs_the_same_in_a_long_file, a_long_file_is_edited, a_long_selection_is_replaced)
 
 
 def used(browser: Browser, page: pathlib.Path) -> List[str]:
