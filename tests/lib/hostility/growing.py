@@ -1,4 +1,5 @@
-"""A check takes time in proportion to the record, also where nobody waits for a command by its tag and a signal, a line or a stall orders them."""
+"""A check takes time in proportion to the record, also where nobody waits for a command by its tag and a signal, a line or a stall orders them; and a hunt in
+proportion to the steps, also if a race repeats."""
 import pathlib
 import resource
 import subprocess
@@ -7,6 +8,7 @@ import tempfile
 from typing import Iterator, List, Tuple
 
 from celltools.common.repository import ROOT, built
+from lib.hostility.rows import Row
 
 CELL = built("cell_cli")
 TRACER = built("run_trace")
@@ -79,4 +81,11 @@ def grows_with_the_record() -> Iterator[str]:
     yield from (done.stdout + done.stderr).splitlines()
 
 
+# A million steps of GETs into one place that nobody waits for. A hunt that compares each one with all before it takes more than a minute for each of these runs,
+# and not one second: the bound of a row is for what never ends.
+FORGOTTEN = (ROOT / "bench" / "forgotten.s").read_bytes().replace(b"COMMAND", b"0x40")
+ROWS = [
+    Row("a race that repeats in long runs", ["hunt", "long.cell", "--runs", "8", "--jobs", "1"], 1, printed=r"^8 have a race, the first is run 0; 8 spent the budget",
+        files={"long.cell": b"cell-machine 1\nlines 1\nbudget 1000000\nspe\nsource forgotten.s\n", "forgotten.s": FORGOTTEN}),
+]
 CHECKS = [grows_with_the_record]

@@ -8,7 +8,7 @@ import subprocess
 import sys
 import tempfile
 import time
-from typing import Callable, Dict, Iterator, List
+from typing import Callable, Dict, Iterator, List, Tuple
 
 from celltools.common.repository import ROOT
 from lib.hostility.rows import Ended, Row, ended, shown
@@ -43,6 +43,12 @@ try)
     ;;
 esac
 """
+# What runs in a clone, with its status and the beginning of what it prints.
+CALLS_IN_CLONES: List[Tuple[List[str], int, bytes]] = [
+    (["cell", "run", "examples/first.cell"], 0, b"cell-record 2\n"), (["cell", "check", "examples/first.cell", "examples/first.out"], 0, b"accepted 3\n"),
+    (["hunt", "examples/first.cell", "4"], 0, b"4 runs of seed 1: 4 AllStopped"), (["cell", "--version"], 0, b"cell "),
+    (["tools/race", "examples/races/reuse_race.cell", "examples/races/reuse_race.out"], 1, b"race 10 14\n"), (["tools/explain", "examples/first.cell"], 0, b""),
+]  # fmt: skip
 TOLD = [f"cell: {number} of 3 crates, {name}".encode() for number, name in enumerate(("cell_cli", "hunt", "run_trace"), 1)]
 
 
@@ -197,6 +203,24 @@ def read_only_checkouts_run() -> Iterator[str]:
                 path.chmod(path.stat().st_mode | 0o200)
 
 
+def clones_for_windows_run() -> Iterator[str]:
+    """A clone by a Git that writes CR LF, as Git for Windows does, has the same bytes as one by another Git, and its scripts, tools and programs run."""
+    if not (ROOT / ".git").exists() or not shutil.which("git"):
+        print("launching: clones_for_windows_run: skipped, since this is no clone, or there is no git")
+        return
+    with tempfile.TemporaryDirectory(prefix="cell-clone-") as room:
+        clone, plain = pathlib.Path(room, "clone"), pathlib.Path(room, "plain")
+        for path, settings in (clone, ("core.autocrlf=true", "core.eol=crlf")), (plain, ("core.autocrlf=false", "core.eol=lf")):
+            subprocess.run(["git", "clone", "-q", *(word for setting in settings for word in ("-c", setting)), ROOT, path], check=True, timeout=SECONDS)
+        differing = subprocess.run(["diff", "-rq", "-x", ".git", plain, clone], capture_output=True, text=True, timeout=SECONDS).stdout
+        if differing:
+            yield f"a clone with CR LF has other files: {differing[:400]}"
+        for words, status, output in CALLS_IN_CLONES:
+            found = ended([str(clone / words[0]), *words[1:]], clone, SECONDS, MEGABYTES, environment={"CELL_TRY": ""})
+            if found is None or found.status != status or not found.output.startswith(output) or found.error:
+                yield "\n".join([f"{' '.join(words)} doesn't run in a clone with CR LF", *(shown(found) if found else [])])
+
+
 def shipped_programs_are_compared() -> Iterator[str]:
     """Programs that are built here are compared with those of bin/, whichever kit built them; a difference fails only with the kit of bin/."""
     with released() as folder:
@@ -246,4 +270,4 @@ ROWS = [
     Row("no machine file", ["tools/sources", "none.cell"], 2, said="cannot open none.cell|none.cell: No such file"),
 ]
 CHECKS = [first_calls_tell_progress, first_hunt_answers, unbuilt_is_no_refusal, killed_build_leaves_nothing, shipped_programs_are_taken,
-          read_only_checkouts_run, shipped_programs_are_compared, full_file_is_told, tried_words_are_named_from_the_root]
+          read_only_checkouts_run, clones_for_windows_run, shipped_programs_are_compared, full_file_is_told, tried_words_are_named_from_the_root]

@@ -17,6 +17,12 @@ def shipped(program: str) -> pathlib.Path:
     return ROOT / "bin" / program
 
 
+def called(tool: str) -> str:
+    """How a tool is called from the current folder: as tools/NAME if that is there, else by its whole name."""
+    name = pathlib.Path("tools", tool)
+    return str(name if name.exists() else ROOT / name)
+
+
 def version() -> str:
     """The version of this product, which the file VERSION has."""
     return (ROOT / "VERSION").read_text(encoding="ascii").strip()

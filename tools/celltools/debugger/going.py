@@ -257,17 +257,21 @@ class Going(Session):
     def do_hold(self, words: Sequence[str]) -> List[str]:
         """Holds actors, or lists those that are held."""
         self.held += [actor for actor in self.actors_in(words) if actor not in self.held]
-        return [f"held: {names_of(self.held)} (no steps while the others take turns)" if self.held else "no actors are held: `hold x1` holds one"]
+        return self.told_held() or ["no actors are held: `hold x1` holds one"]
+
+    def told_held(self) -> List[str]:
+        """Lists the held actors, if there are some."""
+        return [f"held: {names_of(self.held)} (no steps while the others take turns)"] if self.held else []
 
     def do_release(self, words: Sequence[str]) -> List[str]:
         if not words:
             raise Wrong("usage: release ACTOR.. or release all; `hold` lists the held actors")
-        released = list(self.held) if list(words) == ["all"] else self.actors_in(words)
+        released = list(self.held) if list(words) == ["all"] else list(dict.fromkeys(self.actors_in(words)))
         for actor in released:
             if actor not in self.held:
                 raise Wrong(f"{name_of(actor)} is not held: `hold` lists the held actors")
         self.held = [actor for actor in self.held if actor not in released]
-        return self.do_hold([])
+        return [f"released: {names_of(released)}", *self.told_held()] if released else self.do_hold([])
 
     # ---- going back
 

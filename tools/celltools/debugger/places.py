@@ -49,7 +49,7 @@ def actor_of_word(word: str, spes: int) -> Optional[Actor]:
         return None
     if not found[1]:
         return "h", None
-    return found[1], processor_of(found[2], spes)
+    return found[1], processor_of(found[2], spes, word)
 
 
 def is_processor(word: str) -> bool:
@@ -57,12 +57,12 @@ def is_processor(word: str) -> bool:
     return re.fullmatch(r"x\d{1,2}", word, re.A) is not None
 
 
-def processor_of(word: str, spes: int) -> int:
-    """The processor of a number."""
+def processor_of(word: str, spes: int, typed: str = "") -> int:
+    """The processor of a number; `typed` is the actor that was typed, if the number is a part of that."""
     number = number_of(word.removeprefix("x"))
     if number is None or number >= spes:
-        last = spes - 1
-        raise Wrong(f"`{word}` is not an SPU: " + (f"type a number from 0 to {last}" if last else "there is only SPU 0"))
+        last, kind = spes - 1, "an MFC" if typed.startswith("m") else "an SPU"
+        raise Wrong(f"`{typed or word}` is not {kind}: " + (f"type a number from 0 to {last}" if last else "there is only SPU 0"))
     return number
 
 

@@ -364,5 +364,5 @@ def explain_machine(name: str, data: bytes, report: Report) -> None:
     if said:
         number, words = refusal_of(said, placing, places)
         report.fault(f"{name}:{number}" if number else name, words)
-    for number, words in machine_warnings(placing, places):
+    for number, words in sorted(machine_warnings(placing, places), key=lambda found: found[0]):
         report.warning(f"{name}:{number}", words)

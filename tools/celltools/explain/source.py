@@ -336,6 +336,6 @@ def explain_source(name: str, data: bytes, report: Report) -> bool:
             words = why_source_line(lines, at, kind, in_text, defined)
             words = without_hints(words) if at + 1 in refused else words
             report.fault(f"{name}:{at + 1}", f"{kind}: {words}", in_latin(lines[at]).strip())
-    for at, words in source_warnings(lines):
+    for at, words in sorted(source_warnings(lines), key=lambda found: found[0]):
         report.warning(f"{name}:{at + 1}", words)
     return count == 0

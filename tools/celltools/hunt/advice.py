@@ -1,10 +1,9 @@
 """The end of a hunt's text: the commands that show what was found. It is made from the text alone."""
-import pathlib
 import re
 import shlex
 from typing import Dict, Iterator, List, Optional
 
-from celltools.common.repository import ROOT
+from celltools.common.repository import called
 
 # What the second line counts, and what is said of the first run that has it.
 FOUND = re.compile(r"\d+ (have a race|are stuck|spent the budget|have a fault|have a halt), the first is run (\d+)", re.A)
@@ -14,9 +13,8 @@ SHOWN = re.compile(r"(mem|ls (\d+)) 0x([0-9a-f]+) ([0-9a-f]+)", re.A)
 
 
 def command(tool: str, machine: str, seed: int, run: str) -> str:
-    """How a tool is called for a run of the hunt: as it is named from here where that is the repository or has its tools, else with the whole name."""
-    name = pathlib.Path("tools", tool)
-    words = [str(name if name.exists() else ROOT / name), "--run", run, *([] if seed == 1 else ["--seed", str(seed)]), machine]
+    """How a tool is called for a run of the hunt."""
+    words = [called(tool), "--run", run, *([] if seed == 1 else ["--seed", str(seed)]), machine]
     return " ".join(map(shlex.quote, words))
 
 

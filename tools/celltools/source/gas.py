@@ -355,13 +355,14 @@ class Writer(Known):
         if word in SETS:
             return self.set_name(rest, word == LAZY)
         if word in (".comm", ".lcomm"):
-            return self.common(rest)
+            return self.common(word, rest)
         if word in ALIGNING:
             return self.alignment(word, rest)
         if word in (".space", ".skip", ".fill"):
             return self.filling(word, rest)
         if word == ".org":
-            return [f"\t.org\t{self.constant(rest, 'the address')}"]
+            self.refuse_beyond(word, address := self.constant(rest, "the address"))
+            return [f"\t.org\t{address}"]
         if word in DROPPED or word.startswith(".cfi_"):
             return []
         raise Unwritable(why_no_directive(word))
@@ -442,9 +443,10 @@ class Writer(Known):
         self.sets[name] = value
         return []
 
-    def common(self, rest: str) -> List[str]:
+    def common(self, word: str, rest: str) -> List[str]:
         name, bytes_of, align = ([part.strip() for part in cut(rest, ",")] + ["", "16"])[:3]
         name, size = self.renamed(name), self.constant(bytes_of, "a size")
+        self.refuse_beyond(word, size)
         power = power_of_two(self.constant(align or "16", "an alignment"))
         before = self.commons.get(name, (0, 0, self.origin()))
         self.commons[name] = (max(size, before[0]), max(power, before[1]), before[2])
@@ -492,15 +494,19 @@ class Writer(Known):
         if size > MOST_FILLED:
             raise Unwritable(f"`{word}`: the number to repeat can have at most {MOST_FILLED} bytes, not {size}")
         value = Expression(parts[1], self).value() if len(parts) > 1 else Value(None, 0)
+        self.refuse_beyond(word, self.place()[2] + count * size)
         if count == 0 or value == Value(None, 0):
             return [f"\t.space\t{count * size}"]
         words = {1: ".byte", 2: ".short", 4: ".long"}  # of a greater size GNU as takes four bytes of the value
         if value.name or size not in words or count > MOST_REPEATS:
             raise Unwritable(f"`{word}`: only up to {MOST_REPEATS:,} numbers of 1, 2 or 4 bytes are supported, not `{cut_short(rest)}`")
         self.refuse_small(words[size])
-        if self.place()[2] + count * size > STORE:
-            raise Unwritable(f"`{word}` goes beyond the end of the local store, {STORE:,} bytes")
         return [f"\t{words[size]}\t{','.join([str(value.number)] * count)}"]
+
+    def refuse_beyond(self, word: str, end: int) -> None:
+        """Refuses what ends at an address that the local store hasn't, wherever its section begins."""
+        if end > STORE:
+            raise Unwritable(f"`{word}` goes beyond the end of the local store, {STORE:,} bytes")
 
     def place_commons(self) -> None:
         """What the sources hold in common and none defines stands behind all else."""

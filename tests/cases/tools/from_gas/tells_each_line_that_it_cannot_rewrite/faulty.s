@@ -74,5 +74,9 @@ f:
 	il	$3,f==y
 	nonsense
 	.nonsense
+	.fill	70000,4,0
+	.space	262145
+	.org	262148
+	.comm	vast,262145
 	end
 	nonsense
