@@ -1,14 +1,15 @@
 """A check takes time in proportion to the record, also where nobody waits for a command by its tag and a signal, a line or a stall orders them; and a hunt in
-proportion to the steps, also if a race repeats."""
+proportion to the steps, also if a race repeats. A run of a hunt is printed without a search for races."""
 import pathlib
 import resource
 import subprocess
 import sys
 import tempfile
+import time
 from typing import Iterator, List, Tuple
 
 from celltools.common.repository import ROOT, built
-from lib.hostility.rows import Row
+from lib.hostility.rows import Row, ended, shown
 
 CELL = built("cell_cli")
 TRACER = built("run_trace")
@@ -81,11 +82,30 @@ def grows_with_the_record() -> Iterator[str]:
     yield from (done.stdout + done.stderr).splitlines()
 
 
-# A million steps of GETs into one place that nobody waits for. A hunt that compares each one with all before it takes more than a minute for each of these runs,
-# and not one second: the bound of a row is for what never ends.
-FORGOTTEN = (ROOT / "bench" / "forgotten.s").read_bytes().replace(b"COMMAND", b"0x40")
+# A million steps of GETs into one place that nobody waits for. A search that compares each one with all before it takes a minute for each of these runs, in place
+# of one second.
+FILES = {"long.cell": b"cell-machine 1\nlines 1\nbudget 1000000\nspe\nsource forgotten.s\n",
+         "forgotten.s": (ROOT / "bench" / "forgotten.s").read_bytes().replace(b"COMMAND", b"0x40")}
+LONG_RUNS, LONG_RECORDS = 8, 20
+NEVER = 60  # seconds: a bound for what never ends
+MEGABYTES = 2048
+
+
+def records_are_made_without_a_search() -> Iterator[str]:
+    """Records of such runs are printed, all within the time that one search takes."""
+    with tempfile.TemporaryDirectory(prefix="cell-growing-") as room:
+        folder, until = pathlib.Path(room), time.monotonic() + NEVER
+        for name, data in FILES.items():
+            (folder / name).write_bytes(data)
+        for number in range(LONG_RECORDS):
+            found = ended([str(ROOT / "hunt"), "long.cell", "record", str(number)], folder, max(1, until - time.monotonic()), MEGABYTES)
+            if found is None or found.status or b"\nsteps 1000000\n" not in found.output:
+                yield "\n".join([f"the record of run {number} isn't made", *(shown(found) if found else [])])
+                return
+
+
 ROWS = [
-    Row("a race that repeats in long runs", ["hunt", "long.cell", "--runs", "8", "--jobs", "1"], 1, printed=r"^8 have a race, the first is run 0; 8 spent the budget",
-        files={"long.cell": b"cell-machine 1\nlines 1\nbudget 1000000\nspe\nsource forgotten.s\n", "forgotten.s": FORGOTTEN}),
+    Row("a race that repeats in long runs", ["hunt", "long.cell", "--runs", str(LONG_RUNS), "--jobs", "1"], 1, seconds=NEVER, megabytes=MEGABYTES, files=FILES,
+        printed=rf"^{LONG_RUNS} have a race, the first is run 0; {LONG_RUNS} spent the budget"),
 ]
-CHECKS = [grows_with_the_record]
+CHECKS = [grows_with_the_record, records_are_made_without_a_search]
