@@ -23,6 +23,7 @@ LEAST_VISITS, MOST_VISITS = 2, 5  # to each file
 FRAME, PAUSE, QUIET = 0.05, 0.3, 1.5  # seconds: in which a key is shown, after which the page begins what it does in a pause, and until that is done
 NO_STORAGE = "Object.defineProperty(window, 'localStorage', { get() { throw new DOMException('none', 'SecurityError') } })"
 AREA = f"document.querySelector({json.dumps(TEXT)})"  # of the file that is shown
+SCROLLED = f"document.querySelector({json.dumps(PANE)}).scrollTop"  # of a long file
 PLACE = f"(t => [t.selectionStart, t.selectionEnd, t.scrollTop])({AREA})"
 
 
@@ -481,6 +482,29 @@ def a_long_file_is_edited(student: Student) -> None:
     file.expect("all undone", given)
 
 
+def a_long_file_keeps_its_place(student: Student) -> None:
+    """Another file is shown, and typing goes on where it was; a selection of more lines than the textarea holds is still that of all of them."""
+    file = LongFile(student)
+    file.press("PageDown", times=30)
+    student.type("# here")
+    before = [place(student), student.browser.answer(SCROLLED)]
+    student.expect(f"the file isn't scrolled: {before}", before[1] > 0)
+    to_file(student, "a.cell")
+    to_file(student, "a.s")
+    after = [place(student), student.browser.answer(SCROLLED)]
+    student.expect(f"cursor and scroll are {after} after another file, and {before} before", after == before)
+    file.lines()
+    student.type(" too")
+    middle = [line for line in file.lines() if "# here" in line]
+    student.expect(f"typing goes on in {middle}", len(middle) == 1 and "# here too" in middle[0])
+    file.press("a", CONTROL)
+    to_file(student, "a.cell")
+    to_file(student, "a.s")
+    file.lines()
+    student.type("#")
+    file.expect("typing over all after another file", ["#"])
+
+
 def a_long_selection_is_replaced(student: Student) -> None:
     """Selections that begin or end outside of the lines that the textarea holds."""
     file = LongFile(student)
@@ -508,7 +532,8 @@ USES: Tuple[Callable[[Student], None], ...] = (
     a_reload_keeps_the_text, back_keeps_the_text, a_commented_source_line_keeps_the_text, a_second_link_keeps_the_first, as_it_was_is_undone,
     as_it_was_reaches_hidden_files, two_tabs_show_the_same_text, a_tab_keeps_undo_cursor_and_scroll, each_file_has_a_textarea,
     leaving_is_asked_without_storage, leaving_is_not_asked_with_storage, a_click_on_a_tab_outlives_the_faults,
-    a_large_link_is_refused, a_key_costs_the_same_in_a_long_file, a_long_file_is_edited, a_long_selection_is_replaced)
+    a_large_link_is_refused, a_key_costs_the_same_in_a_long_file, a_long_file_is_edited,
+    a_long_file_keeps_its_place, a_long_selection_is_replaced)
 
 
 def used(browser: Browser, page: pathlib.Path) -> List[str]:
