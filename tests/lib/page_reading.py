@@ -1,7 +1,7 @@
 """Reads a page of the documentation: its sections, and in these the paragraphs and the indented blocks, with the commands that they show.
 
-A command begins with the path of a program of this repository, or with a word of OTHERS, and stands in a block of its own kind or in a paragraph between
-backquotes. One that has words in capitals (`tools/race MACHINE RECORD`) is a form of commands, and none itself.
+A command begins with the path of a program of this repository, or with a word of OTHERS, and stands in a block of its own kind, or in a paragraph between
+backquotes, there of others those alone of WITH_WORDS. One that has words in capitals (`tools/race MACHINE RECORD`) is a form of commands, and none itself.
 """
 import dataclasses
 import pathlib
