@@ -1,7 +1,7 @@
 """Reads a page of the documentation: its sections, and in these the paragraphs and the indented blocks, with the commands that they show.
 
-A command begins with the path of a program of this repository, or with a word of OTHERS, and stands in a block of its own kind or in a paragraph between
-backquotes. One that has words in capitals (`tools/race MACHINE RECORD`) is a form of commands, and none itself.
+A command begins with the path of a program of this repository, or with a word of OTHERS, and stands in a block of its own kind, or in a paragraph between
+backquotes, there of others those alone of WITH_WORDS. One that has words in capitals (`tools/race MACHINE RECORD`) is a form of commands, and none itself.
 """
 import dataclasses
 import pathlib
@@ -9,13 +9,14 @@ import re
 from typing import Iterator, List, Tuple, Union
 
 INDENT = "    "
-OWN = r"(?:CELL_TRY=1 )?(?:\./cell|\./hunt|tools/\w+|tests/all|\.ci/run)"
-OTHERS = r"(?:diff|grep|chromium|for)"
+OWN = r"(?:CELL_TRY=1 )?(?:\./cell|\./hunt|~/cell/hunt|tools/(?:dev/)?\w+|tests/all|\.ci/run)"
+OTHERS = r"(?:diff|grep|chromium|for|seq|parallel|sbatch|touch|cpp|spu-gcc|cc|python3|PYTHONPATH=\w+ python3)"
+WITH_WORDS = r"(?:touch|cpp|spu-gcc|cc|python3)"  # others that are commands in a paragraph too, if a word follows
 IN_BLOCK = re.compile(rf"(?:{OWN}|{OTHERS})(?: |$)")
-IN_TEXT = re.compile(rf"`({OWN} [^`]+)`")
-FORM = re.compile(r"(?<![\w$.])[A-Z]+(?![\w.])|\.\.(?!/)")
+IN_TEXT = re.compile(rf"`((?:{OWN}|{WITH_WORDS}) [^`]+|\./example)`")
+FORM = re.compile(r"(?<![\w$.-])[A-Z]+(?![\w.=])|\.\.(?!/)")
 PROMPT = re.compile(r"\d+> ")
-NAMED = re.compile(r"(?:source|machine file), `([^`]+)`")
+NAMED = re.compile(r"(?:[Ss]ource|machine file|script|C file), `([^`]+)`")
 ITEM = re.compile(r"- |\d+\. |\|")
 
 
@@ -50,10 +51,10 @@ class Block:
         return str(named[-1]) if named else ""
 
     def commands(self) -> List[str]:
-        """The commands, those without forms; what stands deeper goes on with the command before it."""
+        """The commands, those without forms. A line that is deeper, or within quotes, goes on with the command before it."""
         commands: List[str] = []
         for line in self.lines:
-            if line.startswith(" "):
+            if line.startswith(" ") or commands and commands[-1].count("'") % 2:
                 commands[-1] += f"\n{line}"
             else:
                 commands.append(line)

@@ -10,6 +10,7 @@ from celltools.hunt.endings import Explained, Json
 from celltools.hunt.reading import FLAWS, FORM_OF_HUNT, Count, Head, Hearer, Kept, Part, Reader, Result, opened
 from celltools.run.runs import Refused
 
+MOST_RUNS = 1_000_000  # of one call of ./hunt
 MOST_RESULTS = 8  # of an ending that the text has
 SHOWN_RESULTS = 2  # of an ending of which the text has the difference
 DIGEST = 16  # bytes
@@ -112,7 +113,7 @@ Kinds = Tuple["array.array[int]", "array.array[int]"]
 class Hunt:
     """The sum of parts."""
 
-    def __init__(self, files: Sequence[str]) -> None:
+    def __init__(self, files: Sequence[str], may_have_gaps: bool = False) -> None:
         self.names = ["standard input" if name == "-" else name for name in files]
         self.files: List[Optional[IO[bytes]]] = []
         self.tallies = {what: Tally() for what in ("race", "end", "missed")}
@@ -122,7 +123,9 @@ class Hunt:
         for number, name in enumerate(files):
             self.read(number, name)
         self.parts.sort(key=lambda part: part.head.start)
-        refuse_gaps(self.parts)
+        refuse_shared(self.parts)
+        if not may_have_gaps:
+            refuse_gaps(self.parts)
         self.head = head_of(self.parts)
 
     # ---- reading
@@ -224,13 +227,29 @@ def refuse_others(first: Part, part: Part) -> None:
         raise Refused(f"{place_of(part)}: its --expect or --pass differs from that of {there}")
 
 
-def refuse_gaps(parts: Sequence[Part]) -> None:
-    """Refuses parts, in the order of their runs, of which two share a run, or between two of which a run is missing."""
+def refuse_shared(parts: Sequence[Part]) -> None:
+    """Refuses parts, in the order of their runs, if two of them share a run."""
     for before, after in zip(parts, parts[1:]):
         if after.head.start < before.head.stop:
             raise Refused(f"{place_of(after)}: run {after.head.start} is also in {place_of(before)}")
+
+
+def refuse_gaps(parts: Sequence[Part]) -> None:
+    """Refuses parts, in the order of their runs, if a run between two of them is missing."""
+    for before, after in zip(parts, parts[1:]):
         if after.head.start > before.head.stop:
-            raise Refused(f"{place_of(after)}: it begins with run {after.head.start}, but the runs from {before.head.stop} on are missing")
+            raise Refused(f"{place_of(after)}: it begins with run {after.head.start}, but the runs from {before.head.stop} on are missing: "
+                          f"`tools/hunts --missing {parts[-1].head.stop} FILE..` lists all missing runs")
+
+
+def missing(parts: Sequence[Part], runs: int) -> Iterator[Tuple[int, int]]:
+    """The ranges of the runs from 0 to `runs` - 1 that no part has, each with its first run and its length. `parts` are in the order of their runs. No range is longer
+    than one call of ./hunt can make."""
+    starts = [0, *(part.head.stop for part in parts)]
+    stops = [*(part.head.start for part in parts), runs]
+    for start, stop in zip(starts, stops):
+        for first in range(start, min(stop, runs), MOST_RUNS):
+            yield first, min(MOST_RUNS, stop - first, runs - first)
 
 
 # ---- writing
