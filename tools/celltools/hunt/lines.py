@@ -2,33 +2,57 @@
 
 Line 1 names the form, the version and the sources of the program, the machine file, and a checksum of it and its sources. Line 2 is the hunt's head. Then come
 races, endings with their numbers, results, expected lines that runs miss, and the classes of runs. The last line has the number of lines before it and their
-SHA-256. A result is a list: the number of its ending, how many runs left it, the first of them, and its text.
+SHA-256.
+
+A line of results has columns. The texts of a hunt's results have the same `show` lines, so they differ in hexadecimal digits alone: the line has the first text, the
+ranges of places at which the texts differ, and the digits at these places. In form 1 each result had a line: a list of its numbers and its whole text.
 """
 import array
 import base64
+import binascii
+import functools
+import itertools
 import json
+import operator
 import re
 import sys
-from typing import Iterator, List, Sequence, Tuple
+from typing import Iterable, Iterator, List, NamedTuple, Sequence, Tuple
 
 
-FORM = 1
-PART, KINDS = "part", "kinds"  # the first members of a part's first line, and of a line of classes
+FORM, FORM_OF_LISTS = 2, 1
+PART, TEXT, KINDS = "part", "text", "kinds"  # the first members of a part's first line, of a line of results, and of a line of classes
 LAST = "lines"  # and of the last line
+OF_RESULTS = (TEXT, "spans", "digits", "endings", "runs", "first")  # the members of a line of results
+MOST_ROWS = 100  # in a line: more would take longer to read for one text
+MOST_TEXT = 1 << 22  # bytes of the texts of a line that has several
 MOST_KINDS = 3000  # in a line: a multiple of 3, so that base64 has no padding between lines
 ODD = re.compile(r'[^ !#-\[\]-~]')
-# A string's characters as they are written: printable ASCII as it is, a line feed as \n, and every other byte by its number.
+# A string's characters as they are written: printable ASCII as it is, a line feed of form 1 as \n, and every other byte by its number.
 PLAIN = rb'[ !#-\[\]-~]*'
 ESCAPED = rb'\\(?:n|u00(?:0[0-9b-f]|1[0-9a-f]|22|5c|7f|[89a-f][0-9a-f]))'
 NUMBER = rb"(?:0|[1-9][0-9]{0,9})"
-RESULT = re.compile(rb'\[(%s),(%s),(%s),"(%s(?:%s%s)*)"\]\n' % (NUMBER, NUMBER, NUMBER, PLAIN, ESCAPED, PLAIN))
-LONG_FEED, FEED = b"\\u000a", b"\\n"  # a line feed as the program writes it, and as it is written here
+LISTED = re.compile(rb'\[(%s),(%s),(%s),"(%s(?:%s%s)*)"\]\n' % (NUMBER, NUMBER, NUMBER, PLAIN, ESCAPED, PLAIN))  # a result of form 1
+FEED, LISTED_FEED = b"\\u000a", b"\\n"  # a line feed as the program writes it, and as form 1 does
+WITHOUT_DIGITS = bytes.maketrans(b"123456789abcdef", b"0" * 15)
+DIFFERING = re.compile(rb"[^\0]+")
 
+
+class Row(NamedTuple):
+    """A result: the number of its ending, how many runs left it, the first of them, and its text."""
+    ending: int
+    runs: int
+    first: int
+    text: bytes
+
+
+# ---- JSON
 
 def json_line(value: object) -> str:
     """A value without spaces, of whose strings all but plain characters are written by their numbers. They have a character a byte."""
     if isinstance(value, dict):
         return "{" + ",".join(f"{json_line(name)}:{json_line(member)}" for name, member in value.items()) + "}"
+    if isinstance(value, list) and set(map(type, value)) == {int}:
+        return "[" + ",".join(map(str, value)) + "]"
     if isinstance(value, list):
         return "[" + ",".join(map(json_line, value)) + "]"
     if isinstance(value, str):
@@ -40,15 +64,69 @@ def line_of(value: object) -> bytes:
     return f"{json_line(value)}\n".encode()
 
 
-def result_line(ending: int, runs: int, first: int, text: bytes) -> bytes:
-    """The line of a result, whose text is written as a string already."""
-    return b'[%d,%d,%d,"%s"]\n' % (ending, runs, first, text)
+def text_of(written: bytes) -> bytes:
+    """The text of a string without its quotation marks. ValueError if a character of it is no byte."""
+    plain = written.replace(FEED, b"\n").replace(LISTED_FEED, b"\n")
+    return plain if b"\\" not in plain else str(json.loads(b'"%s"' % written)).encode("latin-1")
 
 
-def text_of(written: bytes) -> str:
-    """The text of a string without its quotation marks: a character a byte."""
-    return str(json.loads(b'"%s"' % written))
+# ---- results
 
+def result_lines(rows: Iterable[Row]) -> Iterator[bytes]:
+    """The lines of results: each has up to `most_rows` of them, whose texts differ in hexadecimal digits alone."""
+    for skeleton, alike in itertools.groupby(rows, key=lambda row: row.text.translate(WITHOUT_DIGITS)):
+        while together := list(itertools.islice(alike, most_rows(len(skeleton)))):
+            yield result_line(together)
+
+
+def most_rows(length: int) -> int:
+    """How many results of texts of a length a line has at most."""
+    return max(1, min(MOST_ROWS, MOST_TEXT // max(1, length)))
+
+
+def result_line(rows: Sequence[Row]) -> bytes:
+    """The line of results that belong into one."""
+    endings, runs, first, texts = map(list, zip(*rows))
+    spans = differing_spans(texts)
+    digits = b"".join([text[start:stop] for text in texts for start, stop in spans])
+    steps = [first[0], *map(operator.sub, first[1:], first)]
+    return line_of(dict(zip(OF_RESULTS, (texts[0].decode("latin-1"), spans, packed_digits(digits), endings, runs, steps))))
+
+
+def differing_spans(texts: Sequence[bytes]) -> List[List[int]]:
+    """The ranges of places at which texts of the same length differ, each with its start and its stop."""
+    first = int.from_bytes(texts[0], "big")
+    differing = functools.reduce(operator.or_, [int.from_bytes(text, "big") ^ first for text in texts])
+    return [list(found.span()) for found in DIFFERING.finditer(differing.to_bytes(len(texts[0]), "big"))]
+
+
+def texts_of(text: bytes, spans: Sequence[Sequence[int]], digits: str, count: int) -> List[bytes]:
+    """The texts of a line of results. The spans are in order. ValueError for digits that aren't as many as the spans have places."""
+    found, widths = unpacked_digits(digits), [stop - start for start, stop in spans]
+    width = sum(widths)
+    if len(found) != count * width + count * width % 2:
+        raise ValueError
+    between = [text[start:stop] for start, stop in zip([0, *(stop for _, stop in spans)], [*(start for start, _ in spans), len(text)])]
+    return [filled(between, widths, found[place * width : (place + 1) * width]) for place in range(count)]
+
+
+def filled(between: Sequence[bytes], widths: Sequence[int], digits: bytes) -> bytes:
+    """The pieces of a text with digits between them."""
+    stops = itertools.accumulate(widths)
+    return between[0] + b"".join([digits[stop - width : stop] + piece for piece, width, stop in zip(between[1:], widths, stops)])
+
+
+def packed_digits(digits: bytes) -> str:
+    """Hexadecimal digits in base64, two in a byte; a 0 follows an odd number of them."""
+    return base64.b64encode(binascii.unhexlify(digits + b"0" * (len(digits) % 2))).decode()
+
+
+def unpacked_digits(text: str) -> bytes:
+    """Digits of base64, with the 0 that may follow them; ValueError for a text that is none."""
+    return binascii.hexlify(base64.b64decode(text.encode("ascii"), validate=True))
+
+
+# ---- classes
 
 def kinds_lines(digests: Sequence[int], runs: Sequence[int]) -> Iterator[bytes]:
     """The lines of the classes of runs: each line has up to MOST_KINDS, their digests of 64 bits, and how many runs are of each."""
@@ -73,6 +151,8 @@ def unpacked(text: str) -> List[int]:
         words.byteswap()
     return words.tolist()
 
+
+# ---- the last line, and parts of a line
 
 def last_line(lines: int, checksum: str) -> bytes:
     return line_of({LAST: lines, "sha256": checksum})

@@ -1,6 +1,7 @@
 """Makes a part of what the program of ./hunt prints with --json, line by line."""
 import array
 import hashlib
+import itertools
 import json
 import re
 from typing import Any, BinaryIO, Dict, Iterator, List
@@ -8,13 +9,14 @@ from typing import Any, BinaryIO, Dict, Iterator, List
 from celltools.common.repository import program_sources, version
 from celltools.common.texts import bytes_of
 from celltools.hunt.endings import Json
-from celltools.hunt.lines import FEED, FORM, LONG_FEED, kinds_lines, last_line, line_of, result_line
+from celltools.hunt.lines import FORM, Row, kinds_lines, last_line, line_of, result_lines, text_of
 from celltools.hunt.words import Explainer, end_places, places_of
 from celltools.run.plans import sources_of
 from celltools.run.runs import IN_PLACE, UNPROVED, Refused, prepare
 from celltools.run.snapshots import Snapshot
 from celltools.source.sites import Sites
 
+RESULTS = b'{"result":'
 RESULT = re.compile(rb'\{"result":"([^"]*)","end":"([^"]*)","runs":(\d+),"first":(\d+)\}\n')
 KINDS = b'{"kinds":{'
 KIND = re.compile(rb'"(\d+)":(\d+)')
@@ -65,16 +67,26 @@ class Maker:
         self.sites, self.explainer = sites, Explainer(machine, seed)
         self.numbers: Dict[bytes, int] = {}  # of the endings, by how the program writes them
 
-    def lines(self, line: bytes) -> Iterator[bytes]:
-        """The lines for a line after the head."""
+    def lines(self, output: BinaryIO) -> Iterator[bytes]:
+        """The lines for those after the head."""
+        for are_results, lines in itertools.groupby(output, lambda line: line.startswith(RESULTS)):
+            yield from result_lines(map(self.row, lines)) if are_results else itertools.chain.from_iterable(map(self.lines_for, lines))
+
+    def row(self, line: bytes) -> Row:
+        """The result of a line. ValueError if it has none."""
         found = RESULT.fullmatch(line)
-        if found:
-            yield result_line(self.numbers[found[2]], int(found[3]), int(found[4]), found[1].replace(LONG_FEED, FEED))
-        elif line.startswith(KINDS):
+        if not found:
+            raise ValueError
+        text, ending, runs, first = found.groups()
+        return Row(self.numbers[ending], int(runs), int(first), text_of(text))
+
+    def lines_for(self, line: bytes) -> Iterator[bytes]:
+        """The lines for one that has no result."""
+        if line.startswith(KINDS):
             digests, runs = array.array("Q"), array.array("L")
-            for kind in KIND.finditer(line):
-                digests.append(int(kind[1]))
-                runs.append(int(kind[2]))
+            for digest, count in (kind.groups() for kind in KIND.finditer(line)):
+                digests.append(int(digest))
+                runs.append(int(count))
             yield from kinds_lines(digests, runs)
         else:
             yield line_of(self.completed(json.loads(line), line))
@@ -97,9 +109,7 @@ def lines_made(output: BinaryIO, checksum: str, sites: Sites, machine: Snapshot)
     head = output.readline()
     members = json.loads(head)
     yield head
-    maker = Maker(sites, machine, members["seed"])
-    for line in output:
-        yield from maker.lines(line)
+    yield from Maker(sites, machine, members["seed"]).lines(output)
 
 
 def part_lines(output: BinaryIO, checksum: str, sites: Sites, machine: Snapshot) -> Iterator[bytes]:

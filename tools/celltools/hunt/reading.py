@@ -2,7 +2,9 @@
 import dataclasses
 import errno
 import hashlib
+import itertools
 import json
+import operator
 import os
 import re
 import stat
@@ -22,6 +24,7 @@ MOST_RUN, MOST_SEED = 0xFFFF_FFFE, 0xFFFF_FFFF_FFFF_FFFF
 MOST_LINE = 1 << 28  # bytes
 CHECKSUM = re.compile(r"[0-9a-f]{64}")
 VERSION = re.compile(r"[0-9]+\.[0-9]+\.[0-9]+")
+BYTES = re.compile(r"[\0-\xff]*")
 AGAIN = "make the part again with `./hunt MACHINE --json`"
 OLDER = b'{"machine":'  # begins what earlier versions printed
 
@@ -69,11 +72,12 @@ class Part:
 
 @dataclasses.dataclass
 class Result:
-    """The result of an ending: its text as it is written, and where its line begins in its file."""
+    """The result of an ending, where its line begins in its file, and its place in this line."""
     text: bytes
     ending: str
     count: Count
     offset: int
+    place: int
 
 
 class Hearer:
@@ -143,6 +147,49 @@ def refuse_other_writing(members: Json, line: bytes) -> None:
         raise Wrong("this is not in the form that ./hunt writes")
 
 
+# ---- results
+
+def listed(line: bytes) -> Optional[written.Row]:
+    """The result of a line of form 1; None if it has none."""
+    found = written.LISTED.fullmatch(line)
+    return written.Row(int(found[1]), int(found[2]), int(found[3]), written.text_of(found[4])) if found else None
+
+
+def numbers_in(members: Json, name: str, length: Optional[int] = None) -> List[int]:
+    """A list of numbers, as many as a line may have results if there is no other length."""
+    value = members[name]
+    lengths = range(1, written.MOST_ROWS + 1) if length is None else (length,)
+    is_right = isinstance(value, list) and len(value) in lengths and all(is_number(each, 0, MOST_RUN + 1) for each in value)
+    refuse_other(name, value, is_right, f"a list of {length or f'1 to {written.MOST_ROWS}'} numbers from 0 to {MOST_RUN + 1}")
+    return list(value)
+
+
+def spans_in(members: Json, length: int) -> List[List[int]]:
+    """The ranges of places of a text of a length, one after the other."""
+    value = members["spans"]
+    are_pairs = isinstance(value, list) and all(isinstance(span, list) and len(span) == 2 for span in value)
+    edges = [edge for span in value for edge in span] if are_pairs else []
+    is_right = are_pairs and all(is_number(edge, 0, length) for edge in edges) and all(map(operator.lt, edges, edges[1:]))
+    refuse_other("spans", value, is_right, f"a list of ranges in a text of {length} characters")
+    return list(value)
+
+
+def rows_of(members: Json) -> List[written.Row]:
+    """The results of a line."""
+    refuse_names(members, written.OF_RESULTS)
+    endings = numbers_in(members, "endings")
+    runs, steps = (numbers_in(members, name, len(endings)) for name in ("runs", "first"))
+    text = text_in(members, written.TEXT, BYTES, "a string of bytes").encode("latin-1")
+    if len(endings) > written.most_rows(len(text)):
+        raise Wrong(f"it has {len(endings)} results of {len(text)} bytes, not 1 to {written.most_rows(len(text))}")
+    spans, digits = spans_in(members, len(text)), text_in(members, "digits")
+    try:
+        texts = written.texts_of(text, spans, digits, len(endings))
+    except ValueError:
+        raise Wrong('"digits" is not base64 of the digits at the spans') from None
+    return list(map(written.Row, endings, runs, itertools.accumulate(steps), texts))
+
+
 # ---- lines
 
 def opening_of(line: bytes) -> Json:
@@ -153,7 +200,8 @@ def opening_of(line: bytes) -> Json:
     if written.PART not in members:
         raise Wrong('no part begins here: the first line of a part has "part"')
     refuse_names(members, ("part", "version", "program", "machine", "sum"))
-    refuse_other("part", members["part"], is_number(members["part"], written.FORM, written.FORM), f"{written.FORM}, the form that this tools/hunts reads")
+    refuse_other("part", members["part"], is_number(members["part"], written.FORM_OF_LISTS, written.FORM),
+                 f"{written.FORM_OF_LISTS} or {written.FORM}, the forms that this tools/hunts reads")
     text_in(members, "version", VERSION, "a version such as 1.0.0")
     text_in(members, "program")
     text_in(members, "machine")
@@ -190,8 +238,14 @@ def head_of(line: bytes) -> Head:
 class Body:
     """The lines of a part after its head, which it judges one by one and then together."""
 
-    def __init__(self, head: Head, hearer: Hearer) -> None:
-        self.head, self.hearer = head, hearer
+    def __init__(self, part: Part, hearer: Hearer) -> None:
+        self.head, self.hearer = part.head, hearer
+        is_of_lists = part.opening[written.PART] == written.FORM_OF_LISTS
+        # How the lines begin, in their order, and what takes them.
+        self.taking: List[Tuple[bytes, Callable[[bytes, int], None]]] = [
+            (b'{"race":', self.take_race), (b'{"number":', self.take_ending), (b"[", self.take_listed) if is_of_lists else (b'{"text":', self.take_results),
+            (b'{"missed":', self.take_missed), (b'{"kinds":', self.take_kinds),
+        ]  # fmt: skip
         self.stage = 0
         self.endings: List[Tuple[str, Count]] = []
         self.left: List[int] = []  # of each ending, how many runs have no result yet
@@ -212,14 +266,13 @@ class Body:
 
     def take(self, line: bytes, offset: int) -> None:
         """Takes in a line. Wrong if it isn't one, or comes too late."""
-        stage = next((stage for stage, start in enumerate(STARTS) if line.startswith(start)), None)
+        stage = next((stage for stage, (start, _) in enumerate(self.taking) if line.startswith(start)), None)
         if stage is None:
             raise Wrong("this is not a line of a part")
         if stage < self.stage:
             raise Wrong("this line is out of order: races come first, then endings, results, missed lines and classes of runs")
         self.stage = stage
-        taking: List[Callable[[bytes, int], None]] = [self.take_race, self.take_ending, self.take_result, self.take_missed, self.take_kinds]
-        taking[stage](line, offset)
+        self.taking[stage][1](line, offset)
 
     def take_once(self, what: str, key: str, members: Json, line: bytes, count: Count) -> None:
         refuse_other_writing(members, line)
@@ -248,19 +301,29 @@ class Body:
         self.left.append(count.runs)
         self.take_once("end", ending, members, line, count)
 
-    def take_result(self, line: bytes, offset: int) -> None:
-        found = written.RESULT.fullmatch(line)
-        if not found:
+    def take_listed(self, line: bytes, offset: int) -> None:
+        row = listed(line)
+        if not row:
             raise Wrong("this is not a result: a list of an ending's number, a number of runs, the first of them, and a text")
-        number, runs, first = int(found[1]), int(found[2]), int(found[3])
+        self.take_row(row, offset, 0)
+
+    def take_results(self, line: bytes, offset: int) -> None:
+        rows = rows_of(object_of(line))
+        if written.result_line(rows) != line:
+            raise Wrong("this is not in the form that ./hunt writes")
+        for place, row in enumerate(rows):
+            self.take_row(row, offset, place)
+
+    def take_row(self, row: written.Row, offset: int, place: int) -> None:
+        number, first = row.ending, row.first
         if number >= len(self.endings):
             raise Wrong(f"there is no ending {number}: this part has {len(self.endings)}")
         if first <= self.last_first:
             raise Wrong(f"its first run is {first}, that of the previous result is {self.last_first}: results are sorted by their first runs")
         self.last_first = first
-        count = self.count_of(runs, first, self.left[number])
-        self.left[number] -= runs
-        self.hearer.take_result(Result(found[4], self.endings[number][0], count, offset))
+        count = self.count_of(row.runs, first, self.left[number])
+        self.left[number] -= row.runs
+        self.hearer.take_result(Result(row.text, self.endings[number][0], count, offset, place))
 
     def take_missed(self, line: bytes, _: int) -> None:
         members = object_of(line)
@@ -317,7 +380,6 @@ def refuse_first(what: str, counts: Sequence[Count], wanted: Count) -> None:
         raise Wrong(f"{what} begin with run {first} instead of run {wanted.first}, as in the head")
 
 
-STARTS = (b'{"race":', b'{"number":', b"[", b'{"missed":', b'{"kinds":')  # of the lines after the head, in their order
 LAST = b'{"lines":'
 
 
@@ -388,7 +450,7 @@ class Reader:
         opening, second = opening_of(first), self.line()
         checksum.update(second)
         part = Part(self.name, start, opening, head_of(second or self.cut(start)))
-        body = Body(part.head, hearer(part))
+        body = Body(part, hearer(part))
         while True:
             line = self.line() or self.cut(start)
             if line.startswith(LAST):

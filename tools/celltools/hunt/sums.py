@@ -1,13 +1,14 @@
 """Adds up parts of a hunt to what one hunt of all the runs would print. Results, of which there may be a million, stay in their files: of each a digest is kept,
-its counts, and where its line is."""
+its counts, and its place in a line of a file."""
 import array
 import dataclasses
 import hashlib
+import itertools
 from typing import IO, Dict, Iterator, List, Optional, Sequence, Tuple
 
 from celltools.hunt import lines as written
 from celltools.hunt.endings import Explained, Json
-from celltools.hunt.reading import FLAWS, FORM_OF_HUNT, Count, Head, Hearer, Kept, Part, Reader, Result, opened
+from celltools.hunt.reading import FLAWS, FORM_OF_HUNT, Count, Head, Hearer, Kept, Part, Reader, Result, Wrong, listed, object_of, opened, rows_of
 from celltools.run.runs import Refused
 
 MOST_RUNS = 1_000_000  # of one call of ./hunt
@@ -53,7 +54,7 @@ class Results:
     def __init__(self) -> None:
         self.places: Dict[bytes, int] = {}  # by the digest of an ending and a text
         self.endings: Dict[str, int] = {}
-        self.ending, self.file = array.array("L"), array.array("L")
+        self.ending, self.file, self.place = array.array("I"), array.array("I"), array.array("B")
         self.runs, self.first, self.offset = array.array("Q"), array.array("Q"), array.array("Q")
 
     @staticmethod
@@ -66,12 +67,12 @@ class Results:
         if place == len(self.runs):
             self.ending.append(ending)
             self.runs.append(result.count.runs)
-            for numbers, number in ((self.file, file), (self.first, first), (self.offset, result.offset)):
+            for numbers, number in ((self.file, file), (self.first, first), (self.offset, result.offset), (self.place, result.place)):
                 numbers.append(number)
             return
         self.runs[place] += result.count.runs
         if first < self.first[place]:
-            self.file[place], self.first[place], self.offset[place] = file, first, result.offset
+            self.file[place], self.first[place], self.offset[place], self.place[place] = file, first, result.offset, result.place
 
     def in_order(self) -> List[int]:
         """The places of the results, in the order of their first runs."""
@@ -171,22 +172,28 @@ class Hunt:
         return [told if explained.takes(told.members["end"]) else unexplained(told) for told in self.tallies["end"].in_order()]
 
     def texts(self, places: Sequence[int]) -> Iterator[bytes]:
-        """The texts of results, as they are written. Refused if a file has changed since it was read."""
-        kept, number = None, -1
-        for place in places:
-            if self.results.file[place] != number:
-                number = self.results.file[place]
-                kept = self.files[number] or open(self.names[number], "rb")
-            yield self.text(kept, place)
+        """The texts of results. Refused if a file has changed since it was read."""
+        results = self.results
+        for number, of_file in itertools.groupby(places, results.file.__getitem__):
+            file = self.files[number] or open(self.names[number], "rb")
+            for offset, of_line in itertools.groupby(of_file, results.offset.__getitem__):
+                texts = texts_at(file, offset)
+                for place in of_line:
+                    found = texts[results.place[place]] if results.place[place] < len(texts) else b""
+                    if results.places.get(results.digest(results.ending[place], found)) != place:
+                        raise Refused(f"{self.names[number]}: the file changed while it was read: run this command again")
+                    yield found
 
-    def text(self, file: Optional[IO[bytes]], place: int) -> bytes:
-        found = None
-        if file:
-            file.seek(self.results.offset[place])
-            found = written.RESULT.fullmatch(file.readline())
-        if not found or self.results.places.get(self.results.digest(self.results.ending[place], found[4])) != place:
-            raise Refused(f"{self.names[self.results.file[place]]}: the file changed while it was read: run this command again")
-        return found[4]
+
+def texts_at(file: IO[bytes], offset: int) -> List[bytes]:
+    """The texts of the results of a line; none if it has no results."""
+    file.seek(offset)
+    line = file.readline()
+    try:
+        row = listed(line)
+        return [row.text] if row else [row.text for row in rows_of(object_of(line))]
+    except Wrong:
+        return []
 
 
 def unexplained(told: Told) -> Told:
@@ -256,7 +263,7 @@ def missing(parts: Sequence[Part], runs: int) -> Iterator[Tuple[int, int]]:
 
 def json_lines(hunt: Hunt) -> Iterator[bytes]:
     """The lines that one hunt of all runs prints with --json, but for the last."""
-    yield written.line_of(hunt.parts[0].opening)
+    yield written.line_of({**hunt.parts[0].opening, written.PART: written.FORM})
     head = hunt.head
     counts: Json = {name: dataclasses.asdict(count) for name, count in head.flaws.items()}
     yield written.line_of({"hunt": FORM_OF_HUNT, "seed": head.seed, "from": head.start, "runs": head.runs, "expects": head.expects,
@@ -267,7 +274,7 @@ def json_lines(hunt: Hunt) -> Iterator[bytes]:
     for told in hunt.endings():
         numbers[told.members["end"]] = told.members["number"] = len(numbers)
         yield told_line(told)
-    yield from result_lines(hunt, numbers)
+    yield from written.result_lines(result_rows(hunt, numbers))
     for told in hunt.tallies["missed"].in_order():
         yield told_line(told)
     kinds = hunt.kinds()
@@ -280,8 +287,9 @@ def told_line(told: Told) -> bytes:
     return written.line_of({**first, **dataclasses.asdict(told.count), **added})
 
 
-def result_lines(hunt: Hunt, numbers: Dict[str, int]) -> Iterator[bytes]:
-    of_ending = {number: numbers[ending] for ending, number in hunt.results.endings.items()}
-    places = hunt.results.in_order()
+def result_rows(hunt: Hunt, numbers: Dict[str, int]) -> Iterator[written.Row]:
+    results = hunt.results
+    of_ending = {number: numbers[ending] for ending, number in results.endings.items()}
+    places = results.in_order()
     for place, text in zip(places, hunt.texts(places)):
-        yield written.result_line(of_ending[hunt.results.ending[place]], hunt.results.runs[place], hunt.results.first[place], text)
+        yield written.Row(of_ending[results.ending[place]], results.runs[place], results.first[place], text)

@@ -3,7 +3,6 @@ from typing import Dict, Iterator, List
 
 from celltools.common.texts import decoded, lines_in
 from celltools.hunt.advice import advice
-from celltools.hunt.lines import text_of
 from celltools.hunt.reading import Count
 from celltools.hunt.spent import folded
 from celltools.hunt.sums import MOST_RESULTS, SHOWN_RESULTS, Hunt, Told
@@ -41,9 +40,9 @@ def counted(count: Count) -> str:
     return f"{count.runs} {count.first}"
 
 
-def difference_lines(first: str, second: str) -> Iterator[str]:
+def difference_lines(first: bytes, second: bytes) -> Iterator[str]:
     """The first line in which the second of two results differs from the first."""
-    ours, theirs = lines_in(first.encode("latin-1")), lines_in(second.encode("latin-1"))
+    ours, theirs = lines_in(first), lines_in(second)
     place = next((place for place, (one, other) in enumerate(zip(ours, theirs)) if one != other), min(len(ours), len(theirs)))
     for word, lines in (("differs", theirs), ("from", ours)):
         yield f"{word}: {lines[place] if place < len(lines) else 'nothing more'}"
@@ -58,7 +57,7 @@ def result_lines(hunt: Hunt, places: List[int]) -> Iterator[str]:
         yield f"result {counted(hunt.results.count(place))}"
     if len(places) > MOST_RESULTS:
         yield f"and {len(places) - MOST_RESULTS} more"
-    yield from difference_lines(*map(text_of, hunt.texts(places[:SHOWN_RESULTS])))
+    yield from difference_lines(*hunt.texts(places[:SHOWN_RESULTS]))
 
 
 def finished(lines: List[str], machine: str, seed: int) -> List[str]:
