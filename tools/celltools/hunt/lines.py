@@ -32,7 +32,7 @@ PLAIN = rb'[ !#-\[\]-~]*'
 ESCAPED = rb'\\(?:n|u00(?:0[0-9b-f]|1[0-9a-f]|22|5c|7f|[89a-f][0-9a-f]))'
 NUMBER = rb"(?:0|[1-9][0-9]{0,9})"
 LISTED = re.compile(rb'\[(%s),(%s),(%s),"(%s(?:%s%s)*)"\]\n' % (NUMBER, NUMBER, NUMBER, PLAIN, ESCAPED, PLAIN))  # a result of form 1
-FEED, LISTED_FEED = b"\\u000a", b"\\n"  # a line feed as the program writes it, and as form 1 does
+FEED, LISTED_FEED = b"\\u000a", b"\\n"  # a line feed as the program and form 2 write it, and as form 1 does
 WITHOUT_DIGITS = bytes.maketrans(b"123456789abcdef", b"0" * 15)
 DIFFERING = re.compile(rb"[^\0]+")
 
@@ -86,11 +86,12 @@ def most_rows(length: int) -> int:
 
 def result_line(rows: Sequence[Row]) -> bytes:
     """The line of results that belong into one."""
-    endings, runs, first, texts = map(list, zip(*rows))
+    texts, first = [row.text for row in rows], [row.first for row in rows]
     spans = differing_spans(texts)
     digits = b"".join([text[start:stop] for text in texts for start, stop in spans])
-    steps = [first[0], *map(operator.sub, first[1:], first)]
-    return line_of(dict(zip(OF_RESULTS, (texts[0].decode("latin-1"), spans, packed_digits(digits), endings, runs, steps))))
+    distances = [first[0], *map(operator.sub, first[1:], first)]
+    columns = [row.ending for row in rows], [row.runs for row in rows], distances
+    return line_of(dict(zip(OF_RESULTS, (texts[0].decode("latin-1"), spans, packed_digits(digits), *columns))))
 
 
 def differing_spans(texts: Sequence[bytes]) -> List[List[int]]:
@@ -100,20 +101,23 @@ def differing_spans(texts: Sequence[bytes]) -> List[List[int]]:
     return [list(found.span()) for found in DIFFERING.finditer(differing.to_bytes(len(texts[0]), "big"))]
 
 
-def texts_of(text: bytes, spans: Sequence[Sequence[int]], digits: str, count: int) -> List[bytes]:
-    """The texts of a line of results. The spans are in order. ValueError for digits that aren't as many as the spans have places."""
-    found, widths = unpacked_digits(digits), [stop - start for start, stop in spans]
-    width = sum(widths)
-    if len(found) != count * width + count * width % 2:
-        raise ValueError
-    between = [text[start:stop] for start, stop in zip([0, *(stop for _, stop in spans)], [*(start for start, _ in spans), len(text)])]
-    return [filled(between, widths, found[place * width : (place + 1) * width]) for place in range(count)]
+class Texts:
+    """The texts of a line of results, each made when it is asked for."""
 
+    def __init__(self, text: bytes, spans: Sequence[Sequence[int]], digits: str, count: int) -> None:
+        """The spans are in order. ValueError for digits that aren't as many as the spans have places."""
+        starts, stops = [start for start, _ in spans], [stop for _, stop in spans]
+        self.between = [text[start:stop] for start, stop in zip([0, *stops], [*starts, len(text)])]
+        self.stops = list(itertools.accumulate(map(operator.sub, stops, starts)))
+        self.width = self.stops[-1] if spans else 0
+        self.digits = unpacked_digits(digits)
+        if len(self.digits) != count * self.width + count * self.width % 2:
+            raise ValueError
 
-def filled(between: Sequence[bytes], widths: Sequence[int], digits: bytes) -> bytes:
-    """The pieces of a text with digits between them."""
-    stops = itertools.accumulate(widths)
-    return between[0] + b"".join([digits[stop - width : stop] + piece for piece, width, stop in zip(between[1:], widths, stops)])
+    def of(self, place: int) -> bytes:
+        """The text of a result, by its place in the line."""
+        digits = self.digits[place * self.width : (place + 1) * self.width]
+        return self.between[0] + b"".join([digits[start:stop] + piece for start, stop, piece in zip([0, *self.stops], self.stops, self.between[1:])])
 
 
 def packed_digits(digits: bytes) -> str:

@@ -3,13 +3,14 @@ import array
 import hashlib
 import itertools
 import json
+import operator
 import re
-from typing import Any, BinaryIO, Dict, Iterator, List
+from typing import Any, BinaryIO, Dict, Iterator, List, Sequence
 
 from celltools.common.repository import program_sources, version
 from celltools.common.texts import bytes_of
 from celltools.hunt.endings import Json
-from celltools.hunt.lines import FORM, Row, kinds_lines, last_line, line_of, result_lines, text_of
+from celltools.hunt.lines import FEED, FORM, Row, kinds_lines, last_line, line_of, result_lines, text_of
 from celltools.hunt.words import Explainer, end_places, places_of
 from celltools.run.plans import sources_of
 from celltools.run.runs import IN_PLACE, UNPROVED, Refused, prepare
@@ -17,7 +18,9 @@ from celltools.run.snapshots import Snapshot
 from celltools.source.sites import Sites
 
 RESULTS = b'{"result":'
-RESULT = re.compile(rb'\{"result":"([^"]*)","end":"([^"]*)","runs":(\d+),"first":(\d+)\}\n')
+RESULT = re.compile(rb'^\{"result":"([^"]*)","end":"([^"]*)","runs":(\d+),"first":(\d+)\}\n', re.M)
+READ_AT_ONCE = 16  # results, which is quicker than one by one
+QUOTE = b'"'
 KINDS = b'{"kinds":{'
 KIND = re.compile(rb'"(\d+)":(\d+)')
 
@@ -35,6 +38,12 @@ def first_members(machine: str, checksum: str) -> Json:
     status = prepare()
     program = "unproved" if status == UNPROVED else program_sources(status == IN_PLACE)
     return {"part": FORM, "version": version(), "program": program, "machine": machine, "sum": checksum}
+
+
+def texts_of(written: Sequence[bytes]) -> List[bytes]:
+    """The texts of strings without their quotation marks."""
+    texts = QUOTE.join(written).replace(FEED, b"\n")
+    return list(map(text_of, written)) if b"\\" in texts else texts.split(QUOTE)
 
 
 class Checked:
@@ -69,21 +78,22 @@ class Maker:
 
     def lines(self, output: BinaryIO) -> Iterator[bytes]:
         """The lines for those after the head."""
-        for are_results, lines in itertools.groupby(output, lambda line: line.startswith(RESULTS)):
-            yield from result_lines(map(self.row, lines)) if are_results else itertools.chain.from_iterable(map(self.lines_for, lines))
+        for are_results, lines in itertools.groupby(output, operator.methodcaller("startswith", RESULTS)):
+            yield from result_lines(self.rows(lines)) if are_results else itertools.chain.from_iterable(map(self.lines_for, lines))
 
-    def row(self, line: bytes) -> Row:
-        """The result of a line. ValueError if it has none."""
-        found = RESULT.fullmatch(line)
-        if not found:
-            raise ValueError
-        text, ending, runs, first = found.groups()
-        return Row(self.numbers[ending], int(runs), int(first), text_of(text))
+    def rows(self, lines: Iterator[bytes]) -> Iterator[Row]:
+        """The results of lines. ValueError if one of them has none."""
+        while together := list(itertools.islice(lines, READ_AT_ONCE)):
+            found = RESULT.findall(b"".join(together))
+            if len(found) != len(together):
+                raise ValueError
+            texts, endings, runs, first = zip(*found)
+            yield from map(Row, map(self.numbers.__getitem__, endings), map(int, runs), map(int, first), texts_of(texts))
 
     def lines_for(self, line: bytes) -> Iterator[bytes]:
         """The lines for one that has no result."""
         if line.startswith(KINDS):
-            digests, runs = array.array("Q"), array.array("L")
+            digests, runs = array.array("Q"), array.array("I")
             for digest, count in (kind.groups() for kind in KIND.finditer(line)):
                 digests.append(int(digest))
                 runs.append(int(count))
@@ -116,5 +126,5 @@ def part_lines(output: BinaryIO, checksum: str, sites: Sites, machine: Snapshot)
     """The lines of a part, of what the program prints. Refused if that isn't what it prints."""
     try:
         yield from whole(lines_made(output, checksum, sites, machine))
-    except (ValueError, KeyError, IndexError, TypeError):
+    except (ValueError, KeyError, IndexError, TypeError, OverflowError):
         raise Refused("standard input is not an output of ./hunt with --json") from None

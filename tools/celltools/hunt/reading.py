@@ -99,6 +99,11 @@ def is_number(value: object, least: int, most: int) -> bool:
     return type(value) is int and least <= value <= most
 
 
+def are_numbers(values: object, least: int, most: int) -> bool:
+    """Whether this is a list of numbers; of a million of them each is looked at by built-in functions, which are quicker."""
+    return isinstance(values, list) and set(map(type, values)) <= {int} and (not values or bool(least <= min(values) and max(values) <= most))
+
+
 def refuse_other(name: str, value: object, is_right: bool, wanted: str) -> None:
     if not is_right:
         said = json.dumps(value)
@@ -159,7 +164,7 @@ def numbers_in(members: Json, name: str, length: Optional[int] = None) -> List[i
     """A list of numbers, as many as a line may have results if there is no other length."""
     value = members[name]
     lengths = range(1, written.MOST_ROWS + 1) if length is None else (length,)
-    is_right = isinstance(value, list) and len(value) in lengths and all(is_number(each, 0, MOST_RUN + 1) for each in value)
+    is_right = are_numbers(value, 0, MOST_RUN + 1) and len(value) in lengths
     refuse_other(name, value, is_right, f"a list of {length or f'1 to {written.MOST_ROWS}'} numbers from 0 to {MOST_RUN + 1}")
     return list(value)
 
@@ -169,25 +174,31 @@ def spans_in(members: Json, length: int) -> List[List[int]]:
     value = members["spans"]
     are_pairs = isinstance(value, list) and all(isinstance(span, list) and len(span) == 2 for span in value)
     edges = [edge for span in value for edge in span] if are_pairs else []
-    is_right = are_pairs and all(is_number(edge, 0, length) for edge in edges) and all(map(operator.lt, edges, edges[1:]))
+    is_right = are_pairs and are_numbers(edges, 0, length) and all(map(operator.lt, edges, edges[1:]))
     refuse_other("spans", value, is_right, f"a list of ranges in a text of {length} characters")
     return list(value)
 
 
-def rows_of(members: Json) -> List[written.Row]:
-    """The results of a line."""
+def columns_of(members: Json) -> Tuple[List[int], List[int], List[int], written.Texts]:
+    """The results of a line: their endings, runs, first runs and texts."""
     refuse_names(members, written.OF_RESULTS)
     endings = numbers_in(members, "endings")
-    runs, steps = (numbers_in(members, name, len(endings)) for name in ("runs", "first"))
+    runs, distances = (numbers_in(members, name, len(endings)) for name in ("runs", "first"))
     text = text_in(members, written.TEXT, BYTES, "a string of bytes").encode("latin-1")
     if len(endings) > written.most_rows(len(text)):
         raise Wrong(f"it has {len(endings)} results of {len(text)} bytes, not 1 to {written.most_rows(len(text))}")
     spans, digits = spans_in(members, len(text)), text_in(members, "digits")
     try:
-        texts = written.texts_of(text, spans, digits, len(endings))
+        texts = written.Texts(text, spans, digits, len(endings))
     except ValueError:
         raise Wrong('"digits" is not base64 of the digits at the spans') from None
-    return list(map(written.Row, endings, runs, itertools.accumulate(steps), texts))
+    return endings, runs, list(itertools.accumulate(distances)), texts
+
+
+def rows_of(members: Json) -> List[written.Row]:
+    """The results of a line, one by one."""
+    endings, runs, first, texts = columns_of(members)
+    return list(map(written.Row, endings, runs, first, map(texts.of, range(len(endings)))))
 
 
 # ---- lines
@@ -340,7 +351,7 @@ class Body:
         except ValueError:
             raise Wrong(f'"{written.KINDS}" is not base64 of 64-bit numbers') from None
         runs = members["runs"]
-        if not isinstance(runs, list) or len(runs) != len(digests) or not all(is_number(each, 1, self.head.runs) for each in runs):
+        if not are_numbers(runs, 1, self.head.runs) or len(runs) != len(digests):
             raise Wrong(f'"runs" is not a list of {len(digests)} numbers from 1 to {self.head.runs}')
         refuse_other_writing(members, line)
         self.kinds += sum(runs)

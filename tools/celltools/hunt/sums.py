@@ -8,7 +8,7 @@ from typing import IO, Dict, Iterator, List, Optional, Sequence, Tuple
 
 from celltools.hunt import lines as written
 from celltools.hunt.endings import Explained, Json
-from celltools.hunt.reading import FLAWS, FORM_OF_HUNT, Count, Head, Hearer, Kept, Part, Reader, Result, Wrong, listed, object_of, opened, rows_of
+from celltools.hunt.reading import FLAWS, FORM_OF_HUNT, Count, Head, Hearer, Kept, Part, Reader, Result, Wrong, columns_of, listed, object_of, opened
 from celltools.run.runs import Refused
 
 MOST_RUNS = 1_000_000  # of one call of ./hunt
@@ -148,7 +148,7 @@ class Hunt:
         return Listener(self, number, part)
 
     def kinds_of_part(self, part: Part) -> Kinds:
-        kinds = array.array("Q"), array.array("L")
+        kinds = array.array("Q"), array.array("I")
         self.kinds_of_parts.append((part.head.start, kinds))
         return kinds
 
@@ -172,28 +172,27 @@ class Hunt:
         return [told if explained.takes(told.members["end"]) else unexplained(told) for told in self.tallies["end"].in_order()]
 
     def texts(self, places: Sequence[int]) -> Iterator[bytes]:
-        """The texts of results. Refused if a file has changed since it was read."""
-        results = self.results
-        for number, of_file in itertools.groupby(places, results.file.__getitem__):
+        """The texts of results. Refused if a file has changed since it was read. Each line is read once for places in the order of their first runs."""
+        for number, of_file in itertools.groupby(places, self.results.file.__getitem__):
             file = self.files[number] or open(self.names[number], "rb")
-            for offset, of_line in itertools.groupby(of_file, results.offset.__getitem__):
-                texts = texts_at(file, offset)
-                for place in of_line:
-                    found = texts[results.place[place]] if results.place[place] < len(texts) else b""
-                    if results.places.get(results.digest(results.ending[place], found)) != place:
-                        raise Refused(f"{self.names[number]}: the file changed while it was read: run this command again")
-                    yield found
+            try:
+                for offset, of_line in itertools.groupby(of_file, self.results.offset.__getitem__):
+                    yield from self.texts_at(file, offset, list(of_line))
+            except Wrong:
+                raise Refused(f"{self.names[number]}: the file changed while it was read: run this command again") from None
 
-
-def texts_at(file: IO[bytes], offset: int) -> List[bytes]:
-    """The texts of the results of a line; none if it has no results."""
-    file.seek(offset)
-    line = file.readline()
-    try:
+    def texts_at(self, file: IO[bytes], offset: int, places: Sequence[int]) -> Iterator[bytes]:
+        """The texts of results of one line. Wrong if it has others."""
+        results = self.results
+        file.seek(offset)
+        line = file.readline()
         row = listed(line)
-        return [row.text] if row else [row.text for row in rows_of(object_of(line))]
-    except Wrong:
-        return []
+        texts = None if row else columns_of(object_of(line))[-1]
+        for place in places:
+            found = texts.of(results.place[place]) if texts else row.text if row else b""
+            if results.places.get(results.digest(results.ending[place], found)) != place:
+                raise Wrong
+            yield found
 
 
 def unexplained(told: Told) -> Told:

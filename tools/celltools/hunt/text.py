@@ -1,5 +1,5 @@
 """The text of a hunt, as `./hunt MACHINE` prints it, of the sum of its parts."""
-from typing import Dict, Iterator, List
+from typing import Dict, Iterable, Iterator, List
 
 from celltools.common.texts import decoded, lines_in
 from celltools.hunt.advice import advice
@@ -48,7 +48,14 @@ def difference_lines(first: bytes, second: bytes) -> Iterator[str]:
         yield f"{word}: {lines[place] if place < len(lines) else 'nothing more'}"
 
 
-def result_lines(hunt: Hunt, places: List[int]) -> Iterator[str]:
+def shown_texts(hunt: Hunt, results: Iterable[List[int]]) -> Dict[int, bytes]:
+    """The texts of which the text has the difference, by their places. They are read in the order in which they are in the files."""
+    shown = [place for places in results if len(places) >= SHOWN_RESULTS for place in places[:SHOWN_RESULTS]]
+    shown.sort(key=hunt.results.first.__getitem__)
+    return dict(zip(shown, hunt.texts(shown)))
+
+
+def result_lines(hunt: Hunt, places: List[int], texts: Dict[int, bytes]) -> Iterator[str]:
     """The results that the runs of an ending left, if there is more than one."""
     if len(places) < SHOWN_RESULTS:
         return
@@ -57,7 +64,7 @@ def result_lines(hunt: Hunt, places: List[int]) -> Iterator[str]:
         yield f"result {counted(hunt.results.count(place))}"
     if len(places) > MOST_RESULTS:
         yield f"and {len(places) - MOST_RESULTS} more"
-    yield from difference_lines(*hunt.texts(places[:SHOWN_RESULTS]))
+    yield from difference_lines(*map(texts.pop, places[:SHOWN_RESULTS]))
 
 
 def finished(lines: List[str], machine: str, seed: int) -> List[str]:
@@ -77,10 +84,11 @@ def told_lines(hunt: Hunt) -> Iterator[str]:
     for race in hunt.tallies["race"].in_order():
         yield f"race {counted(race.count)}{told_places('race', race)}"
     results: Dict[str, List[int]] = hunt.results.by_ending()
+    texts = shown_texts(hunt, results.values())
     for ending in hunt.endings():
         yield f"end {counted(ending.count)} {told_places('end', ending)}"
         yield from (f"    {word}" for word in ending.members["words"])
-        yield from result_lines(hunt, results.get(ending.members["end"], []))
+        yield from result_lines(hunt, results.get(ending.members["end"], []), texts)
     for line in hunt.tallies["missed"].in_order():
         yield f"missed {counted(line.count)} {decoded(line.members['missed'].encode('latin-1'))}"  # it has a character a byte
     if hunt.head.left_out:
