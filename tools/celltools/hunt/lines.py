@@ -107,9 +107,10 @@ class Texts:
     def __init__(self, text: bytes, spans: Sequence[Sequence[int]], digits: str, count: int) -> None:
         """The spans are in order. ValueError for digits that aren't as many as the spans have places."""
         starts, stops = [start for start, _ in spans], [stop for _, stop in spans]
-        self.between = [text[start:stop] for start, stop in zip([0, *stops], [*starts, len(text)])]
-        self.stops = list(itertools.accumulate(map(operator.sub, stops, starts)))
-        self.width = self.stops[-1] if spans else 0
+        between = [text[start:stop] for start, stop in zip([0, *stops], [*starts, len(text)])]
+        ends = list(itertools.accumulate(map(operator.sub, stops, starts)))  # of the spans, among the digits of a text
+        self.front, self.pieces = between[0], list(zip([0, *ends], ends, between[1:]))
+        self.width = ends[-1] if ends else 0
         self.digits = unpacked_digits(digits)
         if len(self.digits) != count * self.width + count * self.width % 2:
             raise ValueError
@@ -117,7 +118,7 @@ class Texts:
     def of(self, place: int) -> bytes:
         """The text of a result, by its place in the line."""
         digits = self.digits[place * self.width : (place + 1) * self.width]
-        return self.between[0] + b"".join([digits[start:stop] + piece for start, stop, piece in zip([0, *self.stops], self.stops, self.between[1:])])
+        return self.front + b"".join([digits[start:stop] + piece for start, stop, piece in self.pieces])
 
 
 def packed_digits(digits: bytes) -> str:
