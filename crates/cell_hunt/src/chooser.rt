@@ -1,6 +1,6 @@
 //! Which step a run makes next.
 
-ghost use Rattle.std.specs.Prelude.{◌≡◌, ◌+◌, ◌^◌, ◌<◌, ◌×◌, length, Some, IfSome, IfNone, IsSome};
+ghost use Rattle.std.specs.Prelude.{◌≡◌, ◌+◌, ◌-◌, ◌^◌, ◌<◌, nat_lt, length, Some, IfSome, IfNone, IsSome};
 ghost use Rattle.cell_machine.specs.Effects.{effect_in};
 ghost use Rattle.cell_machine.specs.Run.{next_of};
 ghost use Rattle.cell_hunt.specs.Choices.{IsChosen, IsDrawn, opened, words_of};

@@ -11,10 +11,10 @@ pub returns-clause-picked : goal.returns-clause-picked
 returns-clause-picked c =
     queued-is _ c.args.self.now c.self.invariant.0.state c.args.spe c.args.index c.args.choice (machine-replayed _ _ _ _ _ c.self.invariant.0 c.self.view_is)
     (let e = ap (λ (n : Ran). n.setup.budget) c.self.view_is in let l = ap (λ (n : Ran). length n.steps) c.self.view_is in omega arith)
-    (c.nth_queued.ensures c.self.inside.memory _ c.self.invariant.0.state (rw c.deref.ensures.value c.self.invariant.0.shown))
+    (c.nth_queued.ensures c.self.inside.memory c.self.inside.host c.self.invariant.0.state (rw c.deref.ensures.value c.self.invariant.0.shown))
 
 pub returns-clause-allowed : goal.returns-clause-allowed
 returns-clause-allowed c =
     queued-allowed _ c.args.self.now c.self.invariant.0.state c.args.spe c.args.index c.args.choice (machine-replayed _ _ _ _ _ c.self.invariant.0 c.self.view_is)
     (let e = ap (λ (n : Ran). n.setup.budget) c.self.view_is in let l = ap (λ (n : Ran). length n.steps) c.self.view_is in omega arith)
-    (c.nth_queued.ensures c.self.inside.memory _ c.self.invariant.0.state (rw c.deref.ensures.value c.self.invariant.0.shown))
+    (c.nth_queued.ensures c.self.inside.memory c.self.inside.host c.self.invariant.0.state (rw c.deref.ensures.value c.self.invariant.0.shown))
