@@ -1,13 +1,19 @@
 -- The first of several steps with the greatest key, and one step more.
-use Rattle.std.proofs.Common.{◌≡◌, ℕ, zero, suc, ◌+◌, ◌<◌, ◌≤◌, ◌∙◌, ap, refl, sym, subst, arith, List, [], ◌∷◌, ◌++◌, length, append-nil, append_assoc, inl, inr}
-use Rattle.std.specs.Prelude.{Option, Some, None, IsSome, is_some, Bool, true, false, ◌⊎◌, if◌then◌else◌, cond, option_to_list, slice_get}
+use Rattle.std.proofs.Common.{◌≡◌, ℕ, zero, suc, ◌+◌, ◌<◌, ◌≤◌, ◌∙◌, ap, refl, sym, subst, arith, List, [], ◌∷◌, ◌++◌, length, append-nil, append_assoc, inl, inr, true≢false}
+use Rattle.std.specs.Option.{option_map_or}
+use Rattle.std.specs.Prelude.{Option, Some, None, IfSome, IsSome, IsSomeAnd, is_some, Bool, true, false, ◌⊎◌, if◌then◌else◌, cond, option_to_list, slice_get}
 use Rattle.std.proofs.lemmas.Bool.{cases_lt}
+use Rattle.std.proofs.lemmas.Bool.Decides.{nat_tests}
 use Rattle.std.proofs.lemmas.Option.{none-some, same_Some}
 use Rattle.cell_base.specs.declared.steps.Step.{Step}
-use Rattle.cell_machine.specs.Run.{Ran, next_of}
+use Rattle.cell_base.specs.declared.steps.Step.TheVariants.{Exec, Atomic, Host}
+use Rattle.cell_machine.specs.Spe.{Spe}
+use Rattle.cell_machine.specs.Moves.{outstanding}
+use Rattle.cell_machine.specs.Run.{Ran, next_of, spe_of}
 use Rattle.cell_hunt.specs.declared.offers.Keyed.{Keyed}
-use Rattle.cell_hunt.specs.Offers.{IsGreatest, offered}
-use Rattle.cell_hunt.specs.Bests.{IsBestOf}
+use Rattle.cell_machine.specs.Choices.{queued_of}
+use Rattle.cell_hunt.specs.Offers.{IsGreatest, offered, offered_by, offered_by_first, offered_by_queue, offers, queue_length}
+use Rattle.cell_hunt.specs.Bests.{IsBestOf, is_beaten}
 
 -- ---- places in a list with one step more
 
@@ -85,6 +91,20 @@ best-less key m xs b s k is less so_far = on (is_some (next_of m s)) refl
     on true e = best-more key xs (offered m s) s (Some b) (offered-one m s e) (best-kept key xs b s k is less so_far)
     on false e = best-same key xs (offered m s) (Some b) (offered-none m s e) so_far
 
+-- where the best so far has a key that is at least as great, it stays
+pub best-beaten : (key : Step → ℕ) (m : Ran) (xs : List Step) (best : Option Keyed) (s : Step) (k : ℕ) → k ≡ key s → is_beaten k best ≡ true → IsBestOf key xs best → IsBestOf key (xs ++ offered m s) best
+best-beaten key m xs None s k is beaten so_far = absurd (true≢false (sym beaten))
+best-beaten key m xs (Some b) s k is beaten so_far = best-less key m xs b s k is (grind (arith, nat_tests, beaten)) so_far
+
+pub step-beaten : (key : Step → ℕ) (xs : List Step) (best : Option Keyed) (s : Step) (k : ℕ) → k ≡ key s → is_beaten k best ≡ true → IsBestOf key xs best → IsBestOf key (xs ++ s ∷ []) best
+step-beaten key xs None s k is beaten so_far = absurd (true≢false (sym beaten))
+step-beaten key xs (Some b) s k is beaten so_far = best-kept key xs b s k is (grind (arith, nat_tests, beaten)) so_far
+
+-- otherwise the step is the best
+pub step-best : (key : Step → ℕ) (xs : List Step) (best : Option Keyed) (s : Step) (k : ℕ) → k ≡ key s → is_beaten k best ≡ false → IsBestOf key xs best → IsBestOf key (xs ++ s ∷ []) (Some (record { key = k; step = s }))
+step-best key xs None s k is beaten so_far = best-first key xs s k is so_far
+step-best key xs (Some b) s k is beaten so_far = best-new key xs b s k is (grind (arith, nat_tests, beaten)) so_far
+
 -- ---- of two there is none better
 
 pub greatest-one : (key : Step → ℕ) (xs : List Step) (s t : Step) → IsGreatest key xs s → IsGreatest key xs t → s ≡ t
@@ -98,3 +118,74 @@ greatest-one key xs s t a b = elim (cases_lt a.index b.index) [
 
 pub empty-greatest : (key : Step → ℕ) (xs : List Step) (s : Step) → xs ≡ [] → IsGreatest key xs s → ⊥
 empty-greatest key xs s none best = none-some s (sym (ap (λ (ys : List Step). slice_get ys best.index) none) ∙ best.is)
+
+-- ---- the offers, one after the other
+
+queue_suc : (m : Ran) (word p n : ℕ) → offered_by_queue m word p (suc n) ≡ offered_by_queue m word p n ++ option_to_list (queued_of m p n word)
+unfolding offered_by_queue
+queue_suc m word p n = refl
+
+queue_zero : (m : Ran) (word p : ℕ) → offered_by_queue m word p zero ≡ []
+unfolding offered_by_queue
+queue_zero m word p = refl
+
+pub queue-init : (key : Step → ℕ) (m : Ran) (word p : ℕ) (xs : List Step) (best : Option Keyed) → IsBestOf key xs best → IsBestOf key (xs ++ offered_by_queue m word p 0) best
+queue-init key m word p xs best is = best-same key xs (offered_by_queue m word p 0) best (queue_zero m word p) is
+
+queue_more : (m : Ran) (word p n : ℕ) (xs : List Step) → xs ++ offered_by_queue m word p (n + 1) ≡ (xs ++ offered_by_queue m word p n) ++ option_to_list (queued_of m p n word)
+queue_more m word p n xs =
+    let e : n + 1 ≡ suc n = omega arith in
+    ap (λ k. xs ++ offered_by_queue m word p k) e ∙ ap (λ (ys : List Step). xs ++ ys) (queue_suc m word p n) ∙ sym (append_assoc xs (offered_by_queue m word p n) (option_to_list (queued_of m p n word)))
+
+pub queue-none : (key : Step → ℕ) (m : Ran) (word p n : ℕ) (xs : List Step) (best : Option Keyed) → queued_of m p n word ≡ None → IsBestOf key (xs ++ offered_by_queue m word p n) best → IsBestOf key (xs ++ offered_by_queue m word p (n + 1)) best
+queue-none key m word p n xs best none is =
+    subst (λ ys. IsBestOf key ys best) (sym (queue_more m word p n xs)) (best-same key (xs ++ offered_by_queue m word p n) (option_to_list (queued_of m p n word)) best (ap option_to_list none) is)
+
+pub queue-some : (key : Step → ℕ) (m : Ran) (word p n : ℕ) (xs : List Step) (s : Step) (best : Option Keyed) → queued_of m p n word ≡ Some s → IsBestOf key ((xs ++ offered_by_queue m word p n) ++ s ∷ []) best → IsBestOf key (xs ++ offered_by_queue m word p (n + 1)) best
+queue-some key m word p n xs s best some is =
+    subst (λ ys. IsBestOf key ys best) (sym (queue_more m word p n xs)) (best-more key (xs ++ offered_by_queue m word p n) (option_to_list (queued_of m p n word)) s best (ap option_to_list some) is)
+
+-- all that a processor offers
+pub processor-all : (key : Step → ℕ) (m : Ran) (word p : ℕ) (xs : List Step) (best : Option Keyed)
+    → IsBestOf key (((xs ++ offered m (Exec p)) ++ offered m (Atomic p)) ++ offered_by_queue m word p (queue_length m p)) best → IsBestOf key (xs ++ offered_by m word p) best
+processor-all key m word p xs best is =
+    subst (λ ys. IsBestOf key ys best) (ap (λ (ys : List Step). ys ++ offered_by_queue m word p (queue_length m p)) (append_assoc xs (offered m (Exec p)) (offered m (Atomic p)))
+      ∙ append_assoc xs (offered m (Exec p) ++ offered m (Atomic p)) (offered_by_queue m word p (queue_length m p))) is
+
+first_zero : (m : Ran) (word : ℕ) → offered_by_first m word zero ≡ []
+unfolding offered_by_first
+first_zero m word = refl
+
+first_suc : (m : Ran) (word n : ℕ) → offered_by_first m word (suc n) ≡ offered_by_first m word n ++ offered_by m word n
+unfolding offered_by_first
+first_suc m word n = refl
+
+pub first-init : (key : Step → ℕ) (m : Ran) (word : ℕ) → IsBestOf key (offered_by_first m word 0) None
+first-init key m word = first_zero m word
+
+pub first-next : (key : Step → ℕ) (m : Ran) (word n : ℕ) (best : Option Keyed) → IsBestOf key (offered_by_first m word n ++ offered_by m word n) best → IsBestOf key (offered_by_first m word (n + 1)) best
+first-next key m word n best is =
+    let e : n + 1 ≡ suc n = omega arith in
+    subst (λ ys. IsBestOf key ys best) (sym (ap (offered_by_first m word) e ∙ first_suc m word n)) is
+
+-- how many commands the queue holds, as the machine says
+pub length-is : (m : Ran) (p n : ℕ) → IsSomeAnd (spe_of m p) (λ P. n ≡ length (outstanding P)) → n ≡ queue_length m p
+length-is m p n some = on (spe_of m p) some
+  where
+    on : (o : Option Spe) → IsSomeAnd o (λ P. n ≡ length (outstanding P)) → n ≡ option_map_or (λ (P : Spe). length (outstanding P)) o 0
+    on None is = absurd is
+    on (Some P) is = is
+
+-- where nothing is the best, nothing is offered
+pub none-is : (key : Step → ℕ) (xs : List Step) (best : Option Keyed) → best ≡ None → IsBestOf key xs best → xs ≡ []
+none-is key xs best none is = subst (IsBestOf key xs) none is
+
+pub some-is : (key : Step → ℕ) (xs : List Step) (best : Option Keyed) (b : Keyed) → best ≡ Some b → IsBestOf key xs best → IsGreatest key xs b.step
+some-is key xs best b some is = let both : IsBestOf key xs (Some b) = subst (IsBestOf key xs) some is in both.0
+
+-- all that is offered
+pub all-is : (key : Step → ℕ) (m : Ran) (word n : ℕ) (best : Option Keyed) → n ≡ length m.setup.entries → IsBestOf key (offered_by_first m word n ++ offered m Host) best → IsBestOf key (offers m word) best
+all-is key m word n best count is = subst (λ k. IsBestOf key (offered_by_first m word k ++ offered m Host) best) count is
+
+pub if_none : (P : Step → Type 0) (o : Option Step) → o ≡ None → IfSome o P
+if_none P o e = subst (λ x. IfSome x P) (sym e) tt

@@ -1,5 +1,5 @@
 -- The choices of a seed make one run.
-use Rattle.std.proofs.Common.{◌≡◌, ℕ, ap, refl, sym, ◌∙◌, subst, List, ◌∷◌, length, true≢false}
+use Rattle.std.proofs.Common.{◌≡◌, ℕ, ◌-◌, ap, refl, sym, ◌∙◌, subst, List, ◌∷◌, length, true≢false}
 use Rattle.std.specs.Prelude.{Option, Some, None, IsSome, is_some, Bool, true, false, if◌then◌else◌, slice_get}
 use Rattle.std.specs.Option.{option_and_then, option_map_or}
 use Rattle.std.proofs.lemmas.Option.{none-some, same_Some}
@@ -12,7 +12,7 @@ use Rattle.cell_machine.specs.Spe.{Spe}
 use Rattle.cell_machine.specs.Run.{Ran, next_of, spe_of}
 use Rattle.cell_machine.proofs.MachineEffects.{effect-allowed}
 use Rattle.cell_hunt.specs.declared.strategy.Strategy.{Strategy}
-use Rattle.cell_hunt.specs.Choices.{Choices, drawn, key_of, lowered_by, lowers, second_word, strategy_now, IsBest, IsChosen, IsDrawn, IsLowered, IsNext, IsTop}
+use Rattle.cell_hunt.specs.Choices.{Choices, drawn, key_of, lowered_by, lowers, second_word, strategy_now, IsBest, IsChosen, IsDrawn, IsLowered, IsMade, IsNext, IsTop}
 use Rattle.cell_hunt.specs.Ends.{IsOver}
 use Rattle.cell_hunt.specs.Locals.{going_on, is_local, is_local_at, local_behind}
 use Rattle.cell_hunt.specs.Offers.{offers}
@@ -53,10 +53,10 @@ going_allowed m strategy s h = on strategy.local h
     on true e = last (slice_get m.steps (length m.steps - 1)) e
     on false e = absurd (none-some s e)
 
-drawn_allowed : (m : Ran) (strategy : Strategy) (c : Choices) (s : Step) (left : Choices) → IsDrawn m strategy c s left → is_some (next_of m s) ≡ true
-drawn_allowed m strategy c s left is = on (lowers strategy c) is
+drawn-allowed : (m : Ran) (strategy : Strategy) (c : Choices) (s : Step) (left : Choices) → IsDrawn m strategy c s left → is_some (next_of m s) ≡ true
+drawn-allowed m strategy c s left is = on (lowers strategy c) is
   where
-    on : (b : Bool) → (if b then IsLowered m strategy (second_word c.words) (drawn strategy c) s left else IsTop m strategy (second_word c.words) (drawn strategy c) s left) → is_some (next_of m s) ≡ true
+    on : (b : Bool) → IsMade b m strategy (second_word c.words) (drawn strategy c) s left → is_some (next_of m s) ≡ true
     on true how = greatest-allowed m (second_word c.words) _ s how.best
     on false how = greatest-allowed m (second_word c.words) _ s how.best
 
@@ -65,7 +65,7 @@ chosen-allowed m c s left is = on (going_on m (strategy_now m c)) refl is
   where
     on : (o : Option Step) → going_on m (strategy_now m c) ≡ o → IsNext o m (strategy_now m c) c s left → is_some (next_of m s) ≡ true
     on (Some t) e how = subst (λ x. is_some (next_of m x) ≡ true) (sym how.0) (going_allowed m (strategy_now m c) t e)
-    on None e how = drawn_allowed m (strategy_now m c) c s left how
+    on None e how = drawn-allowed m (strategy_now m c) c s left how
 
 -- so the run isn't over
 pub not_over : (m : Ran) (c : Choices) (s : Step) (left : Choices) → IsChosen m c s left → IsOver m → ⊥
@@ -76,18 +76,17 @@ not_over m c s left is over = true≢false (sym (chosen-allowed m c s left is) �
 lowered_one : (m : Ran) (strategy : Strategy) (word : ℕ) (c : Choices) (s t : Step) (left right : Choices) → IsLowered m strategy word c s left → IsLowered m strategy word c t right → (s ≡ t) × (left ≡ right)
 lowered_one m strategy word c s t left right a b =
     let top : a.top ≡ b.top = greatest-one (key_of m strategy c.keys) (offers m word) a.top b.top a.was b.was in
-    let same : left ≡ right = a.left ∙ ap (lowered_by m c) top ∙ sym b.left in
+    let same : left ≡ right = a.leaves ∙ ap (lowered_by m c) top ∙ sym b.leaves in
     let there : IsBest m strategy word right.keys s = subst (λ (x : Choices). IsBest m strategy word x.keys s) same a.best in
     (greatest-one (key_of m strategy right.keys) (offers m word) s t there b.best, same)
 
 top_one : (m : Ran) (strategy : Strategy) (word : ℕ) (c : Choices) (s t : Step) (left right : Choices) → IsTop m strategy word c s left → IsTop m strategy word c t right → (s ≡ t) × (left ≡ right)
-top_one m strategy word c s t left right a b = (greatest-one (key_of m strategy c.keys) (offers m word) s t a.best b.best, a.left ∙ sym b.left)
+top_one m strategy word c s t left right a b = (greatest-one (key_of m strategy c.keys) (offers m word) s t a.best b.best, a.leaves ∙ sym b.leaves)
 
 drawn_one : (m : Ran) (strategy : Strategy) (c : Choices) (s t : Step) (left right : Choices) → IsDrawn m strategy c s left → IsDrawn m strategy c t right → (s ≡ t) × (left ≡ right)
 drawn_one m strategy c s t left right a b = on (lowers strategy c) a b
   where
-    on : (low : Bool) → (if low then IsLowered m strategy (second_word c.words) (drawn strategy c) s left else IsTop m strategy (second_word c.words) (drawn strategy c) s left)
-        → (if low then IsLowered m strategy (second_word c.words) (drawn strategy c) t right else IsTop m strategy (second_word c.words) (drawn strategy c) t right) → (s ≡ t) × (left ≡ right)
+    on : (low : Bool) → IsMade low m strategy (second_word c.words) (drawn strategy c) s left → IsMade low m strategy (second_word c.words) (drawn strategy c) t right → (s ≡ t) × (left ≡ right)
     on true x y = lowered_one m strategy (second_word c.words) (drawn strategy c) s t left right x y
     on false x y = top_one m strategy (second_word c.words) (drawn strategy c) s t left right x y
 
@@ -100,8 +99,8 @@ chosen-one m c s t left right a b = next_one (going_on m (strategy_now m c)) m (
 
 makes-one : {c : Choices} {m : Ran} {xs ys : List Step} → Makes c m xs → Makes c m ys → xs ≡ ys
 makes-one (End over) (End other) = refl
-makes-one (End over) (Then chosen rest) = absurd (not_over _ _ _ _ chosen over)
-makes-one (Then chosen rest) (End over) = absurd (not_over _ _ _ _ chosen over)
+makes-one {c = c} {m = m} (End over) (Then {left = left} {s = s} chosen rest) = absurd (not_over m c s left chosen over)
+makes-one {c = c} {m = m} (Then {left = left} {s = s} chosen rest) (End over) = absurd (not_over m c s left chosen over)
 makes-one {c = c} {m = m} (Then {left = left} {s = s} {steps = xs} chosen rest) (Then {left = right} {s = t} {steps = ys} other more) =
     let one = chosen-one m c s t left right chosen other in
     let moved : Makes left (with_step m s) ys = subst (λ x. Makes left (with_step m x) ys) (sym one.0) (subst (λ l. Makes l (with_step m t) ys) (sym one.1) more) in

@@ -36,7 +36,7 @@ continues-end first start c m over so_far =
 
 made-none : (c : Choices) (m : Ran) (steps : List Step) → IsOver m → Makes c m steps → steps ≡ []
 made-none c m steps over (End other) = refl
-made-none c m steps over (Then chosen rest) = absurd (not_over _ _ _ _ chosen over)
+made-none c m steps over (Then {left = left} {s = s} chosen rest) = absurd (not_over m c s left chosen over)
 
 -- a run that is over doesn't go on
 pub goes-none : (c : Choices) (m n : Ran) → IsOver m → Goes c m n → n ≡ m

@@ -68,8 +68,8 @@ queue_allowed m word p (suc n) = both_allowed m (offered_by_queue m word p n) (o
 
 by_allowed : (m : Ran) (word p : ℕ) → AreAllowed m (offered_by m word p)
 by_allowed m word p =
-    both_allowed m (offered m (Exec p)) (offered m (Atomic p) ++ offered_by_queue m word p (queue_length m p)) (offered_allowed m (Exec p))
-    (both_allowed m (offered m (Atomic p)) (offered_by_queue m word p (queue_length m p)) (offered_allowed m (Atomic p)) (queue_allowed m word p (queue_length m p)))
+    both_allowed m (offered m (Exec p) ++ offered m (Atomic p)) (offered_by_queue m word p (queue_length m p))
+    (both_allowed m (offered m (Exec p)) (offered m (Atomic p)) (offered_allowed m (Exec p)) (offered_allowed m (Atomic p))) (queue_allowed m word p (queue_length m p))
 
 first_allowed : (m : Ran) (word n : ℕ) → AreAllowed m (offered_by_first m word n)
 unfolding offered_by_first

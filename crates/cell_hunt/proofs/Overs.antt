@@ -44,11 +44,11 @@ flat_none F g (suc n) a rest none =
 
 filter_both : (t : Step → Bool) (xs ys : List Step) → filter t xs ≡ [] → filter t ys ≡ [] → filter t (xs ++ ys) ≡ []
 filter_both t [] ys a b = b
-filter_both t (x ∷ xs) ys a b = on (t x) refl a
+filter_both t (x ∷ xs) ys a b = on (t x) refl a (λ h. filter_both t xs ys h b)
   where
-    on : (o : Bool) → t x ≡ o → cond o (x ∷ filter t xs) (filter t xs) ≡ [] → cond (t x) (x ∷ filter t (xs ++ ys)) (filter t (xs ++ ys)) ≡ []
-    on true e h = absurd (cc)
-    on false e h = rw e (filter_both t xs ys h b)
+    on : (o : Bool) → t x ≡ o → cond o (x ∷ filter t xs) (filter t xs) ≡ [] → (filter t xs ≡ [] → filter t (xs ++ ys) ≡ []) → cond (t x) (x ∷ filter t (xs ++ ys)) (filter t (xs ++ ys)) ≡ []
+    on true e h more = absurd (cc)
+    on false e h more = rw e (more h)
 
 filter_flat : (t : Step → Bool) (f : ℕ → List Step) (cs : List ℕ) → ((i c : ℕ) → slice_get cs i ≡ Some c → filter t (f c) ≡ []) → filter t (flat_map f cs) ≡ []
 filter_flat t f [] none = refl
@@ -127,14 +127,14 @@ controller_none m M word p P at spe atomic queue =
     let is = at.is in
     let count : queue_length m p ≡ length (outstanding P) = ap (λ o. option_map_or (λ (Q : Spe). length (outstanding Q)) o 0) (spe_is is) in
     ap (λ o. filter (λ s. is_some (next M s)) (option_map_or (steps_of_mfc p) o [])) spe
-    ∙ first_off (not_next m M (Atomic p) at atomic) (filter_flat (λ t. is_some (next M t)) (steps_of_number p P) (outstanding P) (λ i c there.
+    ∙ first_off (flat_map (steps_of_number p P) (outstanding P)) (not_next m M (Atomic p) at atomic) (filter_flat (λ t. is_some (next M t)) (steps_of_number p P) (outstanding P) (λ i c there.
       command_none m M word p i c P at spe there (queue_none m word p (queue_length m p) i queue (let l = index_within (outstanding P) i c there in omega (arith, l, count)))))
   where
     spe_is : state_of m ≡ Some M → spe_of m p ≡ Some P
     spe_is is = ap (λ o. option_and_then (λ (N : State). slice_get N.spes p) o) is ∙ spe
 
-    first_off : {xs : List Step} → is_some (next M (Atomic p)) ≡ false → filter (λ s. is_some (next M s)) xs ≡ [] → filter (λ s. is_some (next M s)) (Atomic p ∷ xs) ≡ []
-    first_off off rest = rw (off, rest) refl
+    first_off : (xs : List Step) → is_some (next M (Atomic p)) ≡ false → filter (λ s. is_some (next M s)) xs ≡ [] → filter (λ s. is_some (next M s)) (Atomic p ∷ xs) ≡ []
+    first_off xs off rest = rw (off, rest) refl
 
 get_some : (spes : List Spe) (p : ℕ) → p < length spes → (P : Spe) × (slice_get spes p ≡ Some P)
 get_some [] p inside = absurd (omega arith)
@@ -148,17 +148,20 @@ all_none m M word at none =
     let both = nil_both (offered_by_first m word (length m.setup.entries)) (offered m Host) none in
     let of : (p : ℕ) → p < n → offered_by m word p ≡ [] = λ p inside. first_none m word (length m.setup.entries) p both.0 (omega (arith, inside, count)) in
     let spus : (p : ℕ) → 0 ≤ p → p < 0 + n → allowed M (Spu p) ≡ [] = λ p low high.
-    alone_none M (Exec p) (not_next m M (Exec p) at (nil_both (offered m (Exec p)) _ (of p (omega (arith, high)))).0) in
+    alone_none M (Exec p) (not_next m M (Exec p) at (single_none p (of p (omega (arith, high)))).0) in
     let mfcs : (p : ℕ) → 0 ≤ p → p < 0 + n → allowed M (Mfc p) ≡ [] = λ p low high.
-    (let rest = nil_both (offered m (Atomic p)) _ (nil_both (offered m (Exec p)) _ (of p (omega (arith, high)))).1 in
+    (let parts = nil_both (offered m (Exec p) ++ offered m (Atomic p)) (offered_by_queue m word p (queue_length m p)) (of p (omega (arith, high))) in
     let there = get_some M.spes p (omega (arith, high)) in
-    controller_none m M word p there.0 at there.1 rest.0 rest.1) in
+    controller_none m M word p there.0 at there.1 (single_none p (of p (omega (arith, high)))).1 parts.1) in
     let host : allowed M TheHost ≡ [] = alone_none M Host (not_next m M Host at both.1) in
     let parts = append_assoc (map Spu (range_with_len 0 n)) (map Mfc (range_with_len 0 n)) (TheHost ∷ []) in
     ap (flat_map (allowed M)) parts
     ∙ flat_none (allowed M) Spu n 0 (map Mfc (range_with_len 0 n) ++ TheHost ∷ []) spus
     ∙ flat_none (allowed M) Mfc n 0 (TheHost ∷ []) mfcs
     ∙ ap (λ xs. xs ++ []) host
+  where
+    single_none : (p : ℕ) → offered_by m word p ≡ [] → (offered m (Exec p) ≡ []) × (offered m (Atomic p) ≡ [])
+    single_none p e = nil_both (offered m (Exec p)) (offered m (Atomic p)) (nil_both (offered m (Exec p) ++ offered m (Atomic p)) (offered_by_queue m word p (queue_length m p)) e).0
 
 pub first-none : (m : Ran) (word : ℕ) → IsSomeAnd (state_of m) (λ M. length M.spes ≡ length m.setup.entries) → offers m word ≡ [] → first_of m ≡ None
 first-none m word some none = on (nat_lt (length m.steps) m.setup.budget) (state_of m) refl refl some

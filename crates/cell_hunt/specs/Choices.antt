@@ -76,17 +76,19 @@ lowered_by m c s = record c { keys = with_lowered (place_of s) (length m.steps +
 pub record IsLowered (m : Ran) (strategy : Strategy) (word : ℕ) (c : Choices) (s : Step) (left : Choices) : Type 0 where
   pub top : Step
   pub was : IsBest m strategy word c.keys top
-  pub left : left ≡ lowered_by m c top
+  pub leaves : left ≡ lowered_by m c top
   pub best : IsBest m strategy word left.keys s
 
 pub record IsTop (m : Ran) (strategy : Strategy) (word : ℕ) (c : Choices) (s : Step) (left : Choices) : Type 0 where
-  pub left : left ≡ c
+  pub leaves : left ≡ c
   pub best : IsBest m strategy word c.keys s
 
+abbrev pub IsMade : Bool → Ran → Strategy → ℕ → Choices → Step → Choices → Type 0
+IsMade true m strategy word c s left = IsLowered m strategy word c s left
+IsMade false m strategy word c s left = IsTop m strategy word c s left
+
 abbrev pub IsDrawn : Ran → Strategy → Choices → Step → Choices → Type 0
-IsDrawn m strategy c s left =
-    if lowers strategy c then IsLowered m strategy (second_word c.words) (drawn strategy c) s left
-    else IsTop m strategy (second_word c.words) (drawn strategy c) s left
+IsDrawn m strategy c s left = IsMade (lowers strategy c) m strategy (second_word c.words) (drawn strategy c) s left
 
 -- A processor goes on with local instructions, for which no word is drawn; otherwise the step is drawn.
 abbrev pub IsNext : Option Step → Ran → Strategy → Choices → Step → Choices → Type 0

@@ -23,7 +23,7 @@ queue_length m p = option_map_or (λ (P : Spe). length (outstanding P)) (spe_of 
 
 -- its instruction, the command in its atomic slot, and its queued commands
 abbrev pub offered_by : Ran → ℕ → ℕ → List Step
-offered_by m word p = offered m (Exec p) ++ offered m (Atomic p) ++ offered_by_queue m word p (queue_length m p)
+offered_by m word p = (offered m (Exec p) ++ offered m (Atomic p)) ++ offered_by_queue m word p (queue_length m p)
 
 -- those of the first n processors
 unfoldable pub offered_by_first : Ran → ℕ → ℕ → List Step

@@ -7,10 +7,11 @@ ghost use Rattle.cell_hunt.specs.Choices.{IsChosen, IsDrawn, opened, words_of};
 ghost use Rattle.cell_hunt.specs.Ends.{IsOver};
 ghost use Rattle.cell_hunt.specs.Strategies.{strategy_of};
 
-use crate::keys::{Keys, place_of};
+use crate::keys::Keys;
 use crate::locals::{Chosen, going_on};
 use crate::mixing::with_number;
 use crate::offers::best;
+use crate::owners::place_of;
 use crate::strategy::{Strategy, strategy_of};
 use cell_base::Step;
 use cell_machine::Machine;
@@ -66,6 +67,7 @@ impl Chooser {
         requires steps { length machine.now.steps ≡ steps }
         requires few { steps + 1 < 2 ^ 32 }
         ensures drawn { IfSome result (λ s. IsDrawn machine.now strategy self.old s self.new) }
+        ensures allowed { IfSome result (λ s. IsSome (next_of machine.now s)) }
         ensures none { IfNone result (IsOver machine.now) }
     {
         let first = self.words.next_word();

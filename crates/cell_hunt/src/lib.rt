@@ -15,6 +15,7 @@ mod mixing;
 mod offers;
 mod origins;
 mod outcome;
+mod owners;
 mod polls;
 mod racing;
 mod running;

@@ -1,9 +1,10 @@
 //! Which of the allowed steps has the greatest key.
 
-ghost use Rattle.std.specs.Prelude.{◌≡◌, ◌<◌, ◌∷◌, ◌++◌, [], List, length, IfNone, IfSome};
+ghost use Rattle.std.specs.Prelude.{◌≡◌, ◌<◌, ◌∷◌, ◌++◌, [], List, length, IfNone, IfSome, IsSome};
+ghost use Rattle.cell_machine.specs.Run.{next_of};
 ghost use Rattle.cell_base.specs.declared.steps.Step.{Step as AStep};
 ghost use Rattle.cell_base.specs.declared.steps.Step.TheVariants.{Exec, Atomic, Host};
-ghost use Rattle.cell_hunt.specs.Bests.{IsBestOf};
+ghost use Rattle.cell_hunt.specs.Bests.{IsBestOf, is_beaten};
 ghost use Rattle.cell_hunt.specs.Choices.{IsBest, key_of};
 ghost use Rattle.cell_hunt.specs.Ends.{IsOver};
 ghost use Rattle.cell_hunt.specs.Offers.{offered, offered_by, offered_by_queue, queue_length};
@@ -36,6 +37,16 @@ fn key_of(machine: &Machine, strategy: Strategy, keys: &Keys, step: Step) -> u64
     }
 }
 
+/// Whether the best so far has a key that is at least as great.
+fn is_beaten(key: u64, best: Option<Keyed>) -> bool
+    ensures { result ≡ is_beaten key best }
+{
+    match best {
+        Some(best) => key <= best.key,
+        None => false,
+    }
+}
+
 /// Of the best so far and one more step the better one; of equal ones the first.
 fn with_step(
     machine: &Machine,
@@ -47,10 +58,8 @@ fn with_step(
     ensures { (steps : List AStep) → IsBestOf (key_of machine.now strategy keys.now) steps best → IsBestOf (key_of machine.now strategy keys.now) (steps ++ step ∷ []) result }
 {
     let key = key_of(machine, strategy, keys, step);
-    if let Some(best) = best
-        && key <= best.key
-    {
-        return Some(best);
+    if is_beaten(key, best) {
+        return best;
     }
     Some(Keyed { key, step })
 }
@@ -67,10 +76,8 @@ fn with_instruction(
 {
     let step = Step::Exec { spe };
     let key = key_of(machine, strategy, keys, step);
-    if let Some(best) = best
-        && key <= best.key
-    {
-        return Some(best);
+    if is_beaten(key, best) {
+        return best;
     }
     if machine.pick(Actor::Spu(spe), 0).is_none() {
         return best;
@@ -150,6 +157,7 @@ fn with_processor(
 /// The allowed step with the greatest key, where a word picks among the steps of each queued command. None comes exactly where the run is over.
 pub fn best(machine: &Machine, strategy: Strategy, keys: &Keys, word: u32) -> Option<Step>
     ensures best { IfSome result (IsBest machine.now strategy word keys.now) }
+    ensures allowed { IfSome result (λ s. IsSome (next_of machine.now s)) }
     ensures none { IfNone result (IsOver machine.now) }
 {
     let mut best = None;

@@ -1,7 +1,11 @@
 //! How the orders of runs are chosen.
 
-ghost use Rattle.std.specs.Prelude.{◌≡◌, ◌*◌, nat_le};
+ghost use Rattle.std.specs.Prelude.{◌≡◌, ◌*◌, ◌<◌, nat_le};
+ghost use Rattle.cell_hunt.specs.Keys.{weight_of};
 ghost use Rattle.cell_hunt.specs.Strategies.{strategy_at, strategy_of};
+
+use crate::owners::is_queued;
+use cell_base::Step;
 
 /// How the order of a run is chosen.
 #[derive(Clone, Copy)]
@@ -72,5 +76,13 @@ impl Strategy {
         } else {
             self
         }
+    }
+
+    /// What the key of who makes a step weighs.
+    pub fn weight(self, step: Step) -> u64
+        ensures weight { result ≡ weight_of self step }
+        ensures small { result < 17 }
+    {
+        if self.late && is_queued(step) { 4 } else { 16 }
     }
 }

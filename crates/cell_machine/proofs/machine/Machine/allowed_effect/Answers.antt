@@ -13,7 +13,7 @@ allowed_effect-requires c = rw c.deref.ensures.value (machine-can _ _ _ _ _ _ c.
 pub unreachable-requires : goal.unreachable-requires
 unreachable-requires c =
     let told = effect-told c.args.self.now c.self.invariant.0.state c.args.s _ (machine-replayed _ _ _ _ _ c.self.invariant.0 c.self.view_is) c.requires
-        (c.allowed_effect.ensures c.self.invariant.0.state (rw c.deref.ensures.value c.self.invariant.0.shown)) in
+    (c.allowed_effect.ensures c.self.invariant.0.state (rw c.deref.ensures.value c.self.invariant.0.shown)) in
     let some = (effect-allowed c.args.self.now c.args.s _ told).1 c.requires in
     let wrong : false ≡ true = sym (ap is_some c.in_default.is) ∙ some in
     cc
@@ -21,5 +21,5 @@ unreachable-requires c =
 pub returns : goal.returns
 returns c =
     sym (effect-told c.args.self.now c.self.invariant.0.state c.args.s _ (machine-replayed _ _ _ _ _ c.self.invariant.0 c.self.view_is) c.requires
-      (c.allowed_effect.ensures c.self.invariant.0.state (rw c.deref.ensures.value c.self.invariant.0.shown)))
+    (c.allowed_effect.ensures c.self.invariant.0.state (rw c.deref.ensures.value c.self.invariant.0.shown)))
     ∙ c.in-Some.is

@@ -9,4 +9,4 @@ pub returns : goal.returns
 returns c =
     c.has_atomic_step.ensures c.self.inside.memory c.self.inside.host c.self.invariant.0.state (rw c.deref.ensures.value c.self.invariant.0.shown)
     ∙ sym (ap is_some (next_of-within c.args.self.now c.self.invariant.0.state (Atomic c.args.spe) (machine-replayed _ _ _ _ _ c.self.invariant.0 c.self.view_is)
-      (let e = ap (λ (n : Ran). n.setup.budget) c.self.view_is in let l = ap (λ (n : Ran). length n.steps) c.self.view_is in omega arith)))
+    (let e = ap (λ (n : Ran). n.setup.budget) c.self.view_is in let l = ap (λ (n : Ran). length n.steps) c.self.view_is in omega arith)))
