@@ -1,115 +1,191 @@
--- The best of the actors that were asked.
-use Rattle.std.proofs.Common.{◌≡◌, ℕ, ◌+◌, ◌*◌, ◌<◌, ◌≤◌, ◌∙◌, ap, refl, sym, subst, arith, true≢false}
-use Rattle.std.specs.Prelude.{Option, Some, None, IfSome, IsSome, IsSomeAnd, List, length, slice_index_or, Bool, true, false, nat_lt, ◌⊎◌, if◌then◌else◌}
-use Rattle.std.proofs.Common.{inl, inr}
-use Rattle.std.proofs.lemmas.Bool.{cases_lt, ltb-true}
+-- The first of several steps with the greatest key, and one step more.
+use Rattle.std.proofs.Common.{◌≡◌, ℕ, zero, suc, ◌+◌, ◌<◌, ◌≤◌, ◌∙◌, ap, refl, sym, subst, arith, List, [], ◌∷◌, ◌++◌, length, append-nil, append_assoc, inl, inr, true≢false}
+use Rattle.std.specs.Option.{option_map_or}
+use Rattle.std.specs.Prelude.{Option, Some, None, IfSome, IsSome, IsSomeAnd, is_some, Bool, true, false, ◌⊎◌, if◌then◌else◌, cond, option_to_list, slice_get}
+use Rattle.std.proofs.lemmas.Bool.{cases_lt}
 use Rattle.std.proofs.lemmas.Bool.Decides.{nat_tests}
+use Rattle.std.proofs.lemmas.Option.{none-some, same_Some}
 use Rattle.cell_base.specs.declared.steps.Step.{Step}
-use Rattle.cell_base.specs.declared.steps.Actor.{Actor}
-use Rattle.cell_machine.specs.Run.{Ran, state_of, picked_of, first_of}
-use Rattle.cell_hunt.specs.Actors.{actor_of}
-use Rattle.cell_hunt.proofs.Overs.{first-none}
-use Rattle.cell_hunt.specs.Choices.{Choices, key_of, offered, IsBest, IsChosen}
-use Rattle.cell_hunt.specs.declared.actors.Keyed.{Keyed}
-use Rattle.cell_hunt.specs.Better.{better}
-use Rattle.cell_hunt.specs.declared.way.Way.{Way}
-use Rattle.cell_hunt.specs.Ways.{weight_of}
+use Rattle.cell_base.specs.declared.steps.Step.TheVariants.{Exec, Atomic, Host}
+use Rattle.cell_machine.specs.Spe.{Spe}
+use Rattle.cell_machine.specs.Moves.{outstanding}
+use Rattle.cell_machine.specs.Run.{Ran, next_of, spe_of}
+use Rattle.cell_hunt.specs.declared.offers.Keyed.{Keyed}
+use Rattle.cell_machine.specs.Choices.{queued_of}
+use Rattle.cell_hunt.specs.Offers.{IsGreatest, offered, offered_by, offered_by_first, offered_by_queue, offers, queue_length}
+use Rattle.cell_hunt.specs.Bests.{IsBestOf, is_beaten}
 
--- of the actors below this number that have a step this is the best, with its key; None where none has one
-abbrev pub IsBestSoFar : Ran → Choices → ℕ → ℕ → Option Keyed → Type 0
-IsBestSoFar m c spes actors None = (k : ℕ) → k < actors → offered m c.choice spes k ≡ None
-IsBestSoFar m c spes actors (Some b) = (best : IsBest m c spes actors b.step) × (b.key ≡ key_of c spes best.number)
+-- ---- places in a list with one step more
 
-below_or : (k n : ℕ) → k < n + 1 → (k < n) ⊎ (k ≡ n)
-below_or k n h = elim (cases_lt k n) [ inl below ↦ inl below | inr above ↦ inr (omega (arith, h, above)) ]
+within : (xs : List Step) (k : ℕ) (t : Step) → slice_get xs k ≡ Some t → k < length xs
+within [] k t h = absurd (none-some t h)
+within (x ∷ xs) zero t h = omega arith
+within (x ∷ xs) (suc k) t h = let l = within xs k t h in omega arith
 
-has_not : {X : Type 0} (o : Option X) → o ≡ None → IsSome o → ⊥
-has_not {X} o none some = let p : IsSome {T = X} None = subst IsSome none some in true≢false (sym p)
+get-old : (xs ys : List Step) (k : ℕ) (t : Step) → slice_get xs k ≡ Some t → slice_get (xs ++ ys) k ≡ Some t
+get-old [] ys k t h = absurd (none-some t h)
+get-old (x ∷ xs) ys zero t h = h
+get-old (x ∷ xs) ys (suc k) t h = get-old xs ys k t h
 
--- one more actor, which has no step or no greater key
-wider : (m : Ran) (c : Choices) (spes n : ℕ) (step : Step) (best : IsBest m c spes n step) → (IsSome (offered m c.choice spes n) → key_of c spes n ≤ key_of c spes best.number)
-    → (wide : IsBest m c spes (n + 1) step) × (wide.number ≡ best.number)
-wider m c spes n step best less = (
-  record {
-    number = best.number;
-    there = omega (arith, best.there);
-    is = best.is;
-    greatest = λ k inside some. elim (below_or k n inside) [
-      | inl below ↦ best.greatest k below some
-      | inr same ↦ (let P : ℕ → Type 0 = λ x. IsSome (offered m c.choice spes x) → key_of c spes x ≤ key_of c spes best.number in subst P (sym same) less some)
-    ];
-    first = best.first;
-  },
-  refl,
-)
+get-last : (xs : List Step) (s : Step) → slice_get (xs ++ s ∷ []) (length xs) ≡ Some s
+get-last [] s = refl
+get-last (x ∷ xs) s = get-last xs s
 
--- one more actor, with a greater key than all before it that have a step
-newest : (m : Ran) (c : Choices) (spes n : ℕ) (step : Step) → offered m c.choice spes n ≡ Some step → ((k : ℕ) → k < n → IsSome (offered m c.choice spes k) → key_of c spes k < key_of c spes n)
-    → IsBestSoFar m c spes (n + 1) (Some (record { key = key_of c spes n; step = step }))
-newest m c spes n step is less = (
-  record {
-    number = n;
-    there = omega arith;
-    is = is;
-    greatest = λ k inside some. elim (below_or k n inside) [
-      | inl below ↦ omega (arith, less k below some)
-      | inr same ↦ (let e : key_of c spes k ≡ key_of c spes n = ap (key_of c spes) same in omega (arith, e))
-    ];
-    first = less;
-  },
-  refl,
-)
+get-either : (xs : List Step) (s t : Step) (k : ℕ) → slice_get (xs ++ s ∷ []) k ≡ Some t → (slice_get xs k ≡ Some t) ⊎ ((k ≡ length xs) × (t ≡ s))
+get-either [] s t zero h = inr (refl, sym (same_Some s t h))
+get-either [] s t (suc k) h = absurd (none-some t h)
+get-either (x ∷ xs) s t zero h = inl h
+get-either (x ∷ xs) s t (suc k) h = elim (get-either xs s t k h) [ inl old ↦ inl old | inr new ↦ inr (ap suc new.0, new.1) ]
 
-of_both : (m : Ran) (c : Choices) (spes n : ℕ) (step : Step) (b : Keyed) (test : Bool) → nat_lt b.key (key_of c spes n) ≡ test → offered m c.choice spes n ≡ Some step → IsBestSoFar m c spes n (Some b)
-    → IsBestSoFar m c spes (n + 1) (if test then Some (record { key = key_of c spes n; step = step }) else Some b)
-of_both m c spes n step b true test is (best, key) =
-    let below : b.key < key_of c spes n = ltb-true b.key (key_of c spes n) test in
-    newest m c spes n step is (λ k inside some. omega (arith, best.greatest k inside some, key, below))
-of_both m c spes n step b false test is (best, key) =
-    let above : key_of c spes n ≤ b.key = grind (arith, nat_tests, test) in
-    let wide = wider m c spes n b.step best (λ some. omega (arith, above, key)) in
-    (wide.0, key ∙ ap (key_of c spes) (sym wide.1))
+-- ---- one step more
 
-pub best_more : (m : Ran) (c : Choices) (spes n : ℕ) (o : Option Step) (best : Option Keyed) → offered m c.choice spes n ≡ o → IsBestSoFar m c spes n best → IsBestSoFar m c spes (n + 1) (better o (key_of c spes n) best)
-best_more m c spes n None None is none = λ k inside. elim (below_or k n inside) [
-  | inl below ↦ none k below
-  | inr same ↦ (let P : ℕ → Type 0 = λ x. offered m c.choice spes x ≡ None in subst P (sym same) is)
+kept : (key : Step → ℕ) (xs : List Step) (b s : Step) → IsGreatest key xs b → key s ≤ key b → IsGreatest key (xs ++ s ∷ []) b
+kept key xs b s best less =
+    let inside = within xs best.index b best.is in
+    record {
+      index = best.index;
+      is = get-old xs (s ∷ []) best.index b best.is;
+      greatest = λ k t h. elim (get-either xs s t k h) [ inl old ↦ best.greatest k t old | inr new ↦ subst (λ x. key x ≤ key b) (sym new.1) less ];
+      first = λ k t before h. elim (get-either xs s t k h) [ inl old ↦ best.first k t before old | inr new ↦ absurd (let e = new.0 in omega (arith, e, before, inside)) ];
+    }
+
+newest : (key : Step → ℕ) (xs : List Step) (s : Step) → ((k : ℕ) (t : Step) → slice_get xs k ≡ Some t → key t < key s) → IsGreatest key (xs ++ s ∷ []) s
+newest key xs s less = record {
+  index = length xs;
+  is = get-last xs s;
+  greatest = λ k t h. elim (get-either xs s t k h) [
+    | inl old ↦ (let l = less k t old in omega (arith, l))
+    | inr new ↦ (let e : key t ≡ key s = ap key new.1 in omega (arith, e))
+  ];
+  first = λ k t before h. elim (get-either xs s t k h) [ inl old ↦ less k t old | inr new ↦ absurd (let e = new.0 in omega (arith, e, before)) ];
+}
+
+-- where its key isn't greater the best stays
+pub best-kept : (key : Step → ℕ) (xs : List Step) (b : Keyed) (s : Step) (k : ℕ) → k ≡ key s → k ≤ b.key → IsBestOf key xs (Some b) → IsBestOf key (xs ++ s ∷ []) (Some b)
+best-kept key xs b s k is less (best, keyed) = (kept key xs b.step s best (omega (arith, is, less, keyed)), keyed)
+
+pub best-first : (key : Step → ℕ) (xs : List Step) (s : Step) (k : ℕ) → k ≡ key s → IsBestOf key xs None → IsBestOf key (xs ++ s ∷ []) (Some (record { key = k; step = s }))
+best-first key xs s k is none = (newest key xs s (λ i t h. absurd (none-some t (sym (ap (λ (ys : List Step). slice_get ys i) none) ∙ h))), is)
+
+pub best-new : (key : Step → ℕ) (xs : List Step) (b : Keyed) (s : Step) (k : ℕ) → k ≡ key s → b.key < k → IsBestOf key xs (Some b) → IsBestOf key (xs ++ s ∷ []) (Some (record { key = k; step = s }))
+best-new key xs b s k is more (best, keyed) = (newest key xs s (λ i t h. (let l = best.greatest i t h in omega (arith, l, is, more, keyed))), is)
+
+-- ---- a step that is offered or not
+
+pub offered-one : (m : Ran) (s : Step) → is_some (next_of m s) ≡ true → offered m s ≡ s ∷ []
+offered-one m s h = rw h refl
+
+pub offered-none : (m : Ran) (s : Step) → is_some (next_of m s) ≡ false → offered m s ≡ []
+offered-none m s h = rw h refl
+
+pub best-same : (key : Step → ℕ) (xs ys : List Step) (best : Option Keyed) → ys ≡ [] → IsBestOf key xs best → IsBestOf key (xs ++ ys) best
+best-same key xs ys best none is = subst (λ zs. IsBestOf key zs best) (sym (ap (λ (zs : List Step). xs ++ zs) none ∙ append-nil xs)) is
+
+pub best-more : (key : Step → ℕ) (xs ys : List Step) (s : Step) (best : Option Keyed) → ys ≡ s ∷ [] → IsBestOf key (xs ++ s ∷ []) best → IsBestOf key (xs ++ ys) best
+best-more key xs ys s best one is = subst (λ zs. IsBestOf key (xs ++ zs) best) (sym one) is
+
+pub best-less : (key : Step → ℕ) (m : Ran) (xs : List Step) (b : Keyed) (s : Step) (k : ℕ) → k ≡ key s → k ≤ b.key → IsBestOf key xs (Some b) → IsBestOf key (xs ++ offered m s) (Some b)
+best-less key m xs b s k is less so_far = on (is_some (next_of m s)) refl
+  where
+    on : (o : Bool) → is_some (next_of m s) ≡ o → IsBestOf key (xs ++ offered m s) (Some b)
+    on true e = best-more key xs (offered m s) s (Some b) (offered-one m s e) (best-kept key xs b s k is less so_far)
+    on false e = best-same key xs (offered m s) (Some b) (offered-none m s e) so_far
+
+-- where the best so far has a key that is at least as great, it stays
+pub best-beaten : (key : Step → ℕ) (m : Ran) (xs : List Step) (best : Option Keyed) (s : Step) (k : ℕ) → k ≡ key s → is_beaten k best ≡ true → IsBestOf key xs best → IsBestOf key (xs ++ offered m s) best
+best-beaten key m xs None s k is beaten so_far = absurd (true≢false (sym beaten))
+best-beaten key m xs (Some b) s k is beaten so_far = best-less key m xs b s k is (grind (arith, nat_tests, beaten)) so_far
+
+pub step-beaten : (key : Step → ℕ) (xs : List Step) (best : Option Keyed) (s : Step) (k : ℕ) → k ≡ key s → is_beaten k best ≡ true → IsBestOf key xs best → IsBestOf key (xs ++ s ∷ []) best
+step-beaten key xs None s k is beaten so_far = absurd (true≢false (sym beaten))
+step-beaten key xs (Some b) s k is beaten so_far = best-kept key xs b s k is (grind (arith, nat_tests, beaten)) so_far
+
+-- otherwise the step is the best
+pub step-best : (key : Step → ℕ) (xs : List Step) (best : Option Keyed) (s : Step) (k : ℕ) → k ≡ key s → is_beaten k best ≡ false → IsBestOf key xs best → IsBestOf key (xs ++ s ∷ []) (Some (record { key = k; step = s }))
+step-best key xs None s k is beaten so_far = best-first key xs s k is so_far
+step-best key xs (Some b) s k is beaten so_far = best-new key xs b s k is (grind (arith, nat_tests, beaten)) so_far
+
+-- ---- of two there is none better
+
+pub greatest-one : (key : Step → ℕ) (xs : List Step) (s t : Step) → IsGreatest key xs s → IsGreatest key xs t → s ≡ t
+greatest-one key xs s t a b = elim (cases_lt a.index b.index) [
+  | inl below ↦ absurd (let less = b.first a.index s below a.is in let least = a.greatest b.index t b.is in omega (arith, less, least))
+  | inr above ↦ elim (cases_lt b.index a.index) [
+    | inl below ↦ absurd (let less = a.first b.index t below b.is in let least = b.greatest a.index s a.is in omega (arith, less, least))
+    | inr other ↦ (let same : a.index ≡ b.index = omega (arith, above, other) in same_Some s t (sym a.is ∙ ap (slice_get xs) same ∙ b.is))
+  ]
 ]
-best_more m c spes n None (Some b) is (best, key) =
-    let wide = wider m c spes n b.step best (λ some. absurd (has_not _ is some)) in
-    (wide.0, key ∙ ap (key_of c spes) (sym wide.1))
-best_more m c spes n (Some step) None is none = newest m c spes n step is (λ k inside some. absurd (has_not _ (none k inside) some))
-best_more m c spes n (Some step) (Some b) is so_far = of_both m c spes n step b (nat_lt b.key (key_of c spes n)) refl is so_far
 
-pub best-next : (m : Ran) (c : Choices) (spes n choice key : ℕ) (actor : Actor) (old new : Option Keyed) → choice ≡ c.choice → actor ≡ actor_of spes n → key ≡ key_of c spes n
-    → new ≡ better (picked_of m actor choice) key old → IsBestSoFar m c spes n old → IsBestSoFar m c spes (n + 1) new
-best-next m c spes n choice key actor old new same acts keyed is so_far =
-    let offers : picked_of m actor choice ≡ offered m c.choice spes n = cc in
-    let e : new ≡ better (offered m c.choice spes n) (key_of c spes n) old = is ∙ ap (λ o. better o key old) offers ∙ ap (λ k. better (offered m c.choice spes n) k old) keyed in
-    subst (IsBestSoFar m c spes (n + 1)) (sym e) (best_more m c spes n (offered m c.choice spes n) old refl so_far)
+pub empty-greatest : (key : Step → ℕ) (xs : List Step) (s : Step) → xs ≡ [] → IsGreatest key xs s → ⊥
+empty-greatest key xs s none best = none-some s (sym (ap (λ (ys : List Step). slice_get ys best.index) none) ∙ best.is)
 
--- the key of an actor, by the words as they were drawn
-pub key_by : (c : Choices) (way : Way) (words drawn : List ℕ) (spes n key : ℕ) → c.way ≡ way → c.keys ≡ words → drawn ≡ words
-    → key ≡ slice_index_or drawn n 0 * weight_of way (actor_of spes n) → key ≡ key_of c spes n
-key_by c way words drawn spes n key ways keys same is =
-    is ∙ ap (λ ws. slice_index_or ws n 0 * weight_of way (actor_of spes n)) (same ∙ sym keys) ∙ ap (λ w. slice_index_or c.keys n 0 * weight_of w (actor_of spes n)) (sym ways)
+-- ---- the offers, one after the other
 
-no_some : (P : Step → Type 0) (o : Option Step) → o ≡ None → IfSome o P
-no_some P o e = subst (λ x. IfSome x P) (sym e) tt
+queue_suc : (m : Ran) (word p n : ℕ) → offered_by_queue m word p (suc n) ≡ offered_by_queue m word p n ++ option_to_list (queued_of m p n word)
+unfolding offered_by_queue
+queue_suc m word p n = refl
 
--- where no actor has a step there is no first one
-pub chosen-none : (m : Ran) (c : Choices) (spes n : ℕ) (best : Option Keyed) (o : Option Step) → spes ≡ length m.setup.entries → 2 * spes + 1 ≤ n → best ≡ None → IsBestSoFar m c spes n best
-    → IsSomeAnd (state_of m) (λ M. length M.spes ≡ length m.setup.entries) → o ≡ first_of m → IfSome o (IsChosen m c)
-chosen-none m c spes n best o count all none so_far some first =
-    let nothing : (k : ℕ) → k < n → offered m c.choice spes k ≡ None = subst (IsBestSoFar m c spes n) none so_far in
-    let P : ℕ → Type 0 = λ x. (k : ℕ) → k < 2 * x + 1 → offered m c.choice x k ≡ None in
-    let there : P (length m.setup.entries) = subst P count (λ k inside. nothing k (omega (arith, inside, all))) in
-    no_some (IsChosen m c) o (first ∙ first-none m (length m.setup.entries) c.choice some there)
+queue_zero : (m : Ran) (word p : ℕ) → offered_by_queue m word p zero ≡ []
+unfolding offered_by_queue
+queue_zero m word p = refl
 
-narrower : (m : Ran) (c : Choices) (spes n : ℕ) (step : Step) → n ≡ 2 * spes + 1 → IsBest m c spes n step → IsBest m c spes (2 * spes + 1) step
-narrower m c spes n step e best = subst (λ x. IsBest m c spes x step) e best
+pub queue-init : (key : Step → ℕ) (m : Ran) (word p : ℕ) (xs : List Step) (best : Option Keyed) → IsBestOf key xs best → IsBestOf key (xs ++ offered_by_queue m word p 0) best
+queue-init key m word p xs best is = best-same key xs (offered_by_queue m word p 0) best (queue_zero m word p) is
 
-pub chosen-some : (m : Ran) (c : Choices) (spes n : ℕ) (best : Option Keyed) (b : Keyed) → spes ≡ length m.setup.entries → n ≡ 2 * spes + 1 → best ≡ Some b → IsBestSoFar m c spes n best → IsChosen m c b.step
-chosen-some m c spes n best b count all is so_far =
-    let it : IsBestSoFar m c spes n (Some b) = subst (IsBestSoFar m c spes n) is so_far in
-    subst (λ x. IsBest m c x (2 * x + 1) b.step) count (narrower m c spes n b.step all it.0)
+queue_more : (m : Ran) (word p n : ℕ) (xs : List Step) → xs ++ offered_by_queue m word p (n + 1) ≡ (xs ++ offered_by_queue m word p n) ++ option_to_list (queued_of m p n word)
+queue_more m word p n xs =
+    let e : n + 1 ≡ suc n = omega arith in
+    ap (λ k. xs ++ offered_by_queue m word p k) e ∙ ap (λ (ys : List Step). xs ++ ys) (queue_suc m word p n) ∙ sym (append_assoc xs (offered_by_queue m word p n) (option_to_list (queued_of m p n word)))
+
+pub queue-none : (key : Step → ℕ) (m : Ran) (word p n : ℕ) (xs : List Step) (best : Option Keyed) → queued_of m p n word ≡ None → IsBestOf key (xs ++ offered_by_queue m word p n) best → IsBestOf key (xs ++ offered_by_queue m word p (n + 1)) best
+queue-none key m word p n xs best none is =
+    subst (λ ys. IsBestOf key ys best) (sym (queue_more m word p n xs)) (best-same key (xs ++ offered_by_queue m word p n) (option_to_list (queued_of m p n word)) best (ap option_to_list none) is)
+
+pub queue-some : (key : Step → ℕ) (m : Ran) (word p n : ℕ) (xs : List Step) (s : Step) (best : Option Keyed) → queued_of m p n word ≡ Some s → IsBestOf key ((xs ++ offered_by_queue m word p n) ++ s ∷ []) best → IsBestOf key (xs ++ offered_by_queue m word p (n + 1)) best
+queue-some key m word p n xs s best some is =
+    subst (λ ys. IsBestOf key ys best) (sym (queue_more m word p n xs)) (best-more key (xs ++ offered_by_queue m word p n) (option_to_list (queued_of m p n word)) s best (ap option_to_list some) is)
+
+-- all that a processor offers
+pub processor-all : (key : Step → ℕ) (m : Ran) (word p : ℕ) (xs : List Step) (best : Option Keyed)
+    → IsBestOf key (((xs ++ offered m (Exec p)) ++ offered m (Atomic p)) ++ offered_by_queue m word p (queue_length m p)) best → IsBestOf key (xs ++ offered_by m word p) best
+processor-all key m word p xs best is =
+    subst (λ ys. IsBestOf key ys best) (ap (λ (ys : List Step). ys ++ offered_by_queue m word p (queue_length m p)) (append_assoc xs (offered m (Exec p)) (offered m (Atomic p)))
+      ∙ append_assoc xs (offered m (Exec p) ++ offered m (Atomic p)) (offered_by_queue m word p (queue_length m p))) is
+
+first_zero : (m : Ran) (word : ℕ) → offered_by_first m word zero ≡ []
+unfolding offered_by_first
+first_zero m word = refl
+
+first_suc : (m : Ran) (word n : ℕ) → offered_by_first m word (suc n) ≡ offered_by_first m word n ++ offered_by m word n
+unfolding offered_by_first
+first_suc m word n = refl
+
+pub first-init : (key : Step → ℕ) (m : Ran) (word : ℕ) → IsBestOf key (offered_by_first m word 0) None
+first-init key m word = first_zero m word
+
+pub first-next : (key : Step → ℕ) (m : Ran) (word n : ℕ) (best : Option Keyed) → IsBestOf key (offered_by_first m word n ++ offered_by m word n) best → IsBestOf key (offered_by_first m word (n + 1)) best
+first-next key m word n best is =
+    let e : n + 1 ≡ suc n = omega arith in
+    subst (λ ys. IsBestOf key ys best) (sym (ap (offered_by_first m word) e ∙ first_suc m word n)) is
+
+-- how many commands the queue holds, as the machine says
+pub length-is : (m : Ran) (p n : ℕ) → IsSomeAnd (spe_of m p) (λ P. n ≡ length (outstanding P)) → n ≡ queue_length m p
+length-is m p n some = on (spe_of m p) some
+  where
+    on : (o : Option Spe) → IsSomeAnd o (λ P. n ≡ length (outstanding P)) → n ≡ option_map_or (λ (P : Spe). length (outstanding P)) o 0
+    on None is = absurd is
+    on (Some P) is = is
+
+-- where nothing is the best, nothing is offered
+pub none-is : (key : Step → ℕ) (xs : List Step) (best : Option Keyed) → best ≡ None → IsBestOf key xs best → xs ≡ []
+none-is key xs best none is = subst (IsBestOf key xs) none is
+
+pub some-is : (key : Step → ℕ) (xs : List Step) (best : Option Keyed) (b : Keyed) → best ≡ Some b → IsBestOf key xs best → IsGreatest key xs b.step
+some-is key xs best b some is = let both : IsBestOf key xs (Some b) = subst (IsBestOf key xs) some is in both.0
+
+-- all that is offered
+pub all-is : (key : Step → ℕ) (m : Ran) (word n : ℕ) (best : Option Keyed) → n ≡ length m.setup.entries → IsBestOf key (offered_by_first m word n ++ offered m Host) best → IsBestOf key (offers m word) best
+all-is key m word n best count is = subst (λ k. IsBestOf key (offered_by_first m word k ++ offered m Host) best) count is
+
+pub if_none : (P : Step → Type 0) (o : Option Step) → o ≡ None → IfSome o P
+if_none P o e = subst (λ x. IfSome x P) (sym e) tt

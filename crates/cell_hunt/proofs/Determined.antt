@@ -1,61 +1,110 @@
 -- The choices of a seed make one run.
-use Rattle.std.proofs.Common.{◌≡◌, ℕ, ◌%◌, ap, refl, sym, ◌∙◌, subst, arith, List, ◌∷◌, length, true≢false, inl, inr}
-use Rattle.std.specs.Prelude.{Option, Some, None, IsSome, is_some, Bool, true, false, nat_lt, if◌then◌else◌}
-use Rattle.std.specs.Option.{option_and_then}
-use Rattle.std.proofs.lemmas.Bool.{cases_lt}
-use Rattle.std.proofs.lemmas.List.Elements.{filter_passes}
-use Rattle.std.proofs.lemmas.Option.{none-some, same_Some, slice_get_within, get_or_from_slice_get}
+use Rattle.std.proofs.Common.{◌≡◌, ℕ, ◌-◌, ap, refl, sym, ◌∙◌, subst, List, ◌∷◌, length, true≢false}
+use Rattle.std.specs.Prelude.{Option, Some, None, IsSome, is_some, Bool, true, false, if◌then◌else◌, slice_get}
+use Rattle.std.specs.Option.{option_and_then, option_map_or}
+use Rattle.std.proofs.lemmas.Option.{none-some, same_Some}
 use Rattle.cell_base.specs.declared.steps.Step.{Step}
-use Rattle.cell_base.specs.declared.steps.Actor.{Actor}
+use Rattle.cell_base.specs.declared.steps.Step.TheVariants.{Exec, Piece, Elem, Retire, Atomic, Host}
+use Rattle.cell_machine.specs.declared.effect.Effect.{Effect}
+use Rattle.cell_machine.specs.Effects.{effect_in}
 use Rattle.cell_machine.specs.Opening.{Opening}
-use Rattle.cell_machine.specs.State.{State}
-use Rattle.cell_machine.specs.Next.{next}
-use Rattle.cell_machine.specs.Run.{Ran, state_of, next_of, allowed, steps_of, picked}
-use Rattle.cell_hunt.specs.Choices.{Choices, drawn, offered, IsBest, IsChosen}
+use Rattle.cell_machine.specs.Spe.{Spe}
+use Rattle.cell_machine.specs.Run.{Ran, next_of, spe_of}
+use Rattle.cell_machine.proofs.MachineEffects.{effect-allowed}
+use Rattle.cell_hunt.specs.declared.strategy.Strategy.{Strategy}
+use Rattle.cell_hunt.specs.Choices.{Choices, drawn, key_of, lowered_by, lowers, second_word, strategy_now, IsBest, IsChosen, IsDrawn, IsLowered, IsMade, IsNext, IsTop}
 use Rattle.cell_hunt.specs.Ends.{IsOver}
+use Rattle.cell_hunt.specs.Locals.{going_on, is_local, is_local_at, local_behind}
+use Rattle.cell_hunt.specs.Offers.{offers}
 use Rattle.cell_hunt.specs.Runs.{Makes, End, Then, with_step, IsRunOfSeed}
+use Rattle.cell_hunt.proofs.Bests.{greatest-one}
+use Rattle.cell_hunt.proofs.Offering.{greatest-allowed}
 
-some_of : (o : Option Step) (s : Step) → o ≡ Some s → IsSome o
-some_of o s e = subst IsSome (sym e) refl
+-- ---- a chosen step is allowed
 
--- of two best steps none is better
-best-one : (m : Ran) (c : Choices) (spes actors : ℕ) (s t : Step) → IsBest m c spes actors s → IsBest m c spes actors t → s ≡ t
-best-one m c spes actors s t a b = elim (cases_lt a.number b.number) [
-  | inl below ↦ absurd (let less = b.first a.number below (some_of _ s a.is) in let least = a.greatest b.number b.there (some_of _ t b.is) in omega (arith, less, least))
-  | inr above ↦ elim (cases_lt b.number a.number) [
-    | inl below ↦ absurd (let less = a.first b.number below (some_of _ t b.is) in let least = b.greatest a.number a.there (some_of _ s a.is) in omega (arith, less, least))
-    | inr other ↦ (let same : a.number ≡ b.number = omega (arith, above, other) in same_Some s t (sym a.is ∙ ap (offered m c.choice spes) same ∙ b.is))
-  ]
-]
+local_allowed : (m : Ran) (p : ℕ) → is_local_at m p ≡ true → is_some (next_of m (Exec p)) ≡ true
+local_allowed m p h = (effect-allowed m (Exec p) (effect_in m (Exec p)) refl).0 (on (spe_of m p) (effect_in m (Exec p)) h)
+  where
+    on : (o : Option Spe) (e : Option Effect) → option_map_or (λ P. option_map_or (is_local P) e false) o false ≡ true → is_some e ≡ true
+    on None e h = absurd (true≢false (sym h))
+    on (Some P) None h = absurd (true≢false (sym h))
+    on (Some P) (Some e) h = refl
 
-passes : (M : State) (a : Actor) (choice : ℕ) (s : Step) → picked M a choice ≡ Some s → is_some (next M s) ≡ true
-passes M a choice s e =
-    let k = choice % length (allowed M a) in
-    let inside = slice_get_within (allowed M a) k s e in
-    let at = get_or_from_slice_get (allowed M a) k s s e in
-    let passed = filter_passes (λ x. is_some (next M x)) (steps_of M a) k s inside in
-    subst (λ x. is_some (next M x) ≡ true) at passed
+behind_allowed : (m : Ran) (last s : Step) → local_behind m last ≡ Some s → is_some (next_of m s) ≡ true
+behind_allowed m (Exec p) s h = on (is_local_at m p) refl h
+  where
+    on : (o : Bool) → is_local_at m p ≡ o → (if o then Some (Exec p) else None) ≡ Some s → is_some (next_of m s) ≡ true
+    on true e g = subst (λ x. is_some (next_of m x) ≡ true) (same_Some (Exec p) s g) (local_allowed m p e)
+    on false e g = absurd (none-some s g)
+behind_allowed m (Piece p c e k) s h = absurd (none-some s h)
+behind_allowed m (Elem p c) s h = absurd (none-some s h)
+behind_allowed m (Retire p c) s h = absurd (none-some s h)
+behind_allowed m (Atomic p) s h = absurd (none-some s h)
+behind_allowed m Host s h = absurd (none-some s h)
 
-passes_under : (under : Bool) (o : Option State) (a : Actor) (choice : ℕ) (s : Step) → (if under then option_and_then (λ M. picked M a choice) o else None) ≡ Some s
-    → is_some (if under then option_and_then (λ M. next M s) o else None) ≡ true
-passes_under true (Some M) a choice s e = passes M a choice s e
-passes_under true None a choice s e = absurd (none-some s e)
-passes_under false o a choice s e = absurd (none-some s e)
+going_allowed : (m : Ran) (strategy : Strategy) (s : Step) → going_on m strategy ≡ Some s → is_some (next_of m s) ≡ true
+going_allowed m strategy s h = on strategy.local h
+  where
+    last : (o : Option Step) → option_and_then (local_behind m) o ≡ Some s → is_some (next_of m s) ≡ true
+    last None e = absurd (none-some s e)
+    last (Some t) e = behind_allowed m t s e
 
--- a chosen step is allowed, so the run isn't over
-pub not_over : (m : Ran) (c : Choices) (s : Step) → IsChosen m c s → IsOver m → ⊥
-not_over m c s best over =
-    let allowed : is_some (next_of m s) ≡ true = passes_under (nat_lt (length m.steps) m.setup.budget) (state_of m) _ c.choice s best.is in
-    true≢false (sym allowed ∙ ap is_some (over s))
+    on : (b : Bool) → (if b then option_and_then (local_behind m) (slice_get m.steps (length m.steps - 1)) else None) ≡ Some s → is_some (next_of m s) ≡ true
+    on true e = last (slice_get m.steps (length m.steps - 1)) e
+    on false e = absurd (none-some s e)
+
+drawn-allowed : (m : Ran) (strategy : Strategy) (c : Choices) (s : Step) (left : Choices) → IsDrawn m strategy c s left → is_some (next_of m s) ≡ true
+drawn-allowed m strategy c s left is = on (lowers strategy c) is
+  where
+    on : (b : Bool) → IsMade b m strategy (second_word c.words) (drawn strategy c) s left → is_some (next_of m s) ≡ true
+    on true how = greatest-allowed m (second_word c.words) _ s how.best
+    on false how = greatest-allowed m (second_word c.words) _ s how.best
+
+pub chosen-allowed : (m : Ran) (c : Choices) (s : Step) (left : Choices) → IsChosen m c s left → is_some (next_of m s) ≡ true
+chosen-allowed m c s left is = on (going_on m (strategy_now m c)) refl is
+  where
+    on : (o : Option Step) → going_on m (strategy_now m c) ≡ o → IsNext o m (strategy_now m c) c s left → is_some (next_of m s) ≡ true
+    on (Some t) e how = subst (λ x. is_some (next_of m x) ≡ true) (sym how.0) (going_allowed m (strategy_now m c) t e)
+    on None e how = drawn-allowed m (strategy_now m c) c s left how
+
+-- so the run isn't over
+pub not_over : (m : Ran) (c : Choices) (s : Step) (left : Choices) → IsChosen m c s left → IsOver m → ⊥
+not_over m c s left is over = true≢false (sym (chosen-allowed m c s left is) ∙ ap is_some (over s))
+
+-- ---- and there is one
+
+lowered_one : (m : Ran) (strategy : Strategy) (word : ℕ) (c : Choices) (s t : Step) (left right : Choices) → IsLowered m strategy word c s left → IsLowered m strategy word c t right → (s ≡ t) × (left ≡ right)
+lowered_one m strategy word c s t left right a b =
+    let top : a.top ≡ b.top = greatest-one (key_of m strategy c.keys) (offers m word) a.top b.top a.was b.was in
+    let same : left ≡ right = a.leaves ∙ ap (lowered_by m c) top ∙ sym b.leaves in
+    let there : IsBest m strategy word right.keys s = subst (λ (x : Choices). IsBest m strategy word x.keys s) same a.best in
+    (greatest-one (key_of m strategy right.keys) (offers m word) s t there b.best, same)
+
+top_one : (m : Ran) (strategy : Strategy) (word : ℕ) (c : Choices) (s t : Step) (left right : Choices) → IsTop m strategy word c s left → IsTop m strategy word c t right → (s ≡ t) × (left ≡ right)
+top_one m strategy word c s t left right a b = (greatest-one (key_of m strategy c.keys) (offers m word) s t a.best b.best, a.leaves ∙ sym b.leaves)
+
+drawn_one : (m : Ran) (strategy : Strategy) (c : Choices) (s t : Step) (left right : Choices) → IsDrawn m strategy c s left → IsDrawn m strategy c t right → (s ≡ t) × (left ≡ right)
+drawn_one m strategy c s t left right a b = on (lowers strategy c) a b
+  where
+    on : (low : Bool) → IsMade low m strategy (second_word c.words) (drawn strategy c) s left → IsMade low m strategy (second_word c.words) (drawn strategy c) t right → (s ≡ t) × (left ≡ right)
+    on true x y = lowered_one m strategy (second_word c.words) (drawn strategy c) s t left right x y
+    on false x y = top_one m strategy (second_word c.words) (drawn strategy c) s t left right x y
+
+next_one : (o : Option Step) (m : Ran) (strategy : Strategy) (c : Choices) (s t : Step) (left right : Choices) → IsNext o m strategy c s left → IsNext o m strategy c t right → (s ≡ t) × (left ≡ right)
+next_one (Some on) m strategy c s t left right a b = (a.0 ∙ sym b.0, a.1 ∙ sym b.1)
+next_one None m strategy c s t left right a b = drawn_one m strategy c s t left right a b
+
+chosen-one : (m : Ran) (c : Choices) (s t : Step) (left right : Choices) → IsChosen m c s left → IsChosen m c t right → (s ≡ t) × (left ≡ right)
+chosen-one m c s t left right a b = next_one (going_on m (strategy_now m c)) m (strategy_now m c) c s t left right a b
 
 makes-one : {c : Choices} {m : Ran} {xs ys : List Step} → Makes c m xs → Makes c m ys → xs ≡ ys
 makes-one (End over) (End other) = refl
-makes-one (End over) (Then chosen rest) = absurd (not_over _ _ _ chosen over)
-makes-one (Then chosen rest) (End over) = absurd (not_over _ _ _ chosen over)
-makes-one {c = c} {m = m} (Then {s = s} {steps = xs} chosen rest) (Then {s = t} {steps = ys} other more) =
-    let same : s ≡ t = best-one _ _ _ _ s t chosen other in
-    let moved : Makes (drawn c) (with_step m s) ys = subst (λ x. Makes (drawn c) (with_step m x) ys) (sym same) more in
-    ap (λ x. x ∷ xs) same ∙ ap (λ zs. t ∷ zs) (makes-one rest moved)
+makes-one {c = c} {m = m} (End over) (Then {left = left} {s = s} chosen rest) = absurd (not_over m c s left chosen over)
+makes-one {c = c} {m = m} (Then {left = left} {s = s} chosen rest) (End over) = absurd (not_over m c s left chosen over)
+makes-one {c = c} {m = m} (Then {left = left} {s = s} {steps = xs} chosen rest) (Then {left = right} {s = t} {steps = ys} other more) =
+    let one = chosen-one m c s t left right chosen other in
+    let moved : Makes left (with_step m s) ys = subst (λ x. Makes left (with_step m x) ys) (sym one.0) (subst (λ l. Makes l (with_step m t) ys) (sym one.1) more) in
+    ap (λ x. x ∷ xs) one.0 ∙ ap (λ zs. t ∷ zs) (makes-one rest moved)
 
 pub run-one : (opening : Opening) (seed run : ℕ) (m n : Ran) → IsRunOfSeed opening seed run m → IsRunOfSeed opening seed run n → m ≡ n
 run-one opening seed run m n a b =

@@ -1,6 +1,6 @@
-mod Words
-mod Overs
 mod Bests
+mod Overs
+mod Offering
 mod Determined
 mod Making
 mod Places

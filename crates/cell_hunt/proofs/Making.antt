@@ -3,7 +3,7 @@ use Rattle.std.proofs.Common.{◌≡◌, ℕ, ap, sym, refl, subst, ◌∙◌, L
 use Rattle.std.specs.Prelude.{Result, Ok, Err, IsOk, IfOk}
 use Rattle.cell_base.specs.declared.steps.Step.{Step}
 use Rattle.cell_machine.specs.Run.{Ran}
-use Rattle.cell_hunt.specs.Choices.{Choices, drawn, IsChosen}
+use Rattle.cell_hunt.specs.Choices.{Choices, IsChosen}
 use Rattle.cell_hunt.specs.Ends.{IsOver}
 use Rattle.cell_hunt.specs.Runs.{Makes, End, Then, with_step}
 use Rattle.cell_hunt.specs.Goings.{Continues, Goes, with_steps}
@@ -19,14 +19,14 @@ steps_then : (start m n : Ran) (made more : List Step) → m ≡ with_steps star
 steps_then start m n made more first then =
     then ∙ ap (λ (r : Ran). with_steps r more) first ∙ ap (λ (xs : List Step). let r : Ran = record start { steps = xs } in r) (append_assoc start.steps made more)
 
-pub continues-more : (first : Choices) (start : Ran) (c next : Choices) (m new : Ran) (s : Step) → next ≡ drawn c → IsChosen m (drawn c) s → new ≡ with_step m s
-    → Continues first start c m → Continues first start next new
-continues-more first start c next m new s draws chosen made so_far =
+pub continues-more : (first : Choices) (start : Ran) (c left : Choices) (m new : Ran) (s : Step) → IsChosen m c s left → new ≡ with_step m s
+    → Continues first start c m → Continues first start left new
+continues-more first start c left m new s chosen made so_far =
     record {
       made = so_far.made ++ s ∷ [];
       all = steps_then start m new so_far.made (s ∷ []) so_far.all made;
       goes = λ rest makes.
-          (let there : Makes (drawn c) (with_step m s) rest = subst (λ x. Makes x (with_step m s) rest) draws (subst (λ x. Makes next x rest) made makes) in
+          (let there : Makes left (with_step m s) rest = subst (λ x. Makes left x rest) made makes in
           subst (Makes first start) (sym (append_assoc so_far.made (s ∷ []) rest)) (so_far.goes (s ∷ rest) (Then chosen there)));
     }
 
@@ -36,7 +36,7 @@ continues-end first start c m over so_far =
 
 made-none : (c : Choices) (m : Ran) (steps : List Step) → IsOver m → Makes c m steps → steps ≡ []
 made-none c m steps over (End other) = refl
-made-none c m steps over (Then chosen rest) = absurd (not_over _ _ _ chosen over)
+made-none c m steps over (Then {left = left} {s = s} chosen rest) = absurd (not_over m c s left chosen over)
 
 -- a run that is over doesn't go on
 pub goes-none : (c : Choices) (m n : Ran) → IsOver m → Goes c m n → n ≡ m

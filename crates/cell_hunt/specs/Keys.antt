@@ -1,8 +1,56 @@
--- The words of the actors' keys.
-use Rattle.std.specs.Prelude.{ℕ, ◌-◌, List, ◌++◌, take}
+-- The keys by which the next step is chosen: who has the greatest one makes it.
+use Rattle.std.specs.Prelude.{ℕ, ◌+◌, ◌-◌, ◌*◌, ◌%◌, ◌^◌, ◌==◌, ◌&&◌, Bool, true, false, not, if◌then◌else◌, replicate, slice_index_or, slice_set}
+use Rattle.cell_base.specs.declared.steps.Step.{Step}
+use Rattle.cell_base.specs.declared.steps.Step.TheVariants.{Exec, Piece, Elem, Retire, Atomic, Host}
 use Rattle.cell_hunt.specs.declared.keys.Keys.{Keys}
-use Rattle.cell_hunt.specs.Draws.{next_words}
+use Rattle.cell_hunt.specs.declared.strategy.Strategy.{Strategy}
+use Rattle.cell_hunt.specs.Mixing.{with_number}
 
--- those that were drawn, and those that are still to come
-abbrev pub keys_of : Keys → List ℕ
-keys_of k = take k.drawn k.words ++ next_words (33 - k.drawn) k.later
+-- Each processor has a key, each atomic slot, the host, and each queued command of a processor by its number modulo 16. These are their places.
+abbrev pub queued_place : ℕ → ℕ → ℕ
+queued_place p c = 33 + 16 * p + c % 16
+
+abbrev pub place_of : Step → ℕ
+place_of (Exec p) = p
+place_of (Atomic p) = 16 + p
+place_of Host = 32
+place_of (Piece p c e k) = queued_place p c
+place_of (Elem p c) = queued_place p c
+place_of (Retire p c) = queued_place p c
+
+abbrev pub is_queued : Step → Bool
+is_queued (Piece p c e k) = true
+is_queued (Elem p c) = true
+is_queued (Retire p c) = true
+is_queued (Exec p) = false
+is_queued (Atomic p) = false
+is_queued Host = false
+
+-- late commands weigh a quarter
+abbrev pub weight_of : Strategy → Step → ℕ
+weight_of strategy s = if strategy.late && is_queued s then 4 else 16
+
+-- the word of the key at a place
+abbrev pub random_at : ℕ → ℕ → ℕ
+random_at base place = with_number base place % 2 ^ 32
+
+-- a key that was lowered for the step of this number, which isn't 0, is below all that weren't, and below all that were lowered before
+abbrev pub lowered_or : ℕ → ℕ → ℕ
+lowered_or number key = if number == 0 then key else 2 ^ 32 - number
+
+-- the key of who makes a step; where all keys are drawn anew before each choice, none is lowered
+abbrev pub key_at : Strategy → Keys → Step → ℕ
+key_at strategy keys s =
+    let key = 2 ^ 32 + random_at keys.base (place_of s) * weight_of strategy s in
+    if not strategy.anew then lowered_or (slice_index_or keys.lowered (place_of s) 0) key else key
+
+-- the keys of a base, none of them lowered
+abbrev pub opened : ℕ → Keys
+opened base = record { base = base; lowered = replicate 289 0 }
+
+abbrev pub with_base : ℕ → Keys → Keys
+with_base base keys = record keys { base = base }
+
+-- the key at a place is lowered for the step of this number
+abbrev pub with_lowered : ℕ → ℕ → Keys → Keys
+with_lowered place number keys = record keys { lowered = slice_set keys.lowered place number }

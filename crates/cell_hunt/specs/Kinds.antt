@@ -1,5 +1,5 @@
 -- The kind of a run: which addresses its processors executed, and who touched each line, mailbox and signal register, each in the order of the run.
-use Rattle.std.specs.Prelude.{ℕ, ◌+◌, ◌*◌, ◌/◌, ◌%◌, ◌^◌, ◌==◌, ◌&&◌, nat_lt, Bool, true, false, List, [], ◌∷◌, ◌++◌, map, filter, fold, flat_map, Option, Some, None, bit_xor, option_to_list, if◌then◌else◌}
+use Rattle.std.specs.Prelude.{ℕ, ◌+◌, ◌*◌, ◌/◌, ◌==◌, ◌&&◌, nat_lt, Bool, true, false, List, [], ◌∷◌, ◌++◌, map, filter, fold, flat_map, Option, Some, None, option_to_list, if◌then◌else◌}
 use Rattle.std.specs.List.{range_with_len}
 use Rattle.std.specs.Option.{option_map_or}
 use Rattle.cell_base.specs.declared.steps.Step.{Step}
@@ -13,6 +13,7 @@ use Rattle.cell_machine.specs.declared.effect.Effect.{Effect}
 use Rattle.cell_machine.specs.Traces.{Event, trace_of}
 use Rattle.cell_machine.specs.Run.{Ran}
 use Rattle.cell_hunt.specs.declared.touches.Touch.{Touch}
+use Rattle.cell_hunt.specs.Mixing.{with_number}
 
 -- ---- what is touched has a number
 
@@ -76,17 +77,6 @@ unfoldable pub touches_in : Ran → List Touch
 touches_in m = option_map_or (flat_map (λ (x : Event). touches x.step x.effect)) (trace_of m) []
 
 -- ---- the digest of all that, which has 64 bits
-
--- a number with its bits mixed, as SplitMix64 does
-abbrev pub folded : ℕ → ℕ → ℕ → ℕ
-folded n shift factor = bit_xor n (n / 2 ^ shift) * factor % 2 ^ 64
-
-unfoldable pub mixed : ℕ → ℕ
-mixed n = let m = folded (folded n 30 0xbf58476d1ce4e5b9) 27 0x94d049bb133111eb in bit_xor m (m / 2 ^ 31)
-
--- the digest of a list with one number more
-abbrev pub with_number : ℕ → ℕ → ℕ
-with_number digest n = mixed ((bit_xor digest n + 0x9e3779b97f4a7c15) % 2 ^ 64)
 
 abbrev pub digest : List ℕ → ℕ
 digest numbers = fold with_number 0 numbers

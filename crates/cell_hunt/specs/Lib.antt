@@ -1,10 +1,12 @@
-pub mod Ways
-pub mod Draws
+pub mod Mixing
+pub mod Strategies
 pub mod Keys
-pub mod Actors
-pub mod Better
-pub mod Choices
+pub mod Polls
+pub mod Locals
+pub mod Offers
+pub mod Bests
 pub mod Ends
+pub mod Choices
 pub mod Runs
 pub mod Goings
 pub mod Outcomes

@@ -8,7 +8,6 @@ ghost use Rattle.cell_hunt.specs.Runs.{IsRunOfSeed};
 
 use crate::chooser::Chooser;
 use crate::error::HuntError;
-use crate::way::way_of;
 use cell_machine::{Machine, Setup};
 use std::alloc::Global;
 
@@ -19,10 +18,10 @@ fn make_steps(machine: &mut Machine, chooser: &mut Chooser)
     ensures over { IsOver machine.new }
 {
     for place in 0..machine.setup().budget() {
-        let Some(step) = chooser.next(machine) else {
+        let Some(chosen) = chooser.next(machine, place) else {
             return;
         };
-        let Ok(_) = machine.step(step) else {
+        let Ok(_) = machine.step(chosen.step) else {
             unreachable!()
         };
     }
@@ -47,7 +46,7 @@ pub fn machine_of_seed(
     let Ok(mut machine) = Machine::new(alloc, copy) else {
         return Err(HuntError::Memory);
     };
-    let mut chooser = Chooser::new(way_of(run), seed, u64::from(run));
+    let mut chooser = Chooser::new(seed, run);
     make_steps(&mut machine, &mut chooser);
     Ok(machine)
 }

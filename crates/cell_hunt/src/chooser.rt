@@ -1,16 +1,18 @@
-//! Who makes the next step.
+//! Which step a run makes next.
 
-ghost use Rattle.std.specs.Prelude.{◌≡◌, ◌*◌, ◌<◌, ◌≤◌, slice_index_or, IfSome, IfNone, IsSome};
+ghost use Rattle.std.specs.Prelude.{◌≡◌, ◌+◌, ◌-◌, ◌^◌, ◌<◌, nat_lt, length, Some, IfSome, IfNone, IsSome};
+ghost use Rattle.cell_machine.specs.Effects.{effect_in};
 ghost use Rattle.cell_machine.specs.Run.{next_of};
-ghost use Rattle.cell_hunt.specs.Choices.{IsChosen, drawn, opened, words_of};
+ghost use Rattle.cell_hunt.specs.Choices.{IsChosen, IsDrawn, opened, words_of};
 ghost use Rattle.cell_hunt.specs.Ends.{IsOver};
-ghost use Rattle.cell_hunt.specs.Keys.{keys_of};
-ghost use Rattle.cell_hunt.specs.Ways.{weight_of};
-ghost use Rattle.cell_hunt.specs.Actors.{actor_of};
+ghost use Rattle.cell_hunt.specs.Strategies.{strategy_of};
 
-use crate::actors::{actor, better};
 use crate::keys::Keys;
-use crate::way::Way;
+use crate::locals::{Chosen, going_on};
+use crate::mixing::with_number;
+use crate::offers::best;
+use crate::owners::place_of;
+use crate::strategy::{Strategy, strategy_of};
 use cell_base::Step;
 use cell_machine::Machine;
 use rand_core::utils::NextWord;
@@ -20,97 +22,87 @@ use std::marker::Model;
 /// The choices of a run.
 #[derive(Drop)]
 pub struct Chooser {
-    /// By which way they are made.
-    way: Way,
+    strategy: Strategy,
+    /// Where keys stay, the greatest one is lowered before a choice with a chance of 2^-rate.
+    rate: u32,
     /// The words by chance that are still to come.
     words: Pcg32,
-    /// The stream that they are of.
-    stream: u64,
-    /// A word of a key for each actor.
     keys: Keys,
-    /// The choice among an actor's allowed steps.
-    choice: u32,
 }
 
 impl Model for Chooser {
-    ghost use Rattle.std.specs.Prelude.{◌≡◌};
-    ghost use Rattle.rand_pcg.specs.Lcg.{increment_of};
     ghost use Rattle.cell_hunt.specs.Choices.{Choices};
-    ghost use Rattle.cell_hunt.specs.Keys.{keys_of};
 
     ghost Value = { Choices };
 
-    ghost view = { λ c. record { way = c.way; words = c.words; keys = keys_of c.keys; choice = c.choice } };
-
-    ghost invariant = { λ c. c.words.increment ≡ increment_of 64 c.stream };
+    ghost view = { λ c. record { strategy = c.strategy; rate = c.rate; words = c.words; keys = c.keys } };
 }
 
-/// The key of an actor, of so many processors, whose word was drawn.
-fn key(keys: &Keys, way: Way, spes: u8, number: u8) -> u64
-    requires spes { spes ≤ 16 }
-    requires drawn { number < keys.now.drawn }
-    ensures { result ≡ slice_index_or (keys_of keys.now) number 0 * weight_of way (actor_of spes number) }
+/// Whether a word lowers the greatest key, of which the chance is 2^-rate.
+fn is_lowering(word: u32, rate: u32) -> bool
+    ensures { result ≡ nat_lt word (2 ^ (32 - rate)) }
 {
-    let weight = way.weight(actor(spes, number));
-    u64::from(keys.word(number as usize)) * u64::from(weight)
+    u64::from(word) < 1u64 << 32u32.saturating_sub(rate)
 }
 
 impl Chooser {
-    /// Before the first step of a run, with a seed and a stream of words.
-    pub fn new(way: Way, seed: u64, stream: u64) -> Chooser
-        ensures { result ≡ opened way (words_of seed stream) }
+    /// Before the first step of run `run` of a seed.
+    pub fn new(seed: u64, run: u32) -> Chooser
+        ensures { result ≡ opened (strategy_of run) (words_of seed run) }
     {
-        let mut words = Pcg32::new(seed, stream);
-        let keys = Keys::new(&mut words, stream);
+        let strategy = strategy_of(run);
+        let mut words = Pcg32::new(with_number(seed, u64::from(run)), u64::from(run));
+        let base = words.next_word();
+        let rate = u32::from(strategy.least_rate) + words.next_word() % 8;
         Chooser {
-            way,
+            strategy,
+            rate,
             words,
-            stream,
-            keys,
-            choice: 0,
+            keys: Keys::new(u64::from(base)),
         }
     }
 
-    /// Draws what the next step is chosen by.
-    fn draw_next(&mut self)
-        ensures { self.new ≡ drawn self.old }
-    {
-        let turn = self.words.next_word();
-        self.choice = self.words.next_word();
-        if turn <= self.way.turn {
-            self.keys.renew(&mut self.words, self.stream);
-        }
-    }
-
-    /// The step of the actor with the greatest key among those that have one.
-    fn best(&mut self, machine: &Machine) -> Option<Step>
-        ensures same { self.new ≡ self.old }
-        ensures chosen { IfSome result (IsChosen machine.now self.old) }
+    /// The step that is drawn, None exactly where the run, which has so many steps, is over.
+    fn draw(&mut self, machine: &Machine, strategy: Strategy, steps: u32) -> Option<Step>
+        requires steps { length machine.now.steps ≡ steps }
+        requires few { steps + 1 < 2 ^ 32 }
+        ensures drawn { IfSome result (λ s. IsDrawn machine.now strategy self.old s self.new) }
         ensures allowed { IfSome result (λ s. IsSome (next_of machine.now s)) }
         ensures none { IfNone result (IsOver machine.now) }
     {
-        let spes = machine.setup().spes();
-        self.keys.draw(usize::from(2 * spes + 1));
-        let mut best = None;
-        for number in 0..2 * spes + 1 {
-            let key = key(&self.keys, self.way, spes, number);
-            best = better(machine, spes, number, key, self.choice, best);
+        let first = self.words.next_word();
+        let second = self.words.next_word();
+        if strategy.anew {
+            self.keys.set_base(u64::from(first));
+            return best(machine, strategy, &self.keys, second);
         }
-        let Some(best) = best else {
-            // no actor has a step, so this is None: it says that the run is over
-            return machine.any_step();
+        if !is_lowering(first, self.rate) {
+            return best(machine, strategy, &self.keys, second);
+        }
+        let Some(top) = best(machine, strategy, &self.keys, second) else {
+            return None;
         };
-        Some(best.step)
+        self.keys.lower(place_of(top), steps + 1);
+        best(machine, strategy, &self.keys, second)
     }
 
-    /// The next step of the machine, None exactly where the run is over.
-    pub fn next(&mut self, machine: &Machine) -> Option<Step>
-        ensures drawn { self.new ≡ drawn self.old }
-        ensures chosen { IfSome result (IsChosen machine.now (drawn self.old)) }
-        ensures allowed { IfSome result (λ s. IsSome (next_of machine.now s)) }
+    /// The next step of a run that has so many, None exactly where the run is over.
+    pub fn next(&mut self, machine: &Machine, steps: u32) -> Option<Chosen>
+        requires steps { length machine.now.steps ≡ steps }
+        requires few { steps + 1 < 2 ^ 32 }
+        ensures chosen { IfSome result (λ x. IsChosen machine.now self.old x.step self.new) }
+        ensures effect { IfSome result (λ x. effect_in machine.now x.step ≡ Some x.effect) }
+        ensures allowed { IfSome result (λ x. IsSome (next_of machine.now x.step)) }
         ensures none { IfNone result (IsOver machine.now) }
     {
-        self.draw_next();
-        self.best(machine)
+        let strategy = self.strategy.at(steps, machine.setup().budget());
+        if let Some(chosen) = going_on(machine, strategy, steps) {
+            return Some(chosen);
+        }
+        let Some(step) = self.draw(machine, strategy, steps) else {
+            return None;
+        };
+        let effect = machine.allowed_effect(step);
+        Some(Chosen { step, effect })
     }
 }

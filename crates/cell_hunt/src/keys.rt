@@ -1,84 +1,88 @@
-//! The words of the actors' keys, drawn as they are asked for.
+//! The keys by which the next step is chosen.
 
-ghost use Rattle.std.specs.Prelude.{◌≡◌, ◌<◌, ◌≤◌, length, slice_index_or};
-ghost use Rattle.rand_pcg.specs.Lcg.{increment_of};
+ghost use Rattle.std.specs.Prelude.{◌≡◌, ◌^◌, ◌<◌, slice_index_or};
 
-use rand_core::utils::NextWord;
-use rand_pcg::Pcg32;
+use crate::mixing::with_number;
+use crate::owners::place_of;
+use crate::strategy::Strategy;
+use cell_base::Step;
 
-/// How many actors a machine has at most: sixteen processors, their flow controllers, and the host.
-pub const ACTORS: usize = 33;
+/// How many keys a run has at most: one for each of sixteen processors, sixteen atomic slots and the host, and sixteen for the queued commands of
+/// each processor.
+pub const PLACES: usize = 289;
 
-/// A word by chance for each actor that a machine can have. Most machines have fewer, so a word is drawn when it is asked for.
+/// What a key that isn't lowered has at least.
+const UNLOWERED: u64 = 1 << 32;
+
+/// The keys of a run. They are computed from the base, so that a key costs nothing until somebody asks for it.
 #[derive(Drop)]
 pub struct Keys {
-    /// The words, as far as they were drawn.
-    words: [u32; ACTORS],
-    /// How many were drawn.
-    drawn: usize,
-    /// What the others are drawn from.
-    later: Pcg32,
-    ghost size: { length words ≡ 33 },
-    ghost inside: { drawn ≤ 33 },
-}
-
-/// The same generator once more, of the same stream.
-fn again(generator: &Pcg32, stream: u64) -> Pcg32
-    requires { generator.now.increment ≡ increment_of 64 stream }
-    ensures { result ≡ generator.now }
-{
-    Pcg32::from_state(generator.state(), stream)
+    /// What the keys are computed from.
+    pub base: u64,
+    /// By its place, the number of the step for which a key was lowered last, counted from 1; 0 where it never was.
+    pub lowered: [u32; PLACES],
 }
 
 impl Keys {
-    ghost use Rattle.cell_hunt.specs.Draws.{next_words, after};
-    ghost use Rattle.cell_hunt.specs.Keys.{keys_of};
+    ghost use Rattle.cell_hunt.specs.Keys.{key_at, opened, random_at, with_base, with_lowered};
 
-    /// The next words of a generator of a stream, which goes on behind them.
-    pub fn new(generator: &mut Pcg32, stream: u64) -> Keys
-        requires { generator.old.increment ≡ increment_of 64 stream }
-        ensures keys { keys_of result ≡ next_words 33 generator.old }
-        ensures after { generator.new ≡ after 33 generator.old }
-        ensures stream { generator.new.increment ≡ generator.old.increment }
+    /// The keys of this base, none of them lowered.
+    pub fn new(base: u64) -> Keys
+        ensures { result ≡ opened base }
     {
-        let later = again(generator, stream);
-        generator.advance(ACTORS as u64);
         Keys {
-            words: [0; ACTORS],
-            drawn: 0,
-            later,
+            base,
+            lowered: [0; PLACES],
         }
     }
 
-    /// Takes the next words of a generator in place of these.
-    pub fn renew(&mut self, generator: &mut Pcg32, stream: u64)
-        requires { generator.old.increment ≡ increment_of 64 stream }
-        ensures keys { keys_of self.new ≡ next_words 33 generator.old }
-        ensures after { generator.new ≡ after 33 generator.old }
-        ensures stream { generator.new.increment ≡ generator.old.increment }
+    /// Draws all keys anew.
+    pub fn set_base(&mut self, base: u64)
+        ensures { self.new ≡ with_base base self.old }
     {
-        self.drawn = 0;
-        self.later = again(generator, stream);
-        generator.advance(ACTORS as u64);
+        self.base = base;
     }
 
-    /// Draws the first words, so many, where they aren't yet drawn.
-    pub fn draw(&mut self, count: usize)
-        requires { count ≤ 33 }
-        ensures same { keys_of self.new ≡ keys_of self.old }
-        ensures drawn { count ≤ self.new.drawn }
+    /// Lowers the key at a place below all others, for the step of this number.
+    pub fn lower(&mut self, place: usize, number: u32)
+        ensures { self.new ≡ with_lowered place number self.old }
     {
-        for number in self.drawn..count {
-            self.words[number] = self.later.next_word();
-            self.drawn = number + 1;
+        if place < self.lowered.len() {
+            self.lowered[place] = number;
         }
     }
 
-    /// The word of an actor, which was drawn.
-    pub fn word(&self, number: usize) -> u32
-        requires { number < self.now.drawn }
-        ensures { result ≡ slice_index_or (keys_of self.now) number 0 }
+    /// The number of the step for which the key at a place was lowered last, 0 where it never was.
+    fn lowered_at(&self, place: usize) -> u32
+        ensures { result ≡ slice_index_or self.now.lowered place 0 }
     {
-        self.words[number]
+        if place < self.lowered.len() {
+            self.lowered[place]
+        } else {
+            0
+        }
+    }
+
+    /// The word of the key at a place.
+    fn random_at(&self, place: usize) -> u64
+        ensures random { result ≡ random_at self.now.base place }
+        ensures small { result < 2 ^ 32 }
+    {
+        with_number(self.base, place as u64) % UNLOWERED
+    }
+
+    /// The key of who makes a step.
+    pub fn key(&self, strategy: Strategy, step: Step) -> u64
+        ensures key { result ≡ key_at strategy self.now step }
+        ensures small { result < 2 ^ 40 }
+    {
+        let place = place_of(step);
+        if !strategy.anew {
+            let lowered = self.lowered_at(place);
+            if lowered != 0 {
+                return UNLOWERED - u64::from(lowered);
+            }
+        }
+        UNLOWERED + self.random_at(place) * strategy.weight(step)
     }
 }

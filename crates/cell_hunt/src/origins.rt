@@ -169,22 +169,24 @@ impl Origins {
         Ok(())
     }
 
-    /// Takes in the machine's next step, which is the one at this place, and answers its effect.
-    pub fn add(&mut self, machine: &Machine, step: Step, place: u32) -> Result<Effect, HuntError>
-        requires allowed { IsSome (next_of machine.now step) }
+    /// Takes in the machine's next step, which is the one at this place and has this effect.
+    pub fn add(
+        &mut self,
+        machine: &Machine,
+        step: Step,
+        effect: Effect,
+        place: u32,
+    ) -> Result<(), HuntError>
+        requires effect { effect_in machine.now step ≡ Some effect }
         requires knows { Knows machine.now self.old }
         requires place { length machine.now.steps ≡ place }
         requires few { place + 1 < 2 ^ 32 }
-        ensures effect { IfOk result (λ e. effect_in machine.now step ≡ Some e) }
-        ensures knows { OnOk result (Knows (with_step machine.now step) self.new) }
+        ensures { OnOk result (Knows (with_step machine.now step) self.new) }
     {
-        let Some(effect) = machine.effect(step) else {
-            unreachable!()
-        };
         let at = self.origin(machine, step);
         self.pass(step, effect.note, at)?;
         self.steps.push(at)?;
-        Ok(effect)
+        Ok(())
     }
 
     /// The site of the step at a place.

@@ -17,7 +17,6 @@ use crate::error::HuntError;
 use crate::racing::Racing;
 use crate::site::Sites;
 use crate::so_far::SoFar;
-use crate::way::way_of;
 use cell_machine::{End, Machine, Setup};
 use std::alloc::Global;
 use std::marker::Model;
@@ -95,10 +94,10 @@ fn make_all(so_far: &mut SoFar, chooser: &mut Chooser) -> Result<(), HuntError>
     ensures searched { OnOk result (IsSearchedTo (length (made_by so_far.new).steps) so_far.new) }
 {
     for place in 0..so_far.search.machine().setup().budget() {
-        let Some(step) = chooser.next(so_far.search.machine()) else {
+        let Some(chosen) = chooser.next(so_far.search.machine(), place) else {
             return Ok(());
         };
-        so_far.advance(step, place)?;
+        so_far.advance(chosen.step, chosen.effect, place)?;
     }
     Ok(())
 }
@@ -111,7 +110,7 @@ pub fn run_of_seed(alloc: Global, setup: &Setup, seed: u64, run: u32) -> Result<
     ensures over { IfOk result IsOver }
     ensures only { IfOk result (λ m. (n : Ran) → IsRunOfSeed setup.now seed run n → n ≡ m) }
 {
-    let mut chooser = Chooser::new(way_of(run), seed, u64::from(run));
+    let mut chooser = Chooser::new(seed, run);
     let mut so_far = SoFar::new(alloc, setup)?;
     make_all(&mut so_far, &mut chooser)?;
     let kind = so_far.touched.kind();

@@ -1,6 +1,7 @@
 //! A run of a seed as it is made.
 
-ghost use Rattle.std.specs.Prelude.{◌≡◌, ℕ, ◌+◌, ◌^◌, ◌<◌, [], length, IfOk, IsSome, OnOk};
+ghost use Rattle.std.specs.Prelude.{◌≡◌, ℕ, ◌+◌, ◌^◌, ◌<◌, [], length, Some, IfOk, IsSome, OnOk};
+ghost use Rattle.cell_machine.specs.Effects.{effect_in};
 ghost use Rattle.cell_machine.specs.Run.{next_of};
 ghost use Rattle.race_check.specs.Races.{IsLatest};
 ghost use Rattle.race_check.specs.Walks.{RaceIn};
@@ -11,7 +12,7 @@ use crate::origins::Origins;
 use crate::racing::Racing;
 use crate::touched::Touched;
 use cell_base::Step;
-use cell_machine::Setup;
+use cell_machine::{Effect, Setup};
 use race_check::Search;
 use std::alloc::Global;
 
@@ -82,16 +83,18 @@ impl SoFar {
         Ok(())
     }
 
-    /// Makes the next step of the run, which is the one at this place.
-    pub fn advance(&mut self, step: Step, place: u32) -> Result<(), HuntError>
+    /// Makes the next step of the run, which is the one at this place and has this effect.
+    pub fn advance(&mut self, step: Step, effect: Effect, place: u32) -> Result<(), HuntError>
         requires allowed { IsSome (next_of (made_by self.old) step) }
+        requires effect { effect_in (made_by self.old) step ≡ Some effect }
         requires searched { IsSearchedTo place self.old }
         requires place { length (made_by self.old).steps ≡ place }
         requires few { place + 1 < 2 ^ 32 }
         ensures run { OnOk result (made_by self.new ≡ with_step (made_by self.old) step) }
         ensures searched { OnOk result (IsSearchedTo (place + 1) self.new) }
     {
-        let effect = self.origins.add(self.search.machine(), step, place)?;
+        self.origins
+            .add(self.search.machine(), step, effect, place)?;
         self.touched.add(step, effect);
         let Some(latest) = self.search.go_on(step, effect)? else {
             return Ok(());

@@ -2,31 +2,16 @@
 
 ghost use Rattle.std.specs.Prelude.{◌≡◌, ◌++◌, ◌∷◌, [], fold, length, option_to_list, List, IfOk};
 ghost use Rattle.cell_hunt.specs.declared.touches.Touch.{Touch as ATouch};
-ghost use Rattle.cell_hunt.specs.Kinds.{digest, mixed, touchable, touched, touches, with_number};
+ghost use Rattle.cell_hunt.specs.Kinds.{digest, touchable, touched, touches};
+ghost use Rattle.cell_hunt.specs.Mixing.{with_number};
 ghost use Rattle.cell_hunt.specs.Touched.{AreDigests, touched_from};
 
 use crate::error::HuntError;
+use crate::mixing::with_number;
 use crate::touches::{BEFORE_LINES, Touch, actor_number, line_touch, program_touch, value_touch};
 use cell_base::Step;
 use cell_machine::Effect;
 use std::alloc::Global;
-
-/// A number with its bits mixed, as SplitMix64 does.
-#[tactic(auto, unfolding(crate::specs::Kinds::mixed))]
-fn mixed(n: u64) -> u64
-    ensures { result ≡ mixed n }
-{
-    let once = (n ^ (n >> 30)).wrapping_mul(0xbf58_476d_1ce4_e5b9);
-    let twice = (once ^ (once >> 27)).wrapping_mul(0x94d0_49bb_1331_11eb);
-    twice ^ (twice >> 31)
-}
-
-/// The digest of a list with one number more.
-fn with_number(digest: u64, n: u64) -> u64
-    ensures { result ≡ with_number digest n }
-{
-    mixed((digest ^ n).wrapping_add(0x9e37_79b9_7f4a_7c15))
-}
 
 /// The digest of a list with what was touched, if it was: its number, and the digest of who touched it.
 fn with_touched(digest: u64, what: u64, who: u64) -> u64

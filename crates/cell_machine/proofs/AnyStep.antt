@@ -1,6 +1,7 @@
 -- What a machine's chosen step says of its next.
 use Rattle.std.proofs.Common.{◌≡◌, ℕ, zero, suc, ◌<◌, ◌+◌, ◌-◌, ◌%◌, Bool, List, [], ◌∷◌, length, arith, refl, sym, subst, ◌∙◌, ap, true, false, true≢false}
 use Rattle.std.specs.Prelude.{Option, Some, None, is_some, IsSome, IsSomeAnd, IfSome, IfNone, MatchBool, nat_lt, slice_get, filter, cond, option_map}
+use Rattle.std.specs.Option.{option_map_or}
 use Rattle.std.proofs.lemmas.Bool.Decides.{nat_tests}
 use Rattle.cell_base.specs.declared.steps.Actor.{Actor}
 use Rattle.cell_base.specs.declared.steps.Actor.TheVariants.{Spu}
@@ -13,7 +14,7 @@ use Rattle.cell_machine.specs.State.{State}
 use Rattle.cell_machine.specs.Next.{act, next, ended_by}
 use Rattle.cell_machine.specs.Opening.{Opening}
 use Rattle.cell_machine.specs.Run.{Ran, state_of, next_of, steps_of, allowed, picked, picked_of, first_allowed}
-use Rattle.cell_machine.specs.Choices.{all_of_spus}
+use Rattle.cell_machine.specs.Choices.{all_of_spus, allowed_of_queued, picked_queued, queued_of, steps_of_queued}
 use Rattle.cell_machine.specs.Shows.{Shows, ShowsSpe, IsMachine}
 use Rattle.cell_machine.proofs.AllTwo.{some_and, two_length}
 use Rattle.cell_machine.proofs.Choices.{has_ended, first_allowed-allowed, no_next, allowed-spu, allowed-no_spu, pick_one, pick_none, from_actor, from-skip, from-found}
@@ -56,6 +57,17 @@ pick-allowed None m M actor choice stands within is = tt
 pick-allowed (Some s) m M actor choice stands within is =
     ap is_some (next_of-within m M s stands within)
     ∙ filter-passes (λ t. is_some (next M t)) (steps_of M actor) (choice % length (allowed M actor)) s (sym is)
+
+-- the same of a queued command
+pub queued-is : (o : Option Step) (m : Ran) (M : State) (p i choice : ℕ) → state_of m ≡ Some M → length m.steps < m.setup.budget → o ≡ picked_queued M p i choice → o ≡ queued_of m p i choice
+queued-is o m M p i choice stands within is =
+    let e : nat_lt (length m.steps) m.setup.budget ≡ true = grind (arith, nat_tests) in is ∙ sym (rw (e, stands) refl)
+
+pub queued-allowed : (o : Option Step) (m : Ran) (M : State) (p i choice : ℕ) → state_of m ≡ Some M → length m.steps < m.setup.budget → o ≡ picked_queued M p i choice → IfSome o (λ s. IsSome (next_of m s))
+queued-allowed None m M p i choice stands within is = tt
+queued-allowed (Some s) m M p i choice stands within is =
+    ap is_some (next_of-within m M s stands within)
+    ∙ filter-passes (λ t. is_some (next M t)) (option_map_or (steps_of_queued p i) (slice_get M.spes p) []) (choice % length (allowed_of_queued M p i)) s (sym is)
 
 -- a step that is picked is allowed
 pub picked-next : (M : State) (actor : Actor) (choice : ℕ) (s : Step) → picked M actor choice ≡ Some s → is_some (next M s) ≡ true

@@ -23,7 +23,7 @@ use Rattle.cell_machine.specs.Atomic.{may_atomic, atomic, after_atomic}
 use Rattle.cell_machine.specs.Next.{act, act_in, own, left, next, ended_by, with_left}
 use Rattle.cell_machine.specs.Hosts.{host as host_step}
 use Rattle.cell_machine.specs.Run.{steps_of, steps_of_mfc, steps_of_number, steps_of_command, pieces_of, allowed, picked, actors, first_allowed, HasEnded, CanGoOn}
-use Rattle.cell_machine.specs.Choices.{may, allowed_of_number, allowed_of_mfc, all_of_spus, all_of_mfcs}
+use Rattle.cell_machine.specs.Choices.{may, allowed_of_number, allowed_of_mfc, all_of_spus, all_of_mfcs, allowed_at, allowed_of_queued, steps_of_queued}
 use Rattle.cell_machine.specs.MovesShown.{AreElements}
 use Rattle.cell_machine.specs.Shows.{Shows, ShowsSpe}
 use Rattle.cell_machine.proofs.AllTwo.{two_at, two_none, two_found, two_length, is_some_map, none_of}
@@ -451,3 +451,30 @@ ended_at processors M o shows e h = has_ended processors M shows (sym e ∙ none
 
 pub first_allowed-allowed : (M : State) (s : Step) → first_allowed M ≡ Some s → is_some (next M s) ≡ true
 first_allowed-allowed M s h = first_passes M (actors M) s h
+
+-- the steps of one command that its processor allows are those that the machine allows
+queued_same : (M : State) (p i : ℕ) (P : Spe) → slice_get M.spes p ≡ Some P → allowed_of_queued M p i ≡ allowed_at p P i
+queued_same M p i P at = ap (λ o. filter (λ s. is_some (next M s)) (option_map_or (steps_of_queued p i) o [])) at ∙ on (slice_get (outstanding P) i)
+  where
+    on : (o : Option ℕ) → filter (λ s. is_some (next M s)) (option_map_or (steps_of_number p P) o []) ≡ option_map_or (allowed_of_number p P) o []
+    on None = refl
+    on (Some c) = same_number M p P c at
+
+pub queued-says : {memory : SharedMemory} {host : Progress} (processors : List Processor) (M : State) (p i : ℕ) (x : Processor) (Q : List Step → Type 0) → Shows processors memory host M → p < length processors → x ≡ slice_index_or processors p x
+    → ((P : Spe) → ShowsSpe x P → Q (allowed_at p P i)) → Q (allowed_of_queued M p i)
+queued-says processors M p i x Q shows h at says =
+    let two = two_at ShowsSpe processors M.spes p x shows.spes h in
+    subst Q (sym (queued_same M p i two.0 two.1)) (says two.0 (subst (λ y. ShowsSpe y two.0) (sym at) two.2))
+
+pub queued-no_spe : {memory : SharedMemory} {host : Progress} (processors : List Processor) (M : State) (p i : ℕ) → Shows processors memory host M → length processors ≤ p → allowed_of_queued M p i ≡ []
+queued-no_spe processors M p i shows h = ap (λ o. filter (λ s. is_some (next M s)) (option_map_or (steps_of_queued p i) o [])) (two_none ShowsSpe processors M.spes p shows.spes h)
+
+-- whether the command in a slot can be done
+pub atomic-says : {memory : SharedMemory} {host : Progress} (processors : List Processor) (M : State) (p : ℕ) (x : Processor) (b : Bool) → Shows processors memory host M → p < length processors → x ≡ slice_index_or processors p x
+    → ((P : Spe) → ShowsSpe x P → b ≡ may_atomic P) → b ≡ is_some (next M (Atomic p))
+atomic-says processors M p x b shows h at says =
+    let two = two_at ShowsSpe processors M.spes p x shows.spes h in
+    says two.0 (subst (λ y. ShowsSpe y two.0) (sym at) two.2) ∙ sym (next-atomic M p two.0 two.1)
+
+pub atomic-no_spe : {memory : SharedMemory} {host : Progress} (processors : List Processor) (M : State) (p : ℕ) → Shows processors memory host M → length processors ≤ p → false ≡ is_some (next M (Atomic p))
+atomic-no_spe processors M p shows h = let none = two_none ShowsSpe processors M.spes p shows.spes h in rw none refl

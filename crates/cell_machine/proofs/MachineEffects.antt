@@ -30,3 +30,21 @@ pub effect-allowed : (m : Ran) (s : Step) (r : Option Effect) → r ≡ effect_i
 effect-allowed m s r is =
     let same = ap is_some is ∙ allowed (nat_lt (length m.steps) m.setup.budget) (state_of m) s in
     ((λ h. sym same ∙ h), (λ h. same ∙ h))
+
+some-next : (b : Bool) (o : Option State) (M : State) (s : Step) → o ≡ Some M → is_some (cond b (option_and_then (λ M. next M s) o) None) ≡ true → (b ≡ true) × (is_some (effect_of M s) ≡ true)
+some-next true o M s is some = (refl, has-effects M s ∙ sym (ap (λ o. is_some (option_and_then (λ M. next M s) o)) is) ∙ some)
+some-next false o M s is some = absurd (cc)
+
+-- that of a step that is allowed
+pub effect-told : (m : Ran) (M : State) (s : Step) (r : Option Effect) → state_of m ≡ Some M → IsSome (next_of m s) → (IsSome (effect_of M s) → r ≡ effect_of M s) → r ≡ effect_in m s
+effect-told m M s r stands some is =
+    let both = some-next (nat_lt (length m.steps) m.setup.budget) (state_of m) M s stands some in
+    let e : nat_lt (length m.steps) m.setup.budget ≡ true = both.0 in rw (e, stands) (is both.1)
+
+some-within : (b : Bool) (o : Option State) → is_some (cond b o None) ≡ true → b ≡ true
+some-within true o some = refl
+some-within false o some = absurd (cc)
+
+pub allowed-within : (m : Ran) (s : Step) → IsSome (next_of m s) → length m.steps < m.setup.budget
+allowed-within m s some =
+    let e : nat_lt (length m.steps) m.setup.budget ≡ true = some-within (nat_lt (length m.steps) m.setup.budget) (option_and_then (λ M. next M s) (state_of m)) some in grind (arith, nat_tests)

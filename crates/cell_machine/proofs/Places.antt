@@ -22,7 +22,7 @@ use Rattle.cell_machine.specs.Moves.{outstanding, is_complete, is_moved, is_done
 use Rattle.cell_machine.specs.Transfers.{begins, is_part_left, has_part, has_element, is_left, may_piece, may_elem, may_retire}
 use Rattle.cell_machine.specs.Atomic.{may_atomic}
 use Rattle.cell_machine.specs.Run.{pieces_of, steps_of_command, steps_of_number}
-use Rattle.cell_machine.specs.Choices.{may, allowed_of_number, allowed_of_mfc}
+use Rattle.cell_machine.specs.Choices.{may, allowed_of_number, allowed_of_mfc, allowed_at}
 use Rattle.cell_machine.specs.MovesShown.{ShowsMoves}
 use Rattle.cell_machine.proofs.Same.{eq_same, some_same}
 use Rattle.cell_machine.proofs.SpeShown.{and_off, begins-at, begins-not, outstanding-same, left-moved, left-open}
@@ -250,12 +250,26 @@ faulted-may P (Elem p c) h = rw h refl
 faulted-may P (Atomic p) h = rw h refl
 faulted-may P Host h = refl
 
-faulted-none : (P : Spe) (xs : List Step) → is_faulted P.status ≡ true → filter (may P) xs ≡ []
+pub faulted-none : (P : Spe) (xs : List Step) → is_faulted P.status ≡ true → filter (may P) xs ≡ []
 faulted-none P [] h = refl
 faulted-none P (s ∷ xs) h = rw (faulted-may P s h) (faulted-none P xs h)
 
 pub steps-faulted : (p : ℕ) (P : Spe) → is_faulted P.status ≡ true → queued_steps p P ≡ []
 steps-faulted p P h = faulted-none P (flat_map (steps_of_number p P) (outstanding P)) h
+
+-- those of one command, by its index
+pub at-none : (p : ℕ) (P : Spe) (i : ℕ) → slice_get (outstanding P) i ≡ None → allowed_at p P i ≡ []
+at-none p P i h = ap (λ o. option_map_or (allowed_of_number p P) o []) h
+
+pub at-some : (p : ℕ) (P : Spe) (i c : ℕ) → slice_get (outstanding P) i ≡ Some c → allowed_at p P i ≡ allowed_of_number p P c
+at-some p P i c h = ap (λ o. option_map_or (allowed_of_number p P) o []) h
+
+pub at-faulted : (p : ℕ) (P : Spe) (i : ℕ) → is_faulted P.status ≡ true → allowed_at p P i ≡ []
+at-faulted p P i h = on (slice_get (outstanding P) i)
+  where
+    on : (o : Option ℕ) → ◌≡◌ {A = List Step} (option_map_or (allowed_of_number p P) o []) []
+    on None = refl
+    on (Some c) = faulted-none P (steps_of_number p P c) h
 
 -- a place within the first of two lists
 pub at-within : (r : Result Step ℕ) (n : ℕ) (xs ys : List Step) → n < length xs → IsAt r n xs → IsAt r n (xs ++ ys)

@@ -1,12 +1,13 @@
 //! Steps that are chosen, and none is made.
 
-ghost use Rattle.std.specs.Prelude.{◌≡◌, ◌<◌, ◌≤◌, Some, None, true, length, All, slice_get};
+ghost use Rattle.std.specs.Prelude.{◌≡◌, ◌<◌, ◌≤◌, Some, None, true, length, All, is_some, slice_get};
 ghost use Rattle.cell_base.specs.declared.steps.Step.{Step};
-ghost use Rattle.cell_base.specs.declared.steps.Step.TheVariants.{Exec};
+ghost use Rattle.cell_base.specs.declared.steps.Step.TheVariants.{Exec, Atomic};
 ghost use Rattle.cell_machine.specs.State.{State};
 ghost use Rattle.cell_machine.specs.Moves.{outstanding};
 ghost use Rattle.cell_machine.specs.Kept.{IsKept};
-ghost use Rattle.cell_machine.specs.Choices.{all_of_spus, all_of_mfcs};
+ghost use Rattle.cell_machine.specs.Choices.{all_of_spus, all_of_mfcs, picked_queued};
+ghost use Rattle.cell_machine.specs.Next.{next};
 ghost use Rattle.cell_host.specs.Script.{Progress};
 ghost use Rattle.cell_machine.specs.Run.{first_allowed, picked, allowed, is_quiet};
 ghost use Rattle.cell_machine.specs.Shows.{Shows};
@@ -128,4 +129,30 @@ pub(crate) fn nth_step(
         }
         Actor::Host => first_of_host(processors, host),
     }
+}
+
+/// Of the outstanding command at an index of a processor's queue, the allowed step at the place that is the choice's remainder.
+pub(crate) fn nth_queued(
+    processors: &[Processor],
+    spe: u8,
+    index: usize,
+    choice: u64,
+) -> Option<Step>
+    requires { All (λ c. IsKept c.commands.queue) processors.now }
+    ensures { (memory : SharedMemory) (host : Progress) (M : State) → Shows processors.now memory host M → result ≡ picked_queued M spe index choice }
+{
+    if spe as usize >= processors.len() {
+        return None;
+    }
+    processors[spe as usize].pick_at(spe, index, choice)
+}
+
+/// Whether the atomic command in a processor's slot can be done.
+pub(crate) fn has_atomic_step(processors: &[Processor], spe: u8) -> bool
+    ensures { (memory : SharedMemory) (host : Progress) (M : State) → Shows processors.now memory host M → result ≡ is_some (next M (Atomic spe)) }
+{
+    if spe as usize >= processors.len() {
+        return false;
+    }
+    processors[spe as usize].may_atomic()
 }

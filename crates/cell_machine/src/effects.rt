@@ -1,6 +1,6 @@
 //! What the steps of flow controllers and of the host would do.
 
-ghost use Rattle.std.specs.Prelude.{◌≡◌, ℕ, ◌+◌, ◌≤◌, ◌<◌, List, Option, Some, length, slice_get, if◌then◌else◌};
+ghost use Rattle.std.specs.Prelude.{◌≡◌, ℕ, ◌+◌, ◌≤◌, ◌<◌, List, Option, Some, IsSome, length, slice_get, if◌then◌else◌};
 ghost use Rattle.std.specs.Option.{option_map, option_and_then};
 ghost use Rattle.lock_lines.specs.Stands.{line_count};
 ghost use Rattle.lock_lines.specs.Versions.{Reserved};
@@ -357,4 +357,23 @@ pub(crate) fn effect_of(
         }
         Step::Host => host_effect(processors, host),
     }
+}
+
+/// What a step would do, which is allowed.
+pub(crate) fn allowed_effect(
+    processors: &[Processor],
+    memory: &SharedMemory,
+    host: &Host,
+    s: Step,
+) -> Option<Effect>
+    requires { CanGo processors.now memory.now }
+    ensures { (M : State) → Shows processors.now memory.now host.now M → IsSome (effect_of M s) → result ≡ effect_of M s }
+{
+    if let Step::Exec { spe } = s {
+        if (spe as usize) < processors.len() {
+            let lines = memory.bytes.lines();
+            return Some(processors[spe as usize].allowed_effect(lines, spe));
+        }
+    }
+    effect_of(processors, memory, host, s)
 }

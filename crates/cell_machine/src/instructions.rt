@@ -1,6 +1,6 @@
 //! What the next instruction of a processor would do, and what it tells.
 
-ghost use Rattle.std.specs.Prelude.{◌≡◌, ◌≢◌, ℕ, ◌≤◌, List, Option, Some, true};
+ghost use Rattle.std.specs.Prelude.{◌≡◌, ◌≢◌, ℕ, ◌≤◌, List, Option, Some, IsSome, true};
 ghost use Rattle.std.specs.Option.{option_map, option_map_or};
 ghost use Rattle.cell_base.specs.declared.steps.ChannelOp.{ChannelOp};
 ghost use Rattle.cell_machine.specs.Spe.{Spe, is_running};
@@ -52,24 +52,33 @@ impl Processor {
         if !self.may_exec() {
             return None;
         }
+        Some(self.allowed_effect(lines, spe))
+    }
+
+    /// What the next instruction would do, which is allowed.
+    pub(crate) fn allowed_effect(&self, lines: u32, spe: u8) -> Effect
+        requires number { CanIssue self.now.commands }
+        requires lines { lines ≤ 524288 }
+        ensures { (P : Spe) → ShowsSpe self.now P → IsSome (exec lines P) → Some result ≡ option_map (exec_effect spe P) (exec lines P) }
+    {
         let fetch = in_store(spe, self.pc, WORD_BYTES);
         let Some(instruction) = decode(self.store.word(self.pc)) else {
-            return Some(Effect {
+            return Effect {
                 fetch,
                 reads: nowhere(),
                 writes: nowhere(),
                 note: Note::Ended,
                 fixed: self.fixes(),
-            });
+            };
         };
         let flow = leads_to(instruction, self.pc, &self.registers);
-        Some(Effect {
+        Effect {
             fetch,
             reads: quad_in(spe, loads_at(instruction, self.pc, &self.registers)),
             writes: quad_in(spe, stores_at(instruction, self.pc, &self.registers)),
             note: self.tells(lines, spe, flow),
             fixed: self.fixes_by(lines, flow),
-        })
+        }
     }
 
     /// What an instruction that leads there tells, where it is allowed.

@@ -1,12 +1,13 @@
 //! The whole machine.
 
-ghost use Rattle.std.specs.Prelude.{◌≡◌, ◌+◌, ◌*◌, ◌<◌, ◌≤◌, ◌↔◌, [], ◌∷◌, ◌++◌, Some, None, length, IfOk, IsOk, OnErr, IsSome, IsSomeAnd, IfSome, IfNone, All, slice_get};
+ghost use Rattle.std.specs.Prelude.{◌≡◌, ◌+◌, ◌*◌, ◌<◌, ◌≤◌, ◌↔◌, [], ◌∷◌, ◌++◌, Some, None, length, IfOk, IsOk, OnErr, is_some, IsSome, IsSomeAnd, IfSome, IfNone, All, slice_get};
 ghost use Rattle.cell_base.specs.Records.{AreSteps};
 ghost use Rattle.cell_base.specs.declared.steps.Step.{Step};
 ghost use Rattle.cell_machine.specs.Next.{act, next};
 ghost use Rattle.cell_machine.specs.Moves.{outstanding};
 ghost use Rattle.cell_machine.specs.Exec.{asks};
 ghost use Rattle.cell_machine.specs.Shown.{line_held_by, line_reserved_by, shown_from};
+ghost use Rattle.cell_machine.specs.Choices.{queued_of};
 ghost use Rattle.spu_exec.specs.Places.{IsPlace};
 ghost use Rattle.spu_regs.specs.Registers.{register};
 ghost use Rattle.cell_machine.specs.Opening.{Opening, opening_spes};
@@ -25,9 +26,9 @@ ghost use Rattle.cell_machine.specs.Blocked.{AreBlocked};
 
 use crate::acting::{act, act_first, act_picked};
 use crate::blocked::Blocked;
-use crate::choosing::{first_step, is_quiet, nth_step};
+use crate::choosing::{first_step, has_atomic_step, is_quiet, nth_queued, nth_step};
 use crate::effect::Effect;
-use crate::effects::effect_of;
+use crate::effects::{allowed_effect, effect_of};
 use crate::error::MachineError;
 use crate::memory::SharedMemory;
 use crate::outstanding::Outstanding;
@@ -346,6 +347,28 @@ impl Machine {
         nth_step(&self.processors, &self.host, actor, choice)
     }
 
+    /// Of the outstanding command at index `index` of a processor's queue, in the order of their numbers, the allowed step at place `choice` modulo the number of its
+    /// allowed steps. None where it has none, no command stands at the index, or the budget is spent.
+    pub fn pick_queued(&self, spe: u8, index: usize, choice: u64) -> Option<Step>
+        ensures picked { result ≡ queued_of self.now spe index choice }
+        ensures allowed { IfSome result (λ s. IsSome (next_of self.now s)) }
+    {
+        if self.steps.len() >= self.setup.budget() as usize {
+            return None;
+        }
+        nth_queued(&self.processors, spe, index, choice)
+    }
+
+    /// Whether the atomic command in a processor's slot can be done: false where the slot is free, the flow controller is at fault, or the budget is spent.
+    pub fn has_atomic_step(&self, spe: u8) -> bool
+        ensures { result ≡ is_some (next_of self.now (Step.Atomic spe)) }
+    {
+        if self.steps.len() >= self.setup.budget() as usize {
+            return false;
+        }
+        has_atomic_step(&self.processors, spe)
+    }
+
     /// The first allowed step of the first actor that has one: the processors, their flow controllers, the host.
     /// None where no step is allowed, or the budget is spent.
     pub fn any_step(&self) -> Option<Step>
@@ -425,6 +448,17 @@ impl Machine {
             return None;
         }
         effect_of(&self.processors, &self.memory, &self.host, s)
+    }
+
+    /// What a step would do, which is allowed.
+    pub fn allowed_effect(&self, s: Step) -> Effect
+        requires { IsSome (next_of self.now s) }
+        ensures { effect_in self.now s ≡ Some result }
+    {
+        let Some(effect) = allowed_effect(&self.processors, &self.memory, &self.host, s) else {
+            unreachable!()
+        };
+        effect
     }
 
     /// How the run ended; None where a step is allowed under the budget.

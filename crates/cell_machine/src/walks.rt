@@ -9,7 +9,7 @@ ghost use Rattle.cell_machine.specs.Spe.{Spe, is_faulted};
 ghost use Rattle.cell_machine.specs.Moves.{present, outstanding, may_begin};
 ghost use Rattle.cell_machine.specs.Run.{pieces_of, steps_of_number};
 ghost use Rattle.cell_machine.specs.Kept.{IsKept};
-ghost use Rattle.cell_machine.specs.Choices.{may, allowed_of_number, allowed_of_mfc};
+ghost use Rattle.cell_machine.specs.Choices.{may, allowed_of_number, allowed_of_mfc, allowed_at};
 
 use crate::commands::is_moved;
 use crate::processor::Processor;
@@ -179,5 +179,23 @@ impl Processor {
             return None;
         }
         self.step_of_mfc(spe, choice % count).ok()
+    }
+
+    /// Of the outstanding command at an index, the allowed step at the place that is the choice's remainder.
+    pub(crate) fn pick_at(&self, spe: u8, index: usize, choice: u64) -> Option<Step>
+        requires { IsKept self.now.commands.queue }
+        ensures { (P : Spe) → ShowsSpe self.now P → result ≡ slice_get (allowed_at spe P index) (choice % length (allowed_at spe P index)) }
+    {
+        if self.is_faulted() {
+            return None;
+        }
+        let Some((cmd, w)) = self.commands.queue.outstanding_at(index) else {
+            return None;
+        };
+        let count = self.count_of_command(cmd, w);
+        if count == 0 {
+            return None;
+        }
+        self.step_of_command(spe, cmd, w, choice % count).ok()
     }
 }

@@ -1,4 +1,5 @@
 use Rattle.std.proofs.Common.{◌≡◌, rules, sym, subst, ◌∙◌}
+use Rattle.cell_hunt.specs.Ends.{IsOver}
 use Rattle.cell_hunt.specs.Kinds.{kind_of}
 use Rattle.cell_hunt.specs.Racings.{IsSearched}
 use Rattle.cell_hunt.specs.SoFar.{made_by}
@@ -21,3 +22,6 @@ invariant_of-result c =
 
 pub returns-clause-only : goal.returns-clause-only
 returns-clause-only c = λ n is. run-one _ _ _ n _ is (search rules)
+
+pub returns-clause-over : goal.returns-clause-over
+returns-clause-over c = subst IsOver (sym c.into_machine.ensures) c.in_ok-make_all.ensures.over

@@ -25,11 +25,11 @@ touched c =
     let m = made_by c.args.self.now in
     let made : run_of c.go_on.new.self ≡ with_step m c.args.step = c.in_ok-latest.ensures.run in
     let was = search-told c.args.self.now.search c.requires.searched.keeps in
-    let effect = ap (λ r. effect_in r c.args.step) (sym c.machine.ensures) ∙ c.in_ok-effect.ensures.effect in
+    let effect = c.requires.effect in
     let has = c.requires.searched.touched in
     record {
       long = c.add-2.ensures.long ∙ has.long ∙ ap (λ (r : Ran). touchable r.setup.lines) (sym made);
-      are = subst (λ all. AreDigests all c.add-2.new.self.digests.items) (sym (ap touches_in made ∙ touches_more m c.args.step c.in_ok-effect.effect was effect)) (c.add-2.ensures.more (touches_in m) has.are);
+      are = subst (λ all. AreDigests all c.add-2.new.self.digests.items) (sym (ap touches_in made ∙ touches_more m c.args.step c.args.effect was effect)) (c.add-2.ensures.more (touches_in m) has.are);
     }
 
 searched : (c : In_ok-latest) → IsSearchedTo c.args.place (after c)
@@ -42,7 +42,7 @@ searched c =
     let made : n ≡ with_step m c.args.step = c.in_ok-latest.ensures.run in
     record {
       keeps = c.in_ok-latest.ensures.keeps;
-      knows = subst (λ r. Knows r c.add.new.self) (ap (λ (r : Ran). with_step r c.args.step) c.machine.ensures ∙ sym made) c.in_ok-effect.ensures.knows;
+      knows = subst (λ r. Knows r c.add.new.self) (ap (λ (r : Ran). with_step r c.args.step) c.machine.ensures ∙ sym made) c.in_ok-add.ensures;
       least = subst (λ k. IsLeastTo k n old.least) c.requires.place (least-on m n c.args.step made was is old.least (subst (λ k. IsLeastTo k m old.least) (sym c.requires.place) c.requires.searched.least));
       all = subst (λ k. AreRacesTo k n old.races.items) c.requires.place (races-on m n c.args.step made was is old.races.items (subst (λ k. AreRacesTo k m old.races.items) (sym c.requires.place) c.requires.searched.all));
       touched = touched c;

@@ -1,6 +1,7 @@
 use Rattle.std.proofs.Common.{◌≡◌, drop}
 use Rattle.std.specs.Prelude.{fold}
-use Rattle.cell_hunt.specs.Kinds.{digest, with_number}
+use Rattle.cell_hunt.specs.Kinds.{digest}
+use Rattle.cell_hunt.specs.Mixing.{with_number}
 use Rattle.cell_hunt.specs.Touched.{touched_from}
 use Rattle.cell_hunt.proofs.touched.Touched.kind.Given as goal
 
