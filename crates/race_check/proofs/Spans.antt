@@ -1,5 +1,5 @@
 -- What stands in a span, line by line.
-use Rattle.std.proofs.Common.{◌≡◌, ℕ, ◌+◌, ◌/◌, ◌<◌, ◌≤◌, Bool, true, List, Option, None, ◌⊎◌, inl, inr, sym, subst, arith}
+use Rattle.std.proofs.Common.{◌≡◌, ℕ, ◌+◌, ◌*◌, ◌/◌, ◌<◌, ◌≤◌, Bool, true, List, Option, None, ◌⊎◌, inl, inr, refl, sym, subst, arith}
 use Rattle.std.specs.Prelude.{IfSome}
 use Rattle.std.proofs.lemmas.Bool.{and_parts, leb-true, ltb-true, cases_eq}
 use Rattle.cell_machine.specs.declared.effect.Place.{Place}
@@ -16,6 +16,9 @@ use Rattle.race_check.specs.Shows.{AreReal, IsAccess, IsReal, IsSpanOf, Kept, Ke
 
 pub below_end : (s : Span) (p : Place) (x : ℕ) → covers s p x ≡ true → x < s.at + s.len
 below_end s p x e = let parts = and_parts _ _ e in let inner = and_parts _ _ parts.1 in ltb-true _ _ inner.1
+
+from_start : (s : Span) (p : Place) (x : ℕ) → covers s p x ≡ true → s.at ≤ x
+from_start s p x e = let parts = and_parts _ _ e in let inner = and_parts _ _ parts.1 in leb-true _ _ inner.0
 
 -- a span of no byte
 none_covered : (s : Span) (p : Place) (x : ℕ) → s.len ≡ 0 → covers s p x ≡ true → ⊥
@@ -89,3 +92,12 @@ module _ (Before : ℕ → ℕ → Type 0) (first before after : Shadow) (span :
       clear i p x w k c low one (inl e) =
           still (IsSafe Before i step) here latest i later.second (subst (λ s. IsSafe Before i s ⊎ UpTo here i) is_step (taken.clear i p x w (below.keeps.keeps i p x w k) (holds p x c e) e one))
       clear i p x w k c low one (inr ne) = still (IsSafe Before i step) old latest i later.first (below.clear i p x w k c (omega arith) one)
+
+-- the bytes of the span are all in one line, and the entry has them
+pub takes_one : (Before : ℕ → ℕ → Type 0) (before after : Shadow) (span : Span) (step : ℕ) (writes : Bool) (line : ℕ) (entry : Entry) → entry.step ≡ step → ((p : Place) (x : ℕ) → covers span p x ≡ true → Holds entry p x) → ((p : Place) (x : ℕ) → Holds entry p x → covers span p x ≡ true)
+    → line ≡ span.at / 128 → span.at + span.len ≤ 128 * line + 128 → (latest : Option ℕ) → TakesEntry Before before after entry writes line latest → TakesSpan Before before after span step writes latest
+takes_one Before before after span step writes line entry is_step holds only first end latest taken =
+    all_below Before before after span step writes (line + 1) latest (λ p x c. let high : x < span.at + span.len = below_end span p x c in omega (arith, end))
+    (takes_more Before before before after span step writes line entry is_step (λ p x c e. holds p x c) only None
+    (none_below Before before span step writes line (λ p x c low. let from : span.at ≤ x = from_start span p x c in omega (arith, first)))
+    latest latest record { one = inr refl; first = λ s none. absurd none; second = λ s far. far } taken)

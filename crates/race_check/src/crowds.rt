@@ -1,17 +1,18 @@
 //! Lists of crowds when a new entry comes.
 
-ghost use Rattle.std.specs.Prelude.{◌<◌, ◌≤◌, Option, Some, None, length, IfSome, OnOk, slice_index_or};
+ghost use Rattle.std.specs.Prelude.{◌≡◌, ◌<◌, ◌≤◌, true, Option, Some, None, length, IfSome, OnOk, slice_index_or};
 ghost use Rattle.race_check.specs.declared.crowd.Crowd.{Crowd as ACrowd};
 ghost use Rattle.run_walk.specs.Ordered.{IsOrdered};
 ghost use Rattle.run_walk.specs.Walks.{IsLast, walked};
 ghost use Rattle.race_check.specs.Entries.{HasSameBytes};
 ghost use Rattle.race_check.specs.Crowds.{CrowdTells, IsCutPut, IsJoined, IsPut, IsTrimmed, Tells};
+ghost use Rattle.race_check.specs.Safe.{IsSafe};
 
 use crate::crowd::Crowd;
 use crate::entry::{Entry, back, front, has_same_bytes, meet};
 use crate::error::RaceError;
 use crate::later::later;
-use crate::stack::Stack;
+use crate::stack::{Stack, is_safe};
 use run_walk::Walk;
 use std::alloc::Global;
 
@@ -61,6 +62,23 @@ fn find_near(crowds: &[Crowd], entry: &Entry, near: usize) -> Option<usize>
         return Some(near);
     }
     find(crowds, entry)
+}
+
+/// Whether the crowd at a place has the new entry's bytes, and its own step is the new entry's or ordered before it.
+#[inline(always)]
+pub fn is_again(crowds: &[Crowd], at: usize, new: &Entry, walk: &Walk) -> bool
+    requires { IsLast walk.now new.now.step }
+    ensures inside { result ≡ true → at < length crowds.now }
+    ensures same { result ≡ true → (d : ACrowd) → HasSameBytes (slice_index_or crowds.now at d).entry new.now }
+    ensures safe { result ≡ true → (d : ACrowd) → IsSafe (IsOrdered (walked walk.now)) (slice_index_or crowds.now at d).entry.step new.now.step }
+{
+    if crowds.len() <= at {
+        return false;
+    }
+    if !has_same_bytes(&crowds[at].entry, new) {
+        return false;
+    }
+    is_safe(crowds[at].entry.step, new.step, walk)
 }
 
 /// The place of a crowd that has the entry's bytes, and whose other steps aren't later than these: so these go to their end.

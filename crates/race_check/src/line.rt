@@ -1,12 +1,12 @@
 //! What is kept of the accesses to one line of bytes.
 
-ghost use Rattle.std.specs.Prelude.{◌≡◌, [], true, false, IfOk};
+ghost use Rattle.std.specs.Prelude.{◌≡◌, [], true, false, None, IfOk};
 ghost use Rattle.run_walk.specs.Ordered.{IsOrdered};
 ghost use Rattle.run_walk.specs.Walks.{IsLast, walked};
 ghost use Rattle.race_check.specs.Lines.{IsVisited};
 
 use crate::crowd::Crowd;
-use crate::crowds::{join, latest_clash, trim};
+use crate::crowds::{is_again, join, latest_clash, trim};
 use crate::entry::Entry;
 use crate::error::RaceError;
 use crate::later::later;
@@ -51,6 +51,25 @@ impl Line {
         } else {
             self.read(alloc, new, walk)
         }
+    }
+
+    /// Takes in an entry that reads once more, where nobody wrote to the line, and the bytes that are looked for first are those of the entry: whether that
+    /// is so.
+    #[inline(always)]
+    pub fn read_again(&mut self, new: &Entry, walk: &Walk) -> bool
+        requires { IsLast walk.now new.now.step }
+        ensures read { result ≡ true → IsVisited (IsOrdered (walked walk.now)) new.now false self.old self.new None }
+        ensures kept { result ≡ false → self.new ≡ self.old }
+    {
+        if !self.writes.is_empty() {
+            return false;
+        }
+        if !is_again(self.reads.as_slice(), self.near, new, walk) {
+            return false;
+        }
+        self.reads[self.near].entry.step = new.step;
+        self.near = self.near.wrapping_add(1);
+        true
     }
 
     /// Takes a writing entry into the line, in the place of all that had its bytes, or beside them where it clashes with one.

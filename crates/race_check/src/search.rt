@@ -95,10 +95,12 @@ impl Search {
         ensures failed { OnErr result (HasMadeAtMost (run_of self.old) step (run_of self.new)) }
     {
         let last = self.accesses.len() as u32;
-        self.walk.advance(step, effect)?;
+        // kept before the other calls, and read where it is kept: so it is copied once
         let access = access_of(&effect);
         self.accesses.push(access)?;
-        let latest = self.shadow.visit(&access, last, &self.walk)?;
+        self.walk.advance(step, effect)?;
+        let kept = &self.accesses[last as usize];
+        let latest = self.shadow.visit(kept, last, &self.walk)?;
         Ok(latest)
     }
 

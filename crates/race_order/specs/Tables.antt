@@ -1,10 +1,10 @@
 -- What a table of sets has.
-use Rattle.std.specs.Prelude.{◌≡◌, ℕ, zero, suc, ◌+◌, ◌*◌, ◌/◌, ◌%◌, ◌<◌, ◌≤◌, ◌==◌, ◌&&◌, Bool, true, false, ⊤, List, [], ◌∷◌, Option, Some, None, length, slice_get, All as Each}
+use Rattle.std.specs.Prelude.{◌≡◌, ℕ, zero, suc, ◌+◌, ◌*◌, ◌/◌, ◌%◌, ◌<◌, ◌≤◌, ◌==◌, ◌||◌, ◌&&◌, Bool, true, false, ⊤, List, [], ◌∷◌, Option, Some, None, length, slice_get, slice_index, All as Each}
 use Rattle.std.specs.List.{list_any}
 use Rattle.order_sets.specs.declared.facts.At.{At}
 use Rattle.order_sets.specs.declared.facts.Fact.{Fact}
 use Rattle.order_sets.specs.declared.facts.Fact.TheVariants.{Upto}
-use Rattle.order_sets.specs.declared.known.Known.{Known}
+use Rattle.order_sets.specs.Facts.{covers}
 use Rattle.order_sets.specs.Stands.{has_at}
 use Rattle.race_order.specs.Roles.{same_role as same_base}
 use Rattle.race_order.specs.declared.roles.Role.{Role}
@@ -16,6 +16,7 @@ use Rattle.race_order.specs.declared.roles.QueueRole.TheVariants.{Base, Waits, C
 use Rattle.race_order.specs.declared.moves.Move.{Move}
 use Rattle.race_order.specs.declared.buckets.Row.{Row}
 use Rattle.race_order.specs.declared.buckets.Bucket.{Bucket}
+use Rattle.race_order.specs.declared.own.Own.{Own}
 use Rattle.race_order.specs.declared.table.Table.{Table}
 use Rattle.race_order.specs.declared.sets.Sets.{Sets}
 
@@ -49,7 +50,7 @@ has_in [] k r at = false
 has_in (b ∷ bs) zero r at = bucket_has r at b
 has_in (b ∷ bs) (suc k) r at = has_in bs k r at
 
--- the number of a role's bucket
+-- the number of a role
 abbrev pub class_number : Class → ℕ
 class_number All = 16
 class_number Barriers = 17
@@ -78,17 +79,43 @@ abbrev pub FitsChains : ℕ → Fact → Type 0
 FitsChains chains (Upto chain place) = chain < chains
 FitsChains chains _ = ⊤
 
+-- one more than the place of a role's bucket, or 0
+abbrev pub place_of : List ℕ → QueueRole → ℕ
+place_of places r = slice_index places (number r)
+
+-- the bucket that such a number names has it
+abbrev pub named_has : List Bucket → ℕ → QueueRole → At → Bool
+named_has bs zero r at = false
+named_has bs (suc k) r at = has_in bs k r at
+
 -- the set of the role in a table
 abbrev pub table_has : Table → QueueRole → At → Bool
-table_has table r at = has_in table.buckets.items (number r) r at
+table_has table r at = named_has table.buckets.items (place_of table.places.items r) r at
+
+-- the table has no set of a role with the number of this one
+abbrev pub IsUnplaced : Table → QueueRole → Type 0
+IsUnplaced table role = (r : QueueRole) (at : At) → number r ≡ number role → table_has table r at ≡ false
+
+-- an instruction of the processor up to the last one
+abbrev pub upto_last : ℕ → Option ℕ → At → Bool
+upto_last p None at = false
+upto_last p (Some place) at = covers (Upto p place) at
+
+-- the set of a processor's instructions
+abbrev pub own_has : Own → At → Bool
+own_has own at = upto_last own.spe own.last at || has_at own.known at
+
+-- it is one of so many chains
+abbrev pub IsOwnOf : ℕ → Own → Type 0
+IsOwnOf chains own = (own.known.chains ≡ chains) × (own.spe < chains)
 
 -- the set of a processor's instructions, which stands apart
-abbrev pub own_of : List Known → QueueRole → Option Known
+abbrev pub own_of : List Own → QueueRole → Option Own
 own_of own (Base (OfExec p)) = slice_get own p
 own_of own _ = None
 
-abbrev pub has_or : Option Known → At → Bool → Bool
-has_or (Some known) at other = has_at known at
+abbrev pub has_or : Option Own → At → Bool → Bool
+has_or (Some own) at other = own_has own at
 has_or None at other = other
 
 -- the set of the role
@@ -104,7 +131,7 @@ IsTableOf chains table = (1 ≤ table.spes) × (table.spes ≤ 16) × (3 * table
 
 -- the same of all sets, of which each processor has its own
 abbrev pub AreOf : ℕ → Sets → Type 0
-AreOf chains sets = IsTableOf chains sets.table × (length sets.own.items ≡ sets.table.spes) × Each (λ (known : Known). known.chains ≡ chains) sets.own.items
+AreOf chains sets = IsTableOf chains sets.table × (length sets.own.items ≡ sets.table.spes) × Each (IsOwnOf chains) sets.own.items
 
 -- the move brings the step into the role's set
 abbrev pub moves_to : Sets → QueueRole → At → Move → Bool

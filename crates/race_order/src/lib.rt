@@ -17,6 +17,7 @@ mod looks;
 mod moves;
 mod numbers;
 mod orderer;
+mod own;
 mod passes;
 mod plain;
 mod progress;

@@ -1,8 +1,8 @@
 //! In which bucket a role's set stands.
 //!
 //! Each role that can come has a bucket of its own, but for commands of one processor whose numbers differ by a multiple of 64, and for lines
-//! whose numbers differ by a multiple of 512. The lines take what the roles of the processors leave of each 256 numbers: there are as many
-//! buckets as the highest number says, and they are made anew for each run.
+//! whose numbers differ by a multiple of 512. The lines take what the roles of the processors leave of each 256 numbers, so the numbers of 16
+//! processors are below 4096.
 
 ghost use Rattle.std.specs.Prelude.{◌≡◌, ◌+◌, ◌*◌, ◌/◌, ◌%◌, ◌<◌, ◌^◌};
 ghost use Rattle.race_order.specs.Tables.{class_number, base_number, number};

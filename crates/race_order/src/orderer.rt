@@ -26,7 +26,7 @@ use crate::sets::Sets;
 use crate::stamps::{fact, name};
 use cell_base::Step;
 use cell_machine::{Effect, Setup};
-use order_sets::{At, Fact, Known};
+use order_sets::{At, Known};
 use std::alloc::Global;
 
 #[derive(Drop)]
@@ -64,25 +64,32 @@ impl Orderer {
         })
     }
 
-    /// Takes any next step of a trace, and answers its place.
-    fn take_any(&mut self, step: Step, effect: &Effect) -> Result<u32, OrderError>
+    /// Takes any next step of a trace, and answers its place. The effect comes by value, so that it is copied here alone, and not for a plain instruction.
+    fn take_any(&mut self, step: Step, effect: Effect) -> Result<u32, OrderError>
         ghost trace: { Trace }
         requires stands { StandsFor self.old trace }
-        requires may { MayCome self.old.spes trace (event_of step effect.now) }
-        requires queue { QueueMay trace (event_of step effect.now) }
+        requires may { MayCome self.old.spes trace (event_of step effect) }
+        requires queue { QueueMay trace (event_of step effect) }
         requires room { length trace + 1 < 2 ^ 32 }
-        ensures stands { IfOk result (λ place. StandsFor self.new (trace ++ (event_of step effect.now ∷ []))) }
+        ensures stands { IfOk result (λ place. StandsFor self.new (trace ++ (event_of step effect ∷ []))) }
         ensures place { IfOk result (λ place. place ≡ length trace) }
         ensures spes { self.new.spes ≡ self.old.spes }
     {
         let place = self.names.len() as u32;
-        let at = name(self.spes, place, step, effect);
+        let at = name(self.spes, place, step, &effect);
         let whole = moves_line(&self.lives, step);
-        fill(&mut self.last, &self.sets, &self.boxes, whole, step, effect)?;
+        fill(
+            &mut self.last,
+            &self.sets,
+            &self.boxes,
+            whole,
+            step,
+            &effect,
+        )?;
         let brought = Brought {
             spes: self.spes,
             step,
-            effect,
+            effect: &effect,
             whole,
             known: &self.last,
             fact: fact(self.spes, at, step, is_only_step(&self.lives, step)),
@@ -114,40 +121,40 @@ impl Orderer {
     {
         let place = self.names.len() as u32;
         let at = name(self.spes, place, step, effect);
-        self.sets.add_own(spe, Fact::Upto { chain: spe, place })?;
+        self.sets.extend_own(spe, place)?;
         self.names.push(at)?;
         self.own = Some(spe);
         Ok(place)
     }
 
     /// Takes the next step of a trace, and answers its place.
-    fn take(&mut self, step: Step, effect: &Effect) -> Result<u32, OrderError>
+    fn take(&mut self, step: Step, effect: Effect) -> Result<u32, OrderError>
         ghost trace: { Trace }
         requires stands { StandsFor self.old trace }
-        requires may { MayCome self.old.spes trace (event_of step effect.now) }
-        requires queue { QueueMay trace (event_of step effect.now) }
+        requires may { MayCome self.old.spes trace (event_of step effect) }
+        requires queue { QueueMay trace (event_of step effect) }
         requires room { length trace + 1 < 2 ^ 32 }
-        ensures stands { IfOk result (λ place. StandsFor self.new (trace ++ (event_of step effect.now ∷ []))) }
+        ensures stands { IfOk result (λ place. StandsFor self.new (trace ++ (event_of step effect ∷ []))) }
         ensures place { IfOk result (λ place. place ≡ length trace) }
         ensures spes { self.new.spes ≡ self.old.spes }
     {
-        match plain_of(step, effect) {
-            Some(spe) => self.take_plain(spe, step, effect),
+        match plain_of(&step, &effect) {
+            Some(spe) => self.take_plain(spe, step, &effect),
             None => self.take_any(step, effect),
         }
     }
 
     /// Whether the step is known before the last one.
-    fn knows(&self, at: At) -> bool
+    fn knows(&self, at: &At) -> bool
         requires sets { AreOf (3 * self.now.spes + 1) self.now.sets }
         requires own { IfSome self.now.own (λ spe. spe < self.now.spes) }
         requires last { self.now.last.chains ≡ 3 * self.now.spes + 1 }
-        requires chain { at.chain < 3 * self.now.spes + 1 }
-        ensures { result ≡ known_in self.now.own self.now.sets self.now.last at }
+        requires chain { at.now.chain < 3 * self.now.spes + 1 }
+        ensures { result ≡ known_in self.now.own self.now.sets self.now.last at.now }
     {
         match self.own {
             Some(spe) => self.sets.has_own(spe, at),
-            None => self.last.has(at),
+            None => self.last.has(*at),
         }
     }
 
@@ -158,7 +165,7 @@ impl Orderer {
         requires below { i + 1 < length trace }
         ensures { IsTrue result ↔ Ordered RuleByStatus trace i (length trace - 1) }
     {
-        self.knows(self.names[i as usize])
+        self.knows(&self.names[i as usize])
     }
 
     /// The orderer of the empty run from a setup, which has a processor.
@@ -185,7 +192,7 @@ impl Orderer {
         ensures tells { TracesTell }
         ensures orderly { TracesAreOrderly }
     {
-        self.take(step, &effect)
+        self.take(step, effect)
     }
 
     /// Whether step `i`, counted from 0, is ordered before the last one.

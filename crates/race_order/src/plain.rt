@@ -7,13 +7,13 @@ use cell_base::Step;
 use cell_machine::{Effect, Note};
 
 /// The processor whose instruction the step is, if it tells nothing.
-pub(crate) fn plain_of(step: Step, effect: &Effect) -> Option<u8>
-    ensures { IfSome result (IsPlain step effect.now) }
+pub(crate) fn plain_of(step: &Step, effect: &Effect) -> Option<u8>
+    ensures { IfSome result (IsPlain step.now effect.now) }
 {
     if effect.fixed {
         return None;
     }
-    match (step, effect.note) {
+    match (*step, effect.note) {
         (Step::Exec { spe }, Note::Nothing) => Some(spe),
         _ => None,
     }

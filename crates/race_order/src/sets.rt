@@ -2,20 +2,22 @@
 
 ghost use Rattle.std.specs.Prelude.{◌≡◌, ◌+◌, ◌*◌, ◌<◌, ◌≤◌, ◌||◌, ◌&&◌, ℕ, OnOk, IfOk, IfSome, IfNone, length, false, None, All as Each};
 ghost use Rattle.order_sets.specs.declared.facts.At.{At as AnAt};
-ghost use Rattle.order_sets.specs.declared.known.Known.{Known as AKnown};
+ghost use Rattle.race_order.specs.declared.own.Own.{Own as AnOwn};
+ghost use Rattle.order_sets.specs.declared.facts.Fact.TheVariants.{Upto};
 ghost use Rattle.order_sets.specs.Facts.{covers};
 ghost use Rattle.order_sets.specs.Stands.{has_at};
 ghost use Rattle.race_order.specs.declared.roles.QueueRole.{QueueRole as ARole};
 ghost use Rattle.race_order.specs.declared.roles.QueueRole.TheVariants.{Base};
 ghost use Rattle.race_order.specs.declared.roles.Role.TheVariants.{OfExec};
-ghost use Rattle.race_order.specs.Tables.{same_role, own_of, sets_have, AreOf, FitsChains};
+ghost use Rattle.race_order.specs.Tables.{same_role, own_has, own_of, sets_have, AreOf, FitsChains, IsOwnOf};
 ghost use Rattle.race_order.specs.Bringing.{IsOfChains};
 ghost use Rattle.race_order.specs.Gains.{SomeFits, has_gain};
 ghost use Rattle.race_order.specs.Passes.{is_over};
 
-use crate::brought::{Brought, add_all};
+use crate::brought::Brought;
 use crate::error::OrderError;
 use crate::lives::Live;
+use crate::own::Own;
 use crate::roles::{QueueRole, Role};
 use crate::table::Table;
 use order_sets::{At, Fact, Known};
@@ -25,22 +27,22 @@ use std::alloc::Global;
 #[derive(Drop)]
 pub(crate) struct Sets {
     // of each processor the set of its instructions
-    pub(crate) own: Vec<Known>,
+    pub(crate) own: Vec<Own>,
     // those of the other roles
     pub(crate) table: Table,
 }
 
 /// For each of `spes` processors an empty set.
-fn empty_sets(alloc: Global, spes: u8) -> Result<Vec<Known>, OrderError>
+fn empty_sets(alloc: Global, spes: u8) -> Result<Vec<Own>, OrderError>
     requires { (1 ≤ spes) × (spes ≤ 16) }
     ensures long { IfOk result (λ sets. length sets.items ≡ spes) }
-    ensures chains { IfOk result (λ sets. Each (λ (known : AKnown). known.chains ≡ 3 * spes + 1) sets.items) }
-    ensures empty { IfOk result (λ sets. Each (λ (known : AKnown). (at : AnAt) → has_at known at ≡ false) sets.items) }
+    ensures chains { IfOk result (λ sets. Each (IsOwnOf (3 * spes + 1)) sets.items) }
+    ensures empty { IfOk result (λ sets. Each (λ (own : AnOwn). (at : AnAt) → own_has own at ≡ false) sets.items) }
 {
     let mut sets = Vec::new(alloc);
-    for _ in 0..spes {
-        let known = Known::new(alloc, spes)?;
-        sets.push(known)?;
+    for spe in 0..spes {
+        let own = Own::new(alloc, spes, spe)?;
+        sets.push(own)?;
     }
     Ok(sets)
 }
@@ -82,11 +84,11 @@ impl Sets {
     }
 
     /// Whether the step is in the set of the processor's instructions.
-    pub(crate) fn has_own(&self, spe: u8, at: At) -> bool
+    pub(crate) fn has_own(&self, spe: u8, at: &At) -> bool
         requires inside { spe < length self.now.own.items }
         requires sets { AreOf (3 * self.now.table.spes + 1) self.now }
-        requires chain { at.chain < 3 * self.now.table.spes + 1 }
-        ensures { result ≡ sets_have self.now (Base (OfExec spe)) at }
+        requires chain { at.now.chain < 3 * self.now.table.spes + 1 }
+        ensures { result ≡ sets_have self.now (Base (OfExec spe)) at.now }
     {
         self.own[usize::from(spe)].has(at)
     }
@@ -98,7 +100,7 @@ impl Sets {
         ensures has { OnOk result ((at : AnAt) → has_at known.new at ≡ (has_at known.old at || sets_have self.now (Base (OfExec spe)) at)) }
         ensures chains { known.new.chains ≡ known.old.chains }
     {
-        known.join(&self.own[usize::from(spe)])?;
+        self.own[usize::from(spe)].gather(known)?;
         Ok(())
     }
 
@@ -121,7 +123,7 @@ impl Sets {
         ensures has { OnOk result ((r : ARole) (at : AnAt) → sets_have self.new r at ≡ (sets_have self.old r at || (same_role (Base (OfExec spe)) r && has_at known.now at))) }
         ensures chains { OnOk result (AreOf (known.now.chains) self.new) }
     {
-        self.own[usize::from(spe)].join(known)?;
+        self.own[usize::from(spe)].put(known)?;
         Ok(())
     }
 
@@ -137,8 +139,20 @@ impl Sets {
         }
     }
 
+    /// Adds an instruction of the processor at a place to their set.
+    pub(crate) fn extend_own(&mut self, spe: u8, place: u32) -> Result<(), OrderError>
+        requires inside { spe < length self.old.own.items }
+        requires sets { AreOf (3 * self.old.table.spes + 1) self.old }
+        requires chain { spe < 3 * self.old.table.spes + 1 }
+        ensures has { OnOk result ((r : ARole) (at : AnAt) → sets_have self.new r at ≡ (sets_have self.old r at || (same_role (Base (OfExec spe)) r && covers (Upto spe place) at))) }
+        ensures chains { OnOk result (AreOf (3 * self.old.table.spes + 1) self.new) }
+    {
+        self.own[usize::from(spe)].extend(spe, place)?;
+        Ok(())
+    }
+
     /// Adds what the fact covers to the set of the processor's instructions.
-    pub(crate) fn add_own(&mut self, spe: u8, fact: Fact) -> Result<(), OrderError>
+    fn add_own(&mut self, spe: u8, fact: Fact) -> Result<(), OrderError>
         requires inside { spe < length self.old.own.items }
         requires sets { AreOf (3 * self.old.table.spes + 1) self.old }
         requires fact { FitsChains (3 * self.old.table.spes + 1) fact }
@@ -176,7 +190,7 @@ impl Sets {
         ensures has { OnOk result ((r : ARole) (at : AnAt) → sets_have self.new r at ≡ (sets_have self.old r at || (same_role (Base (OfExec spe)) r && has_gain brought.now more at))) }
         ensures chains { OnOk result (AreOf (3 * brought.now.spes + 1) self.new) }
     {
-        add_all(&mut self.own[usize::from(spe)], brought, more)?;
+        self.own[usize::from(spe)].bring(brought, more)?;
         Ok(())
     }
 

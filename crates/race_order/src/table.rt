@@ -1,11 +1,11 @@
 //! The sets of known steps that are found by the numbers of their roles.
 
-ghost use Rattle.std.specs.Prelude.{◌≡◌, ℕ, ◌+◌, ◌*◌, ◌<◌, ◌||◌, ◌&&◌, OnOk, IfOk, length, [], false};
+ghost use Rattle.std.specs.Prelude.{◌≡◌, ℕ, ◌+◌, ◌*◌, ◌^◌, ◌<◌, ◌||◌, ◌&&◌, OnOk, IfOk, IfSome, None, length, slice_index, [], false};
 ghost use Rattle.order_sets.specs.declared.facts.At.{At};
 ghost use Rattle.order_sets.specs.Facts.{covers};
 ghost use Rattle.order_sets.specs.Stands.{has_at};
 ghost use Rattle.race_order.specs.declared.roles.QueueRole.{QueueRole as ARole};
-ghost use Rattle.race_order.specs.Tables.{same_role, number, table_has, IsTableOf, FitsChains};
+ghost use Rattle.race_order.specs.Tables.{same_role, place_of, table_has, IsTableOf, IsUnplaced, FitsChains};
 ghost use Rattle.race_order.specs.Passes.{is_over};
 ghost use Rattle.race_order.specs.Bringing.{IsOfChains};
 ghost use Rattle.race_order.specs.Gains.{SomeFits, has_gain};
@@ -19,17 +19,35 @@ use crate::roles::QueueRole;
 use order_sets::{Fact, Known};
 use std::alloc::Global;
 
-/// The sets of `spes` processors, each in the bucket of its role's number. A role without one has the empty set.
+/// How many numbers get room for their buckets' places at once: those of a processor.
+const NUMBERS: usize = 256;
+
+/// The sets of `spes` processors, each in the bucket of its role's number. A bucket is made when a set first goes into it. A role without one has the empty set.
 #[derive(Drop)]
 pub(crate) struct Table {
     pub(crate) alloc: Global,
     pub(crate) spes: u8,
     pub(crate) buckets: Vec<Bucket>,
+    // one more than the place of each number's bucket, or 0; numbers that are past the end have none
+    pub(crate) places: Vec<u32>,
+}
+
+/// Gives the number, and those before it, room for the place of a bucket.
+fn lengthen(places: &mut Vec<u32>, number: usize) -> Result<(), OrderError>
+    requires { number < 2 ^ 41 }
+    ensures same { OnOk result ((k : ℕ) → slice_index places.new.items k ≡ slice_index places.old.items k) }
+    ensures long { OnOk result (number < length places.new.items) }
+{
+    if places.len() <= number {
+        places.resize((number / NUMBERS + 1) * NUMBERS, 0)?;
+    }
+    Ok(())
 }
 
 impl Table {
     /// The empty sets of `spes` processors.
     pub(crate) fn new(alloc: Global, spes: u8) -> Table
+        ensures empty { (r : ARole) (at : At) → table_has result r at ≡ false }
         ensures buckets { result.buckets.items ≡ [] }
         ensures spes { result.spes ≡ spes }
     {
@@ -37,27 +55,58 @@ impl Table {
             alloc,
             spes,
             buckets: Vec::new(alloc),
+            places: Vec::new(alloc),
         }
     }
 
-    /// Adds so many empty buckets.
-    fn lengthen(&mut self, count: usize) -> Result<(), OrderError>
+    /// The place of the role's bucket, if there is one.
+    fn find(&self, role: QueueRole) -> Option<usize>
+        ensures inside { IfSome result (λ k. k < length self.now.buckets.items) }
+        ensures place { IfSome result (λ k. place_of self.now.places.items role ≡ k + 1) }
+        ensures none { result ≡ None → IsUnplaced self.now role }
+    {
+        let number = number(role) as usize;
+        if self.places.len() <= number {
+            return None;
+        }
+        let place = self.places[number] as usize;
+        if place == 0 {
+            return None;
+        }
+        if self.buckets.len() < place {
+            return None;
+        }
+        Some(place - 1)
+    }
+
+    /// Makes the bucket of a role that has none, and answers its place.
+    #[inline(never)]
+    fn make(&mut self, role: QueueRole) -> Result<usize, OrderError>
+        requires { IsUnplaced self.old role }
         ensures has { OnOk result ((r : ARole) (at : At) → table_has self.new r at ≡ table_has self.old r at) }
         ensures chains { OnOk result ((chains : ℕ) → IsTableOf chains self.old → IsTableOf chains self.new) }
-        ensures long { OnOk result (length self.new.buckets.items ≡ length self.old.buckets.items + count) }
+        ensures place { IfOk result (λ k. place_of self.new.places.items role ≡ k + 1) }
+        ensures inside { IfOk result (λ k. k < length self.new.buckets.items) }
     {
-        for _ in 0..count {
-            self.buckets.push(Bucket::new(self.alloc))?;
+        let number = number(role) as usize;
+        let k = self.buckets.len();
+        if u32::MAX as usize <= k {
+            return Err(OrderError::Memory);
         }
-        Ok(())
+        lengthen(&mut self.places, number)?;
+        self.buckets.push(Bucket::new(self.alloc))?;
+        self.places[number] = (k + 1) as u32;
+        Ok(k)
     }
 
     /// Whether the role has a set; else its set is empty.
     pub(crate) fn holds(&self, role: QueueRole) -> bool
         ensures { result ≡ false → (at : At) → table_has self.now role at ≡ false }
     {
-        let k = number(role) as usize;
-        k < self.buckets.len() && self.buckets[k].holds(role)
+        match self.find(role) {
+            Some(k) => self.buckets[k].holds(role),
+            None => false,
+        }
     }
 
     /// Adds to the known steps what the role's set has.
@@ -66,24 +115,23 @@ impl Table {
         ensures has { OnOk result ((at : At) → has_at known.new at ≡ (has_at known.old at || table_has self.now role at)) }
         ensures chains { known.new.chains ≡ known.old.chains }
     {
-        let k = number(role) as usize;
-        if k < self.buckets.len() {
+        if let Some(k) = self.find(role) {
             self.buckets[k].gather(role, known)?;
         }
         Ok(())
     }
 
-    /// The number of the role's bucket, which is there then.
+    /// The place of the role's bucket, which is there then.
     fn bucket(&mut self, role: QueueRole) -> Result<usize, OrderError>
         ensures has { OnOk result ((r : ARole) (at : At) → table_has self.new r at ≡ table_has self.old r at) }
         ensures chains { OnOk result ((chains : ℕ) → IsTableOf chains self.old → IsTableOf chains self.new) }
-        ensures number { IfOk result (λ k. k ≡ number role) }
+        ensures place { IfOk result (λ k. place_of self.new.places.items role ≡ k + 1) }
         ensures inside { IfOk result (λ k. k < length self.new.buckets.items) }
     {
-        let k = number(role) as usize;
-        let count = self.buckets.len();
-        self.lengthen((k + 1).saturating_sub(count))?;
-        Ok(k)
+        match self.find(role) {
+            Some(k) => Ok(k),
+            None => self.make(role),
+        }
     }
 
     /// Adds the known steps to the role's set.
@@ -147,11 +195,11 @@ impl Table {
         ensures has { (r : ARole) (at : At) → is_over next.now r ≡ false → table_has self.new r at ≡ table_has self.old r at }
         ensures chains { (chains : ℕ) → IsTableOf chains self.old → IsTableOf chains self.new }
     {
-        let k = number(QueueRole::Waits {
+        let waits = QueueRole::Waits {
             spe: live.spe,
             cmd: live.cmd,
-        }) as usize;
-        if k < self.buckets.len() {
+        };
+        if let Some(k) = self.find(waits) {
             self.buckets[k].drop_over(next);
         }
     }

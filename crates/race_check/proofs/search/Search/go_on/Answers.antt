@@ -1,4 +1,5 @@
-use Rattle.std.proofs.Common.{rules, ◌≡◌, ◌<◌, ◌^◌, [], ◌∷◌, ◌++◌, length, ap, sym, ◌∙◌, subst}
+use Rattle.std.proofs.Common.{rules, ◌≡◌, ◌<◌, ◌^◌, [], ◌∷◌, ◌++◌, length, get_or, ap, sym, ◌∙◌, subst}
+use Rattle.std.proofs.lemmas.List.{get_or_push}
 use Rattle.race_check.specs.declared.search.Search.{Search}
 use Rattle.race_check.specs.Races.{TellsLatest}
 use Rattle.race_check.specs.Searches.{run_of}
@@ -26,8 +27,19 @@ place c =
     let many : c.len-last.result ≡ length c.args.self.now.accesses.items = search rules in
     many ∙ counted c.args.self.now c.requires.keeps
 
+-- what was kept of it last
+seen : (c : In_ok-latest) → c.index-kept.result.now ≡ c.access_of-access.result
+seen c =
+    let many : c.len-last.result ≡ length c.args.self.now.accesses.items = search rules in
+    let here : c.index-kept.result.now ≡ get_or c.push.new.self.items c.len-last.result c.index-kept.result.now = search rules in
+    here
+    ∙ ap (λ xs. get_or xs c.len-last.result c.index-kept.result.now) c.in_ok-push.ensures.items
+    ∙ get_or_push c.args.self.now.accesses.items c.access_of-access.result c.index-kept.result.now c.len-last.result (sym many)
+
 takes : (c : In_ok-latest) → TakesStep (IsOrdered (run_of (after c))) c.args.self.now.shadow c.visit.new.self c.access_of-access.result (length (run_of c.args.self.now).steps) c.in_ok-latest.latest
-takes c = subst (λ n. TakesStep (IsOrdered (run_of (after c))) c.args.self.now.shadow c.visit.new.self c.access_of-access.result n c.in_ok-latest.latest) (place c) c.in_ok-latest.ensures
+takes c =
+    subst (λ n. TakesStep (IsOrdered (run_of (after c))) c.args.self.now.shadow c.visit.new.self c.access_of-access.result n c.in_ok-latest.latest) (place c)
+    (subst (λ a. TakesStep (IsOrdered (run_of (after c))) c.args.self.now.shadow c.visit.new.self a c.len-last.result c.in_ok-latest.latest) (seen c) c.in_ok-latest.ensures)
 
 pub overflow_cast-last : goal.overflow_cast-last
 overflow_cast-last c =

@@ -7,6 +7,6 @@ use Rattle.race_order.proofs.table.Table.put.Goals as goal
 pub returns-clause-has : goal.returns-clause-has
 returns-clause-has c = λ r at.
     let inside : c.in_ok-k.k < length c.bucket.new.self.buckets.items = c.in_ok-k.ensures.inside in
-    has_more c.bucket.new.self.buckets.items c.in_ok-k.k c.args.role c.put.new.self c.index_mut.result.now r at (has_at c.args.known.now at) c.in_ok-k.ensures.number inside
+    has_more c.bucket.new.self.places.items c.bucket.new.self.buckets.items c.in_ok-k.k c.args.role c.put.new.self c.index_mut.result.now r at (has_at c.args.known.now at) c.in_ok-k.ensures.place inside
     (c.in_ok-put.ensures.has r at ∙ ap (λ b. bucket_has r at b || (same_role c.args.role r && has_at c.args.known.now at)) c.index_mut.ensures.value)
     ∙ ap (λ b. b || (same_role c.args.role r && has_at c.args.known.now at)) (c.in_ok-k.ensures.has r at)
