@@ -1,5 +1,6 @@
 pub mod WordsLaws
 pub mod Eaches
+pub mod EndsLaws
 pub mod FilesLaws
 pub mod HuntsLaws
 pub mod AnswersLaws

@@ -18,7 +18,10 @@ from celltools.run.runs import Refused
 # What can be wrong in a run, in the order in which it is printed.
 FLAWS = ("race", "stuck", "budget", "fault", "halt", "missed")
 FORM_OF_HUNT = 1
+HEAD = ("hunt", "seed", "from", "runs", "expects", "all_stopped", "left_out", "steps", *FLAWS)  # members of a part's second line
+WITHOUT_STEPS = [name for name in HEAD if name != "steps"]  # the same of earlier versions
 MOST_RUN, MOST_SEED = 0xFFFF_FFFE, 0xFFFF_FFFF_FFFF_FFFF
+MOST_STEPS = 1_000_000  # of a run: the greatest budget
 MOST_LINE = 1 << 28  # bytes
 CHECKSUM = re.compile(r"[0-9a-f]{64}")
 VERSION = re.compile(r"[0-9]+\.[0-9]+\.[0-9]+")
@@ -50,6 +53,7 @@ class Head:
     expects: bool
     all_stopped: int
     left_out: int
+    steps: int
     flaws: Dict[str, Count]
 
     @property
@@ -175,13 +179,16 @@ def flaw_of(members: Json, name: str, head: Head) -> Count:
 def head_of(line: bytes) -> Head:
     """The second line of a part."""
     members = object_of(line)
-    refuse_names(members, ("hunt", "seed", "from", "runs", "expects", "all_stopped", "left_out", *FLAWS))
+    if list(members) == WITHOUT_STEPS:
+        raise Wrong("this part is of an earlier version, without the number of steps")
+    refuse_names(members, HEAD)
     number_in(members, "hunt", FORM_OF_HUNT, FORM_OF_HUNT)
     runs = number_in(members, "runs", 1, MOST_RUN + 1)
     start = number_in(members, "from", 0, MOST_RUN + 1 - runs)
     refuse_other("expects", members["expects"], isinstance(members["expects"], bool), "true or false")
     stopped, left_out = (number_in(members, name, 0, runs) for name in ("all_stopped", "left_out"))
-    head = Head(number_in(members, "seed", 0, MOST_SEED), start, runs, members["expects"], stopped, left_out, {})
+    steps = number_in(members, "steps", 0, runs * MOST_STEPS)
+    head = Head(number_in(members, "seed", 0, MOST_SEED), start, runs, members["expects"], stopped, left_out, steps, {})
     head.flaws.update({name: flaw_of(members, name, head) for name in FLAWS})
     refuse_other_writing(members, line)
     return head
