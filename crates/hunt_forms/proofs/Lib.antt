@@ -1,6 +1,5 @@
 pub mod WordsLaws
 pub mod Eaches
-pub mod EndsLaws
 pub mod FilesLaws
 pub mod HuntsLaws
 pub mod AnswersLaws
