@@ -8,9 +8,9 @@ ghost use Rattle.hunt_forms.specs.Hunts.{status_of, text_by, TellsHunt, TellsEac
 ghost use Rattle.hunt_forms.specs.Answers.{Promises, TellsRun, EndsText, EndsBy};
 
 use crate::each::tell_each;
+use crate::ending::is_by_steps;
 use crate::fault::{Fault, Status};
 use crate::help::HELP;
-use crate::ending::is_by_steps;
 use crate::hunting::hunt_runs;
 use crate::input::Quarry;
 use crate::progress::Progress;

@@ -140,11 +140,7 @@ fn put_steps(out: &mut Vec<u8>, steps: u64) -> Result<(), AllocError>
     ensures { OnOk result (out.new.items ≡ out.old.items ++ steps_text steps) }
 {
     out.extend_from_slice(b"ended after ")?;
-    put_word(
-        out,
-        steps,
-        b" steps, the limit of a hunt without --runs\n",
-    )?;
+    put_word(out, steps, b" steps, the limit of a hunt without --runs\n")?;
     Ok(())
 }
 

@@ -105,12 +105,7 @@ fn put_head(
 {
     let flaws = hunted.flaws();
     put_runs(out, seed, from, hunted.runs(), expects)?;
-    put_sums(
-        out,
-        hunted.all_stopped(),
-        hunted.left_out(),
-        hunted.steps(),
-    )?;
+    put_sums(out, hunted.all_stopped(), hunted.left_out(), hunted.steps())?;
     put_ended(out, from, flaws)?;
     put_faulted(out, from, flaws)?;
     out.extend_from_slice(b"}\n")
