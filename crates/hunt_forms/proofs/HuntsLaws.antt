@@ -1,6 +1,6 @@
 -- What runs tell, while they are made.
 use Rattle.std.proofs.Common.{◌≡◌, ℕ, ◌+◌, ◌<◌, ◌≤◌, Bool, true, false, eqb, eqb-true, List, [], ◌∷◌, ◌++◌, length, take, refl, sym, ap, subst, ◌∙◌, arith, length-append}
-use Rattle.std.specs.Prelude.{◌||◌, nat_lt, Option, Result, Ok, IfOk}
+use Rattle.std.specs.Prelude.{◌||◌, nat_lt, Option, Result, Ok, Err, IfOk}
 use Rattle.std.specs.List.{flat_map, list_any}
 use Rattle.std.proofs.lemmas.List.{append-nil, length_push, length-take-le}
 use Rattle.std.proofs.lemmas.List.Sums.{sum_by-cons}
@@ -89,6 +89,10 @@ part_before q seed from end later part less is = record { taken = is.taken; with
 
 pub each_tells : (setup : Opening) (seed from runs : ℕ) (text : List ℕ) (racy : Bool) → TellsRuns setup seed from runs text racy → TellsEach setup from runs seed (status_of racy) text
 each_tells setup seed from runs text racy t = record { all = t.all; count = t.count; each = t.each; says = t.says; found = ap status_of t.found }
+
+pub if_ok : {A E : Type 0} (P Q : A → Type 0) (r : Result A E) → ((x : A) → P x → Q x) → IfOk r P → IfOk r Q
+if_ok P Q (Ok x) each holds = each x holds
+if_ok P Q (Err e) each holds = tt
 
 pub of_ok : {A E : Type 0} (P : A → Type 0) (r : Result A E) (x : A) → r ≡ Ok x → IfOk r P → P x
 of_ok P r x is holds = subst (λ o. IfOk o P) is holds
