@@ -40,7 +40,7 @@ status_of true = Found
 
 -- ---- hunts
 
--- this is the report of run `run` of the seed, which is one alone
+-- this is the report of run `run` of the seed: there is one such run alone
 pub record IsReportOfSeed (setup : Opening) (question : Question) (seed run : ℕ) (r : Reported) : Type 0 where
   pub machine : Ran
   pub made : IsRunOfSeed setup seed run machine
@@ -51,8 +51,8 @@ pub record IsReportOfSeed (setup : Opening) (question : Question) (seed run : �
 abbrev pub AreReports : Opening → Question → ℕ → ℕ → List Reported → Type 0
 AreReports setup question seed from reports = Each (IsReportOfSeed setup question seed) from reports
 
--- Whether a hunt ends after so many runs, which have so many steps together: after as many as `--runs` says, or without it after the first of 200, 300,
--- .. runs that have 20,000,000 steps or more, and else after 1,000.
+-- Whether a hunt ends after so many runs, which have so many steps together. With `--runs` it ends after as many as that says. Without it, it ends after
+-- 200, 300, 400, .. runs once these have 20,000,000 steps or more, and at the latest after 1,000.
 abbrev pub ends_at : Option ℕ → ℕ → ℕ → Bool
 ends_at (Some asked) runs steps = runs == asked
 ends_at None runs steps = runs == 1000 || (nat_le 200 runs && runs % 100 == 0 && nat_le 20000000 steps)
