@@ -34,7 +34,7 @@ def lines(runs: int, spes: int) -> Iterator[str]:
     chance = random.Random(spes)
     ending = "AllStopped" + "".join(f" | {spe} stopped 0x0001" for spe in range(spes))
     flaws = "".join(f',"{flaw}":{NONE}' for flaw in FLAWS)
-    yield f'{{"hunt":1,"seed":1,"from":0,"runs":{runs},"expects":false,"all_stopped":{runs},"left_out":0{flaws}}}\n'
+    yield f'{{"hunt":1,"seed":1,"from":0,"runs":{runs},"expects":false,"all_stopped":{runs},"left_out":0,"steps":{1000 * runs}{flaws}}}\n'
     yield f'{{"end":"{ending}","runs":{runs},"first":0}}\n'
     for run in range(runs):
         yield f'{{"result":"mem 0x00000000 {chance.getrandbits(128):032x}\\u000a","end":"{ending}","runs":1,"first":{run}}}\n'

@@ -5,7 +5,7 @@ from typing import Any, Dict, Iterator, List, Tuple
 
 COUNTED = re.compile(r'(.*),"runs":(\d+),"first":(\d+|null)\}')
 ORDER = ("race", "end", "result", "missed")  # of the lines between the first and the last
-SUMS = ("runs", "all_stopped", "left_out")  # numbers of the first line that are added; others are the same in each part
+SUMS = ("runs", "all_stopped", "left_out", "steps")  # numbers of the first line that are added; others are the same in each part
 
 Json = Dict[str, Any]
 

@@ -17,7 +17,7 @@ from typing import Dict, Iterator, List, Optional, Tuple
 from celltools.common.repository import ROOT, built
 
 FOLDER: pathlib.Path = ROOT / "tests" / "deletions"
-RUNS = 200  # how many a hunt makes where nothing is said
+RUNS = 200  # of each hunt
 SECONDS = 600
 INSTRUCTION = re.compile(r"(\s*(?:\w+:)?)\s*([a-z]\w*(?:\s[^#:]*?)?)\s*(?:#.*)?")
 SOURCE = re.compile(r"^source\s+(\S+)", re.M)
@@ -84,7 +84,7 @@ def write_without(deletion: Deletion, folder: pathlib.Path) -> pathlib.Path:
 
 def found_by_hunt(machine: pathlib.Path) -> Optional[Findings]:
     """What a hunt tells; None where it refuses the machine."""
-    done = subprocess.run([built("hunt"), machine, "--jobs", "1", "--json"], cwd=ROOT, capture_output=True, text=True, timeout=SECONDS)
+    done = subprocess.run([built("hunt"), machine, "--runs", str(RUNS), "--jobs", "1", "--json"], cwd=ROOT, capture_output=True, text=True, timeout=SECONDS)
     if done.returncode not in (0, 1):
         return None
     head, *told = map(json.loads, done.stdout.splitlines())

@@ -1,3 +1,4 @@
 pub mod BundleLaws
+pub mod NamesLaws
 pub mod WordsLaws
 pub mod AnswersLaws

@@ -1,15 +1,16 @@
 //! What comes in: the words, and the files.
 
-ghost use Rattle.std.specs.Prelude.{◌≡◌, find, is_none};
+ghost use Rattle.std.specs.Prelude.{◌≡◌, IfOk};
 ghost use Rattle.std.specs.List.{position};
 ghost use Rattle.cell_base.specs.Numbers.{Reads};
 ghost use Rattle.cell_base.specs.Words.{is_feed};
-ghost use Rattle.cell_io.specs.Files.{are_different, is_called};
+ghost use Rattle.cell_io.specs.Files.{are_different};
 ghost use Rattle.cell_page.specs.Question.{line_at, number_line, file_at};
 ghost use Rattle.cell_page.specs.Reading.{IsText, KeepsFile, ReadsWords, ReadsAll, ReadsFiles};
 
 use cell_base::line_text::{first_line, number_at};
 use cell_io::MemFile;
+use indexmap::IndexSet;
 use std::alloc::{AllocError, AllocFailed, Global};
 use std::str;
 
@@ -139,31 +140,17 @@ fn all_files(alloc: Global, bytes: &[u8]) -> Result<Vec<MemFile>, BundleError>
     Ok(files)
 }
 
-/// Whether a file has this name.
-fn is_called(file: &MemFile, name: &str) -> bool
-    ensures { result ≡ is_called name.now file.now }
+/// Whether no two of them have one name. The names that were seen are kept, so each file is looked up once.
+fn are_different(alloc: Global, files: &[MemFile]) -> Result<bool, AllocError>
+    ensures { IfOk result (λ b. b ≡ are_different files.now) }
 {
-    file.name.as_str() == name
-}
-
-/// Whether no file has this name.
-fn is_free(files: &[MemFile], name: &str) -> bool
-    ensures { result ≡ is_none (find (is_called name.now) files.now) }
-{
-    match files {
-        [] => true,
-        [file, rest @ ..] => !is_called(file, name) && is_free(rest, name),
+    let mut seen = IndexSet::new(alloc);
+    for file in files {
+        if !seen.insert(file.name.as_str())? {
+            return Ok(false);
+        }
     }
-}
-
-/// Whether no two of them have one name.
-fn are_different(files: &[MemFile]) -> bool
-    ensures { result ≡ are_different files.now }
-{
-    match files {
-        [] => true,
-        [file, rest @ ..] => is_free(rest, file.name.as_str()) && are_different(rest),
-    }
+    Ok(true)
 }
 
 /// The files.
@@ -171,7 +158,7 @@ pub fn files_of(alloc: Global, bytes: &[u8]) -> Result<Vec<MemFile>, BundleError
     ensures { ReadsFiles bytes.now result }
 {
     let files = all_files(alloc, bytes)?;
-    if are_different(files.as_slice()) {
+    if are_different(alloc, files.as_slice())? {
         Ok(files)
     } else {
         Err(BundleError::Form)

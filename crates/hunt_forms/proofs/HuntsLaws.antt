@@ -1,17 +1,20 @@
 -- What runs tell, while they are made.
-use Rattle.std.proofs.Common.{◌≡◌, ℕ, ◌+◌, ◌≤◌, Bool, true, false, List, [], ◌∷◌, ◌++◌, length, refl, sym, ap, subst, ◌∙◌, arith, length-append}
-use Rattle.std.specs.Prelude.{◌||◌, Result, Ok, IfOk}
+use Rattle.std.proofs.Common.{◌≡◌, ℕ, ◌+◌, ◌<◌, ◌≤◌, Bool, true, false, eqb, eqb-true, List, [], ◌∷◌, ◌++◌, length, take, refl, sym, ap, subst, ◌∙◌, arith, length-append}
+use Rattle.std.specs.Prelude.{◌||◌, nat_lt, Option, Result, Ok, Err, IfOk}
 use Rattle.std.specs.List.{flat_map, list_any}
-use Rattle.std.proofs.lemmas.List.{append-nil, length_push}
+use Rattle.std.proofs.lemmas.List.{append-nil, length_push, length-take-le}
+use Rattle.std.proofs.lemmas.List.Sums.{sum_by-cons}
 use Rattle.std.proofs.lemmas.List.Folds.{list_any-append}
 use Rattle.std.proofs.lemmas.List.Concat.{flat_map-append}
 use Rattle.cell_machine.specs.Opening.{Opening}
-use Rattle.hunt_tally.specs.Reports.{Reported, Sums, hunted, is_flawed}
+use Rattle.cell_machine.specs.Run.{Ran}
+use Rattle.hunt_tally.specs.Reports.{Reported, Sums, steps_of, hunted, is_flawed}
+use Rattle.hunt_reports.specs.declared.asked.Asked.{Asked as Question}
 use Rattle.hunt_forms.specs.declared.each.Told.{Told}
 use Rattle.hunt_forms.specs.declared.input.Quarry.{Quarry}
 use Rattle.hunt_forms.specs.declared.parts.Part.{Part}
 use Rattle.hunt_forms.specs.Words.{Asked}
-use Rattle.hunt_forms.specs.Hunts.{status_of, text_by, AreMade, TellsHunt, TellsEach, HasTaken, HasMade, IsReportOfSeed, IsPart, IsTold, TellsRuns, told_line, is_racy}
+use Rattle.hunt_forms.specs.Hunts.{Each, status_of, text_by, ends_at, ends_with, TellsHunt, TellsEach, HasTaken, HasMade, IsReportOfSeed, AreReports, IsPart, IsTold, TellsRuns, told_line, is_racy}
 use Rattle.hunt_forms.proofs.Eaches.{each-none, each-append, each-snoc}
 
 pub runs_of : (reports : List Reported) → (hunted reports).runs ≡ length reports
@@ -87,8 +90,85 @@ part_before q seed from end later part less is = record { taken = is.taken; with
 pub each_tells : (setup : Opening) (seed from runs : ℕ) (text : List ℕ) (racy : Bool) → TellsRuns setup seed from runs text racy → TellsEach setup from runs seed (status_of racy) text
 each_tells setup seed from runs text racy t = record { all = t.all; count = t.count; each = t.each; says = t.says; found = ap status_of t.found }
 
+pub if_ok : {A E : Type 0} (P Q : A → Type 0) (r : Result A E) → ((x : A) → P x → Q x) → IfOk r P → IfOk r Q
+if_ok P Q (Ok x) each holds = each x holds
+if_ok P Q (Err e) each holds = tt
+
 pub of_ok : {A E : Type 0} (P : A → Type 0) (r : Result A E) (x : A) → r ≡ Ok x → IfOk r P → P x
 of_ok P r x is holds = subst (λ o. IfOk o P) is holds
+
+-- ---- after which runs a hunt ends
+
+-- a run has one number of steps
+same_steps : (setup : Opening) (question : Question) (seed run : ℕ) (r other : Reported) → IsReportOfSeed setup question seed run r → IsReportOfSeed setup question seed run other → other.steps ≡ r.steps
+same_steps setup question seed run r other is too =
+    ap (λ (x : Reported). x.steps) too.told.told ∙ ap (λ (m : Ran). length m.steps) (is.only too.machine too.made) ∙ sym (ap (λ (x : Reported). x.steps) is.told.told)
+
+-- and so have the first runs
+first_steps : (setup : Opening) (question : Question) (seed from : ℕ) (xs ys : List Reported) → AreReports setup question seed from xs → AreReports setup question seed from ys → length xs ≤ length ys
+    → steps_of (take (length xs) ys) ≡ steps_of xs
+unfolding Each
+first_steps setup question seed from [] ys are too within = refl
+first_steps setup question seed from (x ∷ xs) [] are too within = absurd (let none : ⊥ = omega (arith, within) in none)
+first_steps setup question seed from (x ∷ xs) (y ∷ ys) are too within =
+    let one : y.steps ≡ x.steps = same_steps setup question seed from x y are.0 too.0 in
+    let rest : steps_of (take (length xs) ys) ≡ steps_of xs = first_steps setup question seed (from + 1) xs ys are.1 too.1 (omega (arith, within)) in
+    sum_by-cons (λ (r : Reported). r.steps) y (take (length xs) ys) ∙ (λ i. one i + rest i) ∙ sym (sum_by-cons (λ (r : Reported). r.steps) x xs)
+
+steps_in : (reports : List Reported) → (hunted reports).steps ≡ steps_of reports
+unfolding hunted
+steps_in reports = refl
+
+pub taken_steps : (q : Quarry) (seed from made : ℕ) (h : Sums) (taken : HasTaken q seed from made h) → h.steps ≡ steps_of taken.reports
+taken_steps q seed from made h taken = ap (λ (s : Sums). s.steps) taken.told ∙ steps_in taken.reports
+
+-- the hunt ends with none of the first runs, fewer than so many
+abbrev pub NoneEnds : Quarry → ℕ → ℕ → Option ℕ → ℕ → Type 0
+NoneEnds q seed from asked made =
+    (reports : List Reported) → AreReports q.setup q.asked seed from reports → (n : ℕ) → n < made → n ≤ length reports → ends_with asked (take n reports) ≡ false
+
+pub none_ends_yet : (q : Quarry) (seed from : ℕ) (asked : Option ℕ) → NoneEnds q seed from asked 0
+none_ends_yet q seed from asked = λ reports are n less within. absurd (let none : ⊥ = omega (arith, less) in none)
+
+-- it doesn't end with the runs that were made
+none_ends_here : (q : Quarry) (seed from made : ℕ) (asked : Option ℕ) (h : Sums) → HasTaken q seed from made h → ends_at asked made h.steps ≡ false
+    → (reports : List Reported) → AreReports q.setup q.asked seed from reports → made ≤ length reports → ends_with asked (take made reports) ≡ false
+none_ends_here q seed from made asked h taken goes reports are within =
+    let count = taken.count in
+    let long : length (take made reports) ≡ made = length-take-le made reports within in
+    let same : steps_of (take made reports) ≡ h.steps =
+    ap (λ n. steps_of (take n reports)) (sym count) ∙ first_steps q.setup q.asked seed from taken.reports reports taken.each are (omega (arith, count, within)) ∙ sym (taken_steps q seed from made h taken) in
+    (λ i. ends_at asked (long i) (same i)) ∙ goes
+
+-- nor with more runs before the next end
+pub none_ends_next : (q : Quarry) (seed from made all : ℕ) (asked : Option ℕ) (h : Sums) → HasTaken q seed from made h → NoneEnds q seed from asked made → ends_at asked made h.steps ≡ false
+    → ((n steps : ℕ) → made < n → n < all → ends_at asked n steps ≡ false) → NoneEnds q seed from asked all
+none_ends_next q seed from made all asked h taken none goes next = λ reports are n less within. by reports are n less within (nat_lt n made) refl (eqb n made) refl
+  where
+    by : (reports : List Reported) → AreReports q.setup q.asked seed from reports → (n : ℕ) → n < all → n ≤ length reports
+        → (before : Bool) → nat_lt n made ≡ before → (here : Bool) → eqb n made ≡ here → ends_with asked (take n reports) ≡ false
+    by reports are n less within true before here is = none reports are n (grind (arith, before)) within
+    by reports are n less within false before true is =
+        let same : n ≡ made = eqb-true n made is in
+        subst (λ k. ends_with asked (take k reports) ≡ false) (sym same) (none_ends_here q seed from made asked h taken goes reports are (omega (arith, same, within)))
+    by reports are n less within false before false is =
+        let long : length (take n reports) ≡ n = length-take-le n reports within in
+        ap (λ k. ends_at asked k (steps_of (take n reports))) long ∙ next n (steps_of (take n reports)) (grind (arith, before, is)) less
+
+-- all of them were made, or as many as were made when somebody ended it
+pub has_all : (q : Quarry) (seed from made : ℕ) (asked : Option ℕ) (stopped : Bool) (h : Sums) → HasTaken q seed from made h → NoneEnds q seed from asked made → 0 < made
+    → (stopped ≡ false → ends_at asked made h.steps ≡ true) → HasMade q seed from asked stopped h
+has_all q seed from made asked stopped h taken none some ends =
+    let count = taken.count in
+    record {
+      made = made;
+      taken = taken;
+      all = record {
+        some = omega (arith, count, some);
+        first = λ n less. none taken.reports taken.each n (omega (arith, count, less)) (omega (arith, less));
+        all = λ goes. (λ i. ends_at asked (count i) (sym (taken_steps q seed from made h taken) i)) ∙ ends goes;
+      };
+    }
 
 -- ---- a hunt
 
@@ -96,7 +176,7 @@ pub hunt_tells : (q : Quarry) (a : Asked) (stopped : Bool) (h : Sums) (text : Li
     → ((reports : List Reported) → h ≡ hunted reports → found ≡ list_any is_flawed reports) → text ≡ text_by a h → TellsHunt q.setup q.asked a stopped (status_of found) text
 hunt_tells q a stopped h text found has finds is = record {
   reports = has.taken.reports;
-  count = subst (AreMade stopped a.runs) (sym has.taken.count) has.count;
+  made = has.all;
   each = has.taken.each;
   says = is ∙ ap (text_by a) has.taken.told;
   found = ap status_of (finds has.taken.reports has.taken.told);

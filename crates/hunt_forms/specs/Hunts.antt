@@ -1,5 +1,5 @@
 -- The runs of a hunt, and what is written of them.
-use Rattle.std.specs.Prelude.{◌≡◌, ℕ, ◌+◌, Bool, true, false, List, ◌++◌, length, codes, Option, Some, None, ◌<◌, ◌≤◌, [], ◌∷◌, is_some, IsTrue, ◌↔◌, ◌^◌, if◌then◌else◌, Result, IfOk, OnOk, All, Vec}
+use Rattle.std.specs.Prelude.{◌≡◌, ℕ, ◌+◌, ◌%◌, ◌==◌, ◌||◌, ◌&&◌, nat_le, nat_lt, Bool, true, false, List, ◌++◌, length, take, codes, Option, Some, None, ◌<◌, ◌≤◌, [], ◌∷◌, is_some, is_none, IsTrue, ◌↔◌, ◌^◌, if◌then◌else◌, Result, IfOk, OnOk, All, Vec}
 use Rattle.std.specs.declared.alloc.AllocError.{AllocError}
 use Rattle.std.specs.declared.alloc.Global.{Global}
 use Rattle.hunt_forms.specs.declared.input.Quarry.{Quarry}
@@ -14,7 +14,7 @@ use Rattle.cell_hunt.specs.Runs.{IsRunOfSeed}
 use Rattle.cell_hunt.specs.Outcomes.{IsOutcome}
 use Rattle.cell_hunt.specs.declared.site.Sites.{Sites}
 use Rattle.reorder_laws.specs.Settled.{IsSettled}
-use Rattle.hunt_tally.specs.Reports.{Reported, Sums, hunted, is_flawed}
+use Rattle.hunt_tally.specs.Reports.{Reported, Sums, steps_of, hunted, is_flawed}
 use Rattle.hunt_texts.specs.Texts.{hunt_text}
 use Rattle.hunt_texts.specs.Jsons.{hunt_json}
 use Rattle.hunt_reports.specs.declared.asked.Asked.{Asked as Question}
@@ -26,7 +26,7 @@ use Rattle.hunt_forms.specs.declared.each.Told.{Told}
 use Rattle.hunt_forms.specs.declared.parts.Part.{Part}
 use Rattle.hunt_forms.specs.declared.team.Round.{Round}
 use Rattle.hunt_forms.specs.declared.words.Hunt.{Hunt}
-use Rattle.hunt_forms.specs.Words.{Asked}
+use Rattle.hunt_forms.specs.Words.{Asked, most_made}
 
 -- it holds of each element with its number, of which the first is n
 unfoldable pub Each : {X : Type 0} → (ℕ → X → Type 0) → ℕ → List X → Type 0
@@ -40,30 +40,45 @@ status_of true = Found
 
 -- ---- hunts
 
--- this is the report of run `run` of the seed
+-- this is the report of run `run` of the seed: there is one such run alone
 pub record IsReportOfSeed (setup : Opening) (question : Question) (seed run : ℕ) (r : Reported) : Type 0 where
   pub machine : Ran
   pub made : IsRunOfSeed setup seed run machine
+  pub only : (other : Ran) → IsRunOfSeed setup seed run other → other ≡ machine
   pub told : IsReport machine question r
 
 -- these are the reports of runs of the seed, as many as there are from number `from` on
 abbrev pub AreReports : Opening → Question → ℕ → ℕ → List Reported → Type 0
 AreReports setup question seed from reports = Each (IsReportOfSeed setup question seed) from reports
 
--- so many of the runs that are asked for were made: all, or some of them where somebody ended the hunt
-abbrev pub AreMade : Bool → ℕ → ℕ → Type 0
-AreMade false runs made = made ≡ runs
-AreMade true runs made = (0 < made) × (made ≤ runs)
+-- Whether a hunt ends after so many runs, which have so many steps together. With `--runs` it ends after as many as that says. Without it, it ends after
+-- 200, 300, 400, .. runs once these have 20,000,000 steps or more, and at the latest after 1,000.
+abbrev pub ends_at : Option ℕ → ℕ → ℕ → Bool
+ends_at (Some asked) runs steps = runs == asked
+ends_at None runs steps = runs == 1000 || (nat_le 200 runs && runs % 100 == 0 && nat_le 20000000 steps)
+
+abbrev pub ends_with : Option ℕ → List Reported → Bool
+ends_with asked reports = ends_at asked (length reports) (steps_of reports)
+
+-- These are the reports of all runs that a hunt makes: it ends with them, and with no fewer of them. Where somebody ended it there may be fewer, but some.
+pub record AreMade (stopped : Bool) (asked : Option ℕ) (reports : List Reported) : Type 0 where
+  pub some : 0 < length reports
+  pub first : (n : ℕ) → n < length reports → ends_with asked (take n reports) ≡ false
+  pub all : stopped ≡ false → ends_with asked reports ≡ true
+
+-- whether its steps ended a hunt that could have made more runs
+abbrev pub is_by_steps : Option ℕ → Sums → Bool
+is_by_steps asked h = is_none asked && nat_lt h.runs (most_made asked) && ends_at asked h.runs h.steps
 
 -- the text of what was found, in the form that is asked for
 abbrev pub text_by : Asked → Sums → List ℕ
-text_by a h = if a.json then hunt_json h a.seed a.from (is_some a.expect) else hunt_text h a.seed a.from (is_some a.expect)
+text_by a h = if a.json then hunt_json h a.seed a.from (is_some a.expect) else hunt_text h a.seed a.from (is_some a.expect) (is_by_steps a.runs h)
 
 -- The text tells the reports of the runs that are asked for, of the first ones alone where somebody ended the hunt, and the status whether one of
 -- them has a flaw.
 pub record TellsHunt (setup : Opening) (question : Question) (a : Asked) (stopped : Bool) (status : Status) (text : List ℕ) : Type 0 where
   pub reports : List Reported
-  pub count : AreMade stopped a.runs (length reports)
+  pub made : AreMade stopped a.runs reports
   pub each : AreReports setup question a.seed a.from reports
   pub says : text ≡ text_by a (hunted reports)
   pub found : status ≡ status_of (list_any is_flawed reports)
@@ -120,11 +135,11 @@ pub record HasTaken (q : Quarry) (seed from made : ℕ) (h : Sums) : Type 0 wher
   pub each : AreReports q.setup q.asked seed from reports
   pub told : h ≡ hunted reports
 
--- so many of the runs that are asked for were made, and this was taken in of them
-pub record HasMade (q : Quarry) (seed from runs : ℕ) (stopped : Bool) (h : Sums) : Type 0 where
+-- the runs of a hunt were made, and this was taken in of them
+pub record HasMade (q : Quarry) (seed from : ℕ) (asked : Option ℕ) (stopped : Bool) (h : Sums) : Type 0 where
   pub made : ℕ
   pub taken : HasTaken q seed from made h
-  pub count : AreMade stopped runs made
+  pub all : AreMade stopped asked taken.reports
 
 -- so many runs were made and taken in, and those of a round can be made behind them
 pub record IsNext (q : Quarry) (hunt : Hunt) (made : ℕ) (round : Round) (h : Sums) : Type 0 where

@@ -12,9 +12,9 @@ use Rattle.hunt_forms.specs.declared.words.Hunt.{Hunt}
 -- a hunt that is asked for
 pub record Asked : Type 0 where
   pub machine : Word
-  -- the number of the first run, and how many
+  -- the number of the first run, and how many, where it is said
   pub from : ℕ
-  pub runs : ℕ
+  pub runs : Option ℕ
   pub seed : ℕ
   -- on how many threads, where it is said
   pub jobs : Option ℕ
@@ -66,10 +66,18 @@ positive n = if nat_lt 0 n then Some n else None
 abbrev pub count_within : ℕ → Word → Option ℕ
 count_within limit word = number_within limit word >>= positive
 
--- how many runs, 200 where it isn't said
-abbrev pub runs_said : Option Word → Option ℕ
-runs_said None = Some 200
-runs_said (Some word) = count_within most_runs word
+-- how many runs, where it is said
+abbrev pub runs_said : Option Word → Option (Option ℕ)
+runs_said None = Some None
+runs_said (Some word) = option_map Some (count_within most_runs word)
+
+-- how many runs a hunt makes at most, 1,000 where it isn't said
+abbrev pub most_made : Option ℕ → ℕ
+most_made runs = unwrap_or runs 1000
+
+-- of how many runs each is told, 200 where it isn't said
+abbrev pub told_runs : Option ℕ → ℕ
+told_runs runs = unwrap_or runs 200
 
 -- the seed, 1 where it isn't said
 abbrev pub seed_said : Option Word → Option ℕ
@@ -92,12 +100,12 @@ is_plain s = is_none s.jobs && is_none s.expect && is_none s.pass && is_none s.u
 
 abbrev pub hunt_said : Said → Word → Option Word → Option Word → Option Spoken
 hunt_said s machine runs seed =
-    runs_said runs >>= λ runs. seed_said seed >>= λ seed. from_said s.from runs >>= λ from. jobs_said s.jobs >>= λ jobs.
+    runs_said runs >>= λ runs. seed_said seed >>= λ seed. from_said s.from (most_made runs) >>= λ from. jobs_said s.jobs >>= λ jobs.
     Some (hunt (record { machine = machine; from = from; runs = runs; seed = seed; jobs = jobs; expect = s.expect; pass = s.pass; until = s.until; json = s.json }))
 
 abbrev pub each_said : Said → Word → Option Word → Option Word → Option Spoken
 each_said s machine runs seed =
-    if is_plain s then (runs_said runs >>= λ runs. seed_said seed >>= λ seed. from_said s.from runs >>= λ from. Some (each machine from runs seed))
+    if is_plain s then (runs_said runs >>= λ runs. seed_said seed >>= λ seed. from_said s.from (told_runs runs) >>= λ from. Some (each machine from (told_runs runs) seed))
     else None
 
 abbrev pub record_said : Said → Word → Option Word → Option Word → Option Spoken
@@ -153,6 +161,6 @@ pub record AreRuns (from runs : ℕ) : Type 0 where
   pub numbered : from + runs ≤ most_run
 
 abbrev pub IsWithin : Form → Type 0
-IsWithin (form.Hunt h) = AreRuns h.from h.runs × IfSome h.jobs (λ jobs. (0 < jobs) × (jobs ≤ most_jobs))
+IsWithin (form.Hunt h) = AreRuns h.from (most_made h.runs) × IfSome h.jobs (λ jobs. (0 < jobs) × (jobs ≤ most_jobs))
 IsWithin (form.Each machine from runs seed) = AreRuns from runs
 IsWithin other = Unit {0}

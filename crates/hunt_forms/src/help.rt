@@ -9,7 +9,7 @@ pub const HELP: &[u8] = b"usage: hunt MACHINE [OPTION..]
 Makes many runs of a machine, in orders by chance that a seed chooses, and tells what was found. `each` tells of each run how it ends and its
 race, or whether it is settled. `record` prints run K as `cell run` does.
 
-  --runs N       so many runs, 1 to 1,000,000 (200)
+  --runs N       so many runs, 1 to 1,000,000 (1,000, but none after 200, 300, .. runs that have 20,000,000 steps; 200 for `each`)
   --seed S       the seed that chooses the orders (1)
   --from K       the number of the first run (0)
   --jobs N       on so many threads, 1 to 256 (as many as there are cores)

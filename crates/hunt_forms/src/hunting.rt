@@ -1,18 +1,19 @@
 //! The runs of a hunt, round by round.
 
-ghost use Rattle.std.specs.Prelude.{[], ◌≡◌, ◌≤◌, ◌<◌, length, OnOk, IsTrue, IsFalse};
+ghost use Rattle.std.specs.Prelude.{[], ◌≡◌, ◌≤◌, ◌<◌, true, false, length, OnOk, IsTrue, IsFalse};
 ghost use Rattle.hunt_tally.specs.Reports.{hunted};
-ghost use Rattle.hunt_forms.specs.Words.{AreRuns};
-ghost use Rattle.hunt_forms.specs.Hunts.{AreMade, HasMade, MakesRounds};
+ghost use Rattle.hunt_forms.specs.Words.{most_made, AreRuns};
+ghost use Rattle.hunt_forms.specs.Hunts.{ends_at, HasMade, MakesRounds};
 
+use crate::ending::{ends_at, next_end};
 use crate::input::Quarry;
 use crate::progress::Progress;
 use crate::team::{Round, Team};
-use crate::words::{Hunt, MOST_JOBS};
+use crate::words::{Hunt, MOST_JOBS, most_made};
 use hunt_tally::Hunted;
 use std::alloc::AllocError;
 
-/// What is made next of the runs that are left, on at most so many threads, of which each wants to make so many.
+/// What is made next of the runs that are left to the next end, on at most so many threads, of which each wants to make so many.
 fn next_round(left: u32, most: u32, wanted: u32) -> Round
     requires left { 0 < left }
     requires most { 0 < most }
@@ -26,17 +27,17 @@ fn next_round(left: u32, most: u32, wanted: u32) -> Round
     }
 }
 
-/// Whether more runs are made: the first ones always, and then while some are left and nobody ends the hunt.
-fn goes_on<P: Progress>(made: u32, runs: u32, progress: &mut P) -> bool
-    requires some { 0 < runs }
-    requires made { made ≤ runs }
-    ensures left { IsTrue result → made < runs }
-    ensures ended { IsFalse result → AreMade (P.stopped progress.new) runs made }
+/// Whether more runs are made: some always, and then until the hunt ends or somebody ends it.
+fn goes_on<P: Progress>(asked: Option<u32>, made: u32, steps: u64, progress: &mut P) -> bool
+    requires { 0 < most_made asked }
+    ensures more { IsTrue result → ends_at asked made steps ≡ false }
+    ensures some { IsFalse result → 0 < made }
+    ensures ended { IsFalse result → P.stopped progress.new ≡ false → ends_at asked made steps ≡ true }
 {
-    made == 0 || made < runs && progress.goes_on()
+    !ends_at(asked, made, steps) && (made == 0 || progress.goes_on())
 }
 
-/// Makes the runs of a hunt round by round, until all are made or somebody ends it, and takes their reports in.
+/// Makes the runs of a hunt round by round, until it ends or somebody ends it, and takes their reports in.
 fn make_rounds<F, P>(
     team: &Team<F>,
     quarry: &Quarry,
@@ -49,17 +50,18 @@ where
     P: Progress,
     requires makes { MakesRounds (F.pre team.now.make) (F.post team.now.make) }
     requires some { 0 < length quarry.now.setup.entries }
-    requires within { AreRuns hunt.now.from hunt.now.runs }
+    requires within { AreRuns hunt.now.from (most_made hunt.now.runs) }
     requires none { sums.old ≡ hunted [] }
     ensures { OnOk result (HasMade quarry.now hunt.now.seed hunt.now.from hunt.now.runs (P.stopped progress.new) sums.new) }
 {
     let most = hunt.jobs.unwrap_or(team.cores).clamp(1, MOST_JOBS);
     let mut made = 0;
-    while goes_on(made, hunt.runs, progress) {
-        let round = next_round(hunt.runs - made, most, progress.share());
+    while goes_on(hunt.runs, made, sums.steps(), progress) {
+        let left = next_end(hunt.runs, made) - made;
+        let round = next_round(left, most, progress.share());
         (team.make)(quarry, hunt, made, round, sums)?;
         made += round.runs;
-        progress.show(sums, hunt.runs);
+        progress.show(sums, most_made(hunt.runs));
     }
     Ok(())
 }
@@ -78,7 +80,7 @@ where
     P: Progress,
     requires makes { MakesRounds (F.pre team.now.make) (F.post team.now.make) }
     requires some { 0 < length quarry.now.setup.entries }
-    requires within { AreRuns hunt.now.from hunt.now.runs }
+    requires within { AreRuns hunt.now.from (most_made hunt.now.runs) }
     requires none { sums.old ≡ hunted [] }
     ensures { OnOk result (HasMade quarry.now hunt.now.seed hunt.now.from hunt.now.runs (P.stopped progress.new) sums.new) }
 {

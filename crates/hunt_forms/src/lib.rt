@@ -2,6 +2,7 @@
 #![tactic(auto)]
 
 mod each;
+mod ending;
 mod expected;
 mod fault;
 mod heard;

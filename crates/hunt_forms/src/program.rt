@@ -3,11 +3,12 @@
 ghost use Rattle.std.specs.Prelude.{[], ◌≡◌, ◌≢◌, ◌≤◌, ◌<◌, Bool, length, map, string_bytes, IfOk};
 ghost use Rattle.hunt_tally.specs.Reports.{hunted};
 ghost use Rattle.hunt_forms.specs.declared.fault.Fault.{Fault as AFault};
-ghost use Rattle.hunt_forms.specs.Words.{spoken, asked, AreRuns, hunt, each, record_of};
+ghost use Rattle.hunt_forms.specs.Words.{spoken, asked, most_made, AreRuns, hunt, each, record_of};
 ghost use Rattle.hunt_forms.specs.Hunts.{status_of, text_by, TellsHunt, TellsEach, IsNext, MakesRounds};
 ghost use Rattle.hunt_forms.specs.Answers.{Promises, TellsRun, EndsText, EndsBy};
 
 use crate::each::tell_each;
+use crate::ending::is_by_steps;
 use crate::fault::{Fault, Status};
 use crate::help::HELP;
 use crate::hunting::hunt_runs;
@@ -57,7 +58,8 @@ fn text_of(alloc: Global, hunted: &Hunted, hunt: &Hunt) -> Result<Vec<u8>, Alloc
     if hunt.json {
         hunt_json(alloc, hunted, hunt.seed, hunt.from, expects)
     } else {
-        hunt_text(alloc, hunted, hunt.seed, hunt.from, expects)
+        let by_steps = is_by_steps(hunt.runs, hunted);
+        hunt_text(alloc, hunted, hunt.seed, hunt.from, expects, by_steps)
     }
 }
 
@@ -75,7 +77,7 @@ where
     P: Progress,
     requires makes { MakesRounds (F.pre team.now.make) (F.post team.now.make) }
     requires some { 0 < length quarry.now.setup.entries }
-    requires within { AreRuns hunt.now.from hunt.now.runs }
+    requires within { AreRuns hunt.now.from (most_made hunt.now.runs) }
     requires none { sums.old ≡ hunted [] }
     ensures { IfOk result (λ told. TellsHunt quarry.now.setup quarry.now.asked (asked hunt.now) (P.stopped progress.new) (status_of told.1) told.0.items) }
 {
@@ -97,7 +99,7 @@ where
     P: Progress,
     requires makes { MakesRounds (F.pre team.now.make) (F.post team.now.make) }
     requires some { 0 < length quarry.now.setup.entries }
-    requires within { AreRuns hunt.now.from hunt.now.runs }
+    requires within { AreRuns hunt.now.from (most_made hunt.now.runs) }
     ensures { IfOk result (λ told. TellsHunt quarry.now.setup quarry.now.asked (asked hunt.now) (P.stopped progress.new) (status_of told.1) told.0.items) }
 {
     let mut sums = Hunted::new(alloc);
@@ -119,7 +121,7 @@ where
     P: Progress,
     requires makes { MakesRounds (F.pre team.now.make) (F.post team.now.make) }
     requires some { 0 < length quarry.now.setup.entries }
-    requires within { AreRuns hunt.now.from hunt.now.runs }
+    requires within { AreRuns hunt.now.from (most_made hunt.now.runs) }
     ensures sink_count { K.faults out.old ≤ K.faults out.new }
     ensures ends { EndsBy (TellsHunt quarry.now.setup quarry.now.asked (asked hunt.now) (P.stopped progress.new)) (record { taken = K.taken out.old; faults = K.faults out.old }) (record { taken = K.taken out.new; faults = K.faults out.new }) result }
 {
@@ -144,7 +146,7 @@ where
     K: Sink,
     P: Progress,
     requires makes { MakesRounds (F.pre team.now.make) (F.post team.now.make) }
-    requires within { AreRuns wanted.now.from wanted.now.runs }
+    requires within { AreRuns wanted.now.from (most_made wanted.now.runs) }
     ensures { Promises (hunt (asked wanted.now)) (P.stopped progress.new)
         (record { files = T.files files.old; ledger = T.ledger files.old }) (record { files = T.files files.new; ledger = T.ledger files.new })
         (record { taken = K.taken out.old; faults = K.faults out.old }) (record { taken = K.taken out.new; faults = K.faults out.new }) result }

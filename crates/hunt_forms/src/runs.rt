@@ -15,7 +15,7 @@ fn report_of_run(alloc: Global, quarry: &Quarry, seed: u64, run: u32) -> Result<
     ensures { IfOk result (IsReportOfSeed quarry.now.setup quarry.now.asked seed run) }
 {
     match run_of_seed(alloc, &quarry.setup, seed, run) {
-        Ok(run) => report_of(alloc, &run, &quarry.asked),
+        Ok(made) => report_of(alloc, &made, &quarry.asked),
         Err(_) => Err(AllocError),
     }
 }

@@ -3,15 +3,18 @@
 ghost use Rattle.std.specs.Prelude.{◌≡◌, ◌≤◌, ◌<◌, ◌+◌, Some, IfSome, map, option_and_then, string_bytes};
 ghost use Rattle.std.specs.Option.{option_map};
 ghost use Rattle.hunt_forms.specs.Heard.{heard, texts_of, silent, said_on};
-ghost use Rattle.hunt_forms.specs.Words.{asks_help, count_within, either, number_or, runs_said, seed_said, from_said, jobs_said, is_plain, hunt_said, each_said, record_said, placed, form_said, spoken, said, most_runs, most_run, most_jobs, IsWithin};
+ghost use Rattle.hunt_forms.specs.Words.{asks_help, count_within, either, number_or, runs_said, most_made, told_runs, seed_said, from_said, jobs_said, is_plain, hunt_said, each_said, record_said, placed, form_said, spoken, said, most_runs, most_run, most_jobs, IsWithin};
 
 use crate::heard::{Heard, hear};
 use crate::numbers::number_of;
 
-/// How many runs a hunt may make, and how many where the words don't say.
+/// How many runs a hunt may make, and how many it makes at most if the words don't say.
 const MOST_RUNS: u32 = 1_000_000;
 
-const FEW_RUNS: u32 = 200;
+pub const DEFAULT_RUNS: u32 = 1000;
+
+/// Of how many runs each is told if the words don't say.
+const DEFAULT_TOLD: u32 = 200;
 
 /// On how many threads a hunt may run.
 pub const MOST_JOBS: u32 = 256;
@@ -20,9 +23,9 @@ pub const MOST_JOBS: u32 = 256;
 #[derive(Clone, Copy)]
 pub struct Hunt<'a> {
     pub machine: &'a str,
-    /// The number of the first run, and how many.
+    /// The number of the first run, and how many, where it is said.
     pub from: u32,
-    pub runs: u32,
+    pub runs: Option<u32>,
     pub seed: u64,
     /// On how many threads, where it is said.
     pub jobs: Option<u32>,
@@ -76,14 +79,30 @@ fn count_of(word: &str, limit: u32) -> Option<u32>
     if n > 0 { Some(n as u32) } else { None }
 }
 
-fn runs_of(word: Option<&str>) -> Option<u32>
+fn runs_of(word: Option<&str>) -> Option<Option<u32>>
     ensures value { result ≡ runs_said (texts_of word.entry) }
-    ensures bounds { IfSome result (λ n. (0 < n) × (n ≤ most_runs)) }
+    ensures bounds { IfSome result (λ runs. IfSome runs (λ n. (0 < n) × (n ≤ most_runs))) }
 {
     match word {
-        Some(word) => count_of(word, MOST_RUNS),
-        None => Some(FEW_RUNS),
+        Some(word) => Some(Some(count_of(word, MOST_RUNS)?)),
+        None => Some(None),
     }
+}
+
+/// How many runs a hunt makes at most.
+pub fn most_made(runs: Option<u32>) -> u32
+    ensures value { result ≡ most_made runs }
+    ensures bounds { IfSome runs (λ n. (0 < n) × (n ≤ most_runs)) → (0 < result) × (result ≤ most_runs) }
+{
+    runs.unwrap_or(DEFAULT_RUNS)
+}
+
+/// Of how many runs each is told.
+fn told_runs(runs: Option<u32>) -> u32
+    ensures value { result ≡ told_runs runs }
+    ensures bounds { IfSome runs (λ n. (0 < n) × (n ≤ most_runs)) → (0 < result) × (result ≤ most_runs) }
+{
+    runs.unwrap_or(DEFAULT_TOLD)
 }
 
 fn seed_of(word: Option<&str>) -> Option<u64>
@@ -151,7 +170,7 @@ fn hunt_form<'a>(
 {
     let runs = runs_of(runs)?;
     let seed = seed_of(seed)?;
-    let from = from_of(words.from, runs)?;
+    let from = from_of(words.from, most_made(runs))?;
     let jobs = jobs_of(words.jobs)?;
     Some(Form::Hunt(Hunt {
         machine,
@@ -178,7 +197,7 @@ fn each_form<'a>(
     if !is_plain(words) {
         return None;
     }
-    let runs = runs_of(runs)?;
+    let runs = told_runs(runs_of(runs)?);
     let seed = seed_of(seed)?;
     let from = from_of(words.from, runs)?;
     Some(Form::Each {

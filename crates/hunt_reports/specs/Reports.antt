@@ -21,9 +21,9 @@ use Rattle.hunt_reports.specs.Lists.{bytes_in}
 abbrev pub is_some : {X : Type 0} → List X → Bool
 is_some xs = not (length xs == 0)
 
--- by how the processors ended, the end word, what is left, the races that it tells, whether one was left out, the lines that it misses, and its kind
-abbrev pub report_by : List Ended → End → List ℕ → List Tells → Bool → List (List ℕ) → ℕ → Reported
-report_by spes end left races leaves missed kind = record {
+-- by how the processors ended, the end word, what is left, the races that it tells, whether one was left out, the lines that it misses, its kind and how many steps it has
+abbrev pub report_by : List Ended → End → List ℕ → List Tells → Bool → List (List ℕ) → ℕ → ℕ → Reported
+report_by spes end left races leaves missed kind steps = record {
   flaws = record {
     race = is_some races;
     stuck = is_stuck end;
@@ -38,13 +38,14 @@ report_by spes end left races leaves missed kind = record {
   missed = missed;
   leaves_out = leaves;
   kind = kind;
+  steps = steps;
 }
 
--- the report of a run that ends so in state M, shows these ranges, has these races, and is of this kind
-abbrev pub report_in : State → List Show → End → List Racing → ℕ → Asked → Reported
-report_in M shows end races kind asked =
+-- the report of a run that ends so in state M, shows these ranges, has these races, is of this kind, and has so many steps
+abbrev pub report_in : State → List Show → End → List Racing → ℕ → ℕ → Asked → Reported
+report_in M shows end races kind steps asked =
     report_by (map ended_in M.spes) end (result_of M shows) (races_told asked.places (bytes_in asked.passed.items) races)
-    (leaves_out asked.places (bytes_in asked.passed.items) races) (missed_in (states_of M shows (Some end)) (bytes_in asked.expected.items)) kind
+    (leaves_out asked.places (bytes_in asked.passed.items) races) (missed_in (states_of M shows (Some end)) (bytes_in asked.expected.items)) kind steps
 
 -- this is the report of the run
 pub record IsReport (run : Ran) (asked : Asked) (r : Reported) : Type 0 where
@@ -54,4 +55,4 @@ pub record IsReport (run : Ran) (asked : Asked) (r : Reported) : Type 0 where
   pub ended : IsEnd state run.setup.budget (Some end)
   pub races : List Racing
   pub all : AreAllRaces run races
-  pub told : r ≡ report_in state run.setup.shows end races (kind_of run) asked
+  pub told : r ≡ report_in state run.setup.shows end races (kind_of run) (length run.steps) asked

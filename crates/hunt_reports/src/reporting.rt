@@ -1,6 +1,6 @@
 //! The report of a run.
 
-ghost use Rattle.std.specs.Prelude.{◌≡◌, Some, IfOk};
+ghost use Rattle.std.specs.Prelude.{◌≡◌, length, Some, IfOk};
 ghost use Rattle.cell_machine.specs.declared.status.End.{End as AnEnd};
 ghost use Rattle.cell_machine.specs.State.{State};
 ghost use Rattle.cell_machine.specs.Run.{state_of, IsEnd};
@@ -47,6 +47,13 @@ fn missed_of(
     }
 }
 
+/// How many steps a run has.
+fn steps_of(machine: &Machine) -> u32
+    ensures { result ≡ length machine.now.steps }
+{
+    machine.steps().len() as u32
+}
+
 /// The report by its parts.
 fn report_by(
     spes: &[Ended],
@@ -56,9 +63,10 @@ fn report_by(
     races: Races,
     missed: Vec<Vec<u8>>,
     kind: u64,
+    steps: u32,
 ) -> Report
     requires { ending.items ≡ ending_text end spes.now }
-    ensures { result ≡ report_by spes.now end left.items races.told.items races.leaves_out (bytes_in missed.items) kind }
+    ensures { result ≡ report_by spes.now end left.items races.told.items races.leaves_out (bytes_in missed.items) kind steps }
 {
     let flaws = Flaws {
         race: !races.told.is_empty(),
@@ -77,6 +85,7 @@ fn report_by(
         missed,
         leaves_out,
         kind,
+        steps,
     }
 }
 
@@ -99,5 +108,6 @@ pub fn report_of(alloc: Global, run: &SeedRun, asked: &Asked) -> Result<Report, 
         races,
         missed,
         run.kind(),
+        steps_of(machine),
     ))
 }

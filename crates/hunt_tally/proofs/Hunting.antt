@@ -8,7 +8,7 @@ use Rattle.std.proofs.lemmas.List.Sums.{fold_push, sum_by_push, sum_by-cons}
 use Rattle.hunt_tally.specs.Tallies.{Took, tallied}
 use Rattle.hunt_tally.specs.Counting.{first_of, count_of, noted}
 use Rattle.hunt_tally.specs.Kinds.{kinds_of, with_run}
-use Rattle.hunt_tally.specs.Reports.{Reported, is_flawed, all_stopped, ending_told, result_told, missed_told, flaws_of, Sums, hunted, has_flaw}
+use Rattle.hunt_tally.specs.Reports.{Reported, is_flawed, all_stopped, ending_told, result_told, missed_told, flaws_of, Sums, steps_of, hunted, has_flaw}
 use Rattle.hunt_tally.proofs.Taking.{none_counted, first_within}
 
 module _ {X : Type 0} (test : X → Bool) where
@@ -97,6 +97,7 @@ pub more : (reports : List Reported) (r : Reported) → hunted (reports ++ r ∷
   runs = length reports + 1;
   all_stopped = count_by all_stopped reports + cond (all_stopped r) 1 0;
   left_out = count_by (λ (x : Reported). x.leaves_out) reports + cond r.leaves_out 1 0;
+  steps = steps_of reports + r.steps;
   flaws = record {
     race = noted (length reports) r.flaws.race (flaws_of reports).race;
     stuck = noted (length reports) r.flaws.stuck (flaws_of reports).stuck;
@@ -116,6 +117,7 @@ more reports r = λ i. record {
   runs = length_push reports r i;
   all_stopped = count_push all_stopped reports r i;
   left_out = count_push (λ (x : Reported). x.leaves_out) reports r i;
+  steps = sum_by_push (λ (x : Reported). x.steps) reports r i;
   flaws = record {
     race = noted_is (λ (x : Reported). x.flaws.race) reports r i;
     stuck = noted_is (λ (x : Reported). x.flaws.stuck) reports r i;
@@ -136,6 +138,7 @@ pub record IsMore (r : Reported) (old new : Sums) : Type 0 where
   pub runs : new.runs ≡ old.runs + 1
   pub all_stopped : new.all_stopped ≡ old.all_stopped + cond (all_stopped r) 1 0
   pub left_out : new.left_out ≡ old.left_out + cond r.leaves_out 1 0
+  pub steps : new.steps ≡ old.steps + r.steps
   pub race : new.flaws.race ≡ noted old.runs r.flaws.race old.flaws.race
   pub stuck : new.flaws.stuck ≡ noted old.runs r.flaws.stuck old.flaws.stuck
   pub budget : new.flaws.budget ≡ noted old.runs r.flaws.budget old.flaws.budget
@@ -154,6 +157,7 @@ took_report r old new is reports e = (λ i. record {
   runs = (is.runs ∙ ap (λ (s : Sums). s.runs + 1) e) i;
   all_stopped = (is.all_stopped ∙ ap (λ (s : Sums). s.all_stopped + cond (all_stopped r) 1 0) e) i;
   left_out = (is.left_out ∙ ap (λ (s : Sums). s.left_out + cond r.leaves_out 1 0) e) i;
+  steps = (is.steps ∙ ap (λ (s : Sums). s.steps + r.steps) e) i;
   flaws = record {
     race = (is.race ∙ ap (λ (s : Sums). noted s.runs r.flaws.race s.flaws.race) e) i;
     stuck = (is.stuck ∙ ap (λ (s : Sums). noted s.runs r.flaws.stuck s.flaws.stuck) e) i;
@@ -174,7 +178,7 @@ pub no_flaws : record { race = record { runs = 0; first = 0 }; stuck = record { 
 unfolding flaws_of count_of
 no_flaws = refl
 
-pub no_runs : record { runs = 0; all_stopped = 0; left_out = 0; flaws = flaws_of []; kinds = []; endings = tallied []; results = tallied []; races = tallied []; missed = tallied [] } ≡ hunted []
+pub no_runs : record { runs = 0; all_stopped = 0; left_out = 0; steps = 0; flaws = flaws_of []; kinds = []; endings = tallied []; results = tallied []; races = tallied []; missed = tallied [] } ≡ hunted []
 unfolding hunted
 no_runs = refl
 

@@ -83,6 +83,7 @@ pub record AreBoth (here behind new : Sums) : Type 0 where
   pub runs : new.runs ≡ here.runs + behind.runs
   pub all_stopped : new.all_stopped ≡ here.all_stopped + behind.all_stopped
   pub left_out : new.left_out ≡ here.left_out + behind.left_out
+  pub steps : new.steps ≡ here.steps + behind.steps
   pub race : new.flaws.race ≡ with_count here.runs here.flaws.race behind.flaws.race
   pub stuck : new.flaws.stuck ≡ with_count here.runs here.flaws.stuck behind.flaws.stuck
   pub budget : new.flaws.budget ≡ with_count here.runs here.flaws.budget behind.flaws.budget
@@ -101,6 +102,7 @@ hunted_both here behind new is xs ys a b = λ i. record {
   runs = (is.runs ∙ (λ j. (a j).runs + (b j).runs) ∙ sym (length-append xs ys)) i;
   all_stopped = (is.all_stopped ∙ (λ j. (a j).all_stopped + (b j).all_stopped) ∙ sym (sum_by-append (λ (r : Reported). cond (all_stopped r) 1 0) xs ys)) i;
   left_out = (is.left_out ∙ (λ j. (a j).left_out + (b j).left_out) ∙ sym (sum_by-append (λ (r : Reported). cond r.leaves_out 1 0) xs ys)) i;
+  steps = (is.steps ∙ (λ j. (a j).steps + (b j).steps) ∙ sym (sum_by-append (λ (r : Reported). r.steps) xs ys)) i;
   flaws = record {
     race = (is.race ∙ (λ j. with_count (a j).runs (a j).flaws.race (b j).flaws.race) ∙ counts_joined (λ (r : Reported). r.flaws.race) xs ys) i;
     stuck = (is.stuck ∙ (λ j. with_count (a j).runs (a j).flaws.stuck (b j).flaws.stuck) ∙ counts_joined (λ (r : Reported). r.flaws.stuck) xs ys) i;
@@ -118,12 +120,13 @@ hunted_both here behind new is xs ys a b = λ i. record {
 
 -- and none of them is more than all runs, also where not all was taken in
 pub within_both : (here behind new : Sums) → IsWithin here → IsWithin behind → new.runs ≡ here.runs + behind.runs → new.all_stopped ≡ here.all_stopped + behind.all_stopped
-    → new.left_out ≡ here.left_out + behind.left_out → AreWithin (here.runs + behind.runs) new.flaws → runs_of new.kinds ≤ runs_of here.kinds + runs_of behind.kinds
+    → new.left_out ≡ here.left_out + behind.left_out → new.steps ≡ here.steps + behind.steps → AreWithin (here.runs + behind.runs) new.flaws → runs_of new.kinds ≤ runs_of here.kinds + runs_of behind.kinds
     → new.endings.runs ≤ here.endings.runs + behind.endings.runs → new.results.runs ≤ here.results.runs + behind.results.runs
     → new.races.runs ≤ here.races.runs + behind.races.runs → new.missed.runs ≤ here.missed.runs + behind.missed.runs → IsWithin new
-within_both here behind new a b runs stopped out flaws kinds endings results races missed = record {
+within_both here behind new a b runs stopped out steps flaws kinds endings results races missed = record {
   all_stopped = omega (arith, runs, stopped, a.all_stopped, b.all_stopped);
   left_out = omega (arith, runs, out, a.left_out, b.left_out);
+  steps = omega (arith, runs, steps, a.steps, b.steps);
   flaws = subst (λ n. AreWithin n new.flaws) (sym runs) flaws;
   kinds = omega (arith, runs, kinds, a.kinds, b.kinds);
   endings = omega (arith, runs, endings, a.endings, b.endings);

@@ -1,5 +1,5 @@
 -- The counts are those of runs that were taken in.
-use Rattle.std.specs.Prelude.{ℕ, ◌≤◌}
+use Rattle.std.specs.Prelude.{ℕ, ◌≤◌, ◌*◌, ◌^◌}
 use Rattle.hunt_tally.specs.declared.count.Count.{Count}
 use Rattle.hunt_tally.specs.declared.flaws.FlawCounts.{FlawCounts}
 use Rattle.hunt_tally.specs.Kinds.{runs_of}
@@ -20,6 +20,8 @@ pub record AreWithin (runs : ℕ) (c : FlawCounts) : Type 0 where
 pub record IsWithin (s : Sums) : Type 0 where
   pub all_stopped : s.all_stopped ≤ s.runs
   pub left_out : s.left_out ≤ s.runs
+  -- a run has fewer than 2 ^ 32 steps
+  pub steps : s.steps ≤ s.runs * 2 ^ 32
   pub flaws : AreWithin s.runs s.flaws
   pub kinds : runs_of s.kinds ≤ s.runs
   pub endings : s.endings.runs ≤ s.runs

@@ -1,6 +1,6 @@
 -- What one run tells, and what runs tell together.
 use Rattle.std.specs.Prelude.{ℕ, ◌+◌, Bool, not, ◌||◌, nat_lt, List, [], ◌∷◌, ◌++◌, map, length, drop}
-use Rattle.std.specs.List.{count_by}
+use Rattle.std.specs.List.{count_by, sum_by}
 use Rattle.cell_base.specs.Records.{line_feed}
 use Rattle.hunt_tally.specs.declared.flaws.Flaws.{Flaws}
 use Rattle.hunt_tally.specs.declared.flaws.FlawCounts.{FlawCounts}
@@ -18,6 +18,7 @@ pub record Reported : Type 0 where
   pub missed : List (List ℕ)
   pub leaves_out : Bool
   pub kind : ℕ  -- its digest
+  pub steps : ℕ  -- how many
 
 -- whether something went wrong in it
 abbrev pub is_flawed : Reported → Bool
@@ -59,11 +60,16 @@ flaws_of reports = record {
   missed = count_of (λ (r : Reported). r.flaws.missed) reports;
 }
 
+-- how many steps the runs have
+abbrev pub steps_of : List Reported → ℕ
+steps_of reports = sum_by (λ (r : Reported). r.steps) reports
+
 -- what runs tell together
 pub record Sums : Type 0 where
   pub runs : ℕ
   pub all_stopped : ℕ
   pub left_out : ℕ
+  pub steps : ℕ
   pub flaws : FlawCounts
   pub kinds : List Kind
   pub endings : Tallied
@@ -77,6 +83,7 @@ hunted reports = record {
   runs = length reports;
   all_stopped = count_by all_stopped reports;
   left_out = count_by (λ (r : Reported). r.leaves_out) reports;
+  steps = steps_of reports;
   flaws = flaws_of reports;
   kinds = kinds_of (map (λ (r : Reported). r.kind) reports);
   endings = tallied (map ending_told reports);

@@ -21,6 +21,8 @@ pub struct Hunted {
     runs: u32,
     all_stopped: u32,
     left_out: u32,
+    /// How many steps all of them have.
+    steps: u64,
     flaws: FlawCounts,
     kinds: Kinds,
     /// The different endings, results within an ending, races, and expected lines that aren't there.
@@ -36,9 +38,9 @@ impl Model for Hunted {
 
     ghost Value = { Sums };
 
-    ghost view = { λ h. record { runs = h.runs; all_stopped = h.all_stopped; left_out = h.left_out; flaws = h.flaws; kinds = h.kinds; endings = h.endings; results = h.results; races = h.races; missed = h.missed } };
+    ghost view = { λ h. record { runs = h.runs; all_stopped = h.all_stopped; left_out = h.left_out; steps = h.steps; flaws = h.flaws; kinds = h.kinds; endings = h.endings; results = h.results; races = h.races; missed = h.missed } };
 
-    ghost invariant = { λ h. IsWithin (record { runs = h.runs; all_stopped = h.all_stopped; left_out = h.left_out; flaws = h.flaws; kinds = h.kinds; endings = h.endings; results = h.results; races = h.races; missed = h.missed }) };
+    ghost invariant = { λ h. IsWithin (record { runs = h.runs; all_stopped = h.all_stopped; left_out = h.left_out; steps = h.steps; flaws = h.flaws; kinds = h.kinds; endings = h.endings; results = h.results; races = h.races; missed = h.missed }) };
 }
 
 /// One more, where it is so.
@@ -86,6 +88,7 @@ impl Hunted {
             runs: 0,
             all_stopped: 0,
             left_out: 0,
+            steps: 0,
             flaws: FlawCounts::new(),
             kinds: Kinds::new(alloc),
             endings: Tally::new(alloc),
@@ -108,12 +111,14 @@ impl Hunted {
             missed,
             leaves_out,
             kind,
+            steps,
         } = report;
         let run = self.runs;
         self.runs = run + 1;
         self.flaws.note(run, flaws);
         self.all_stopped = counted(self.all_stopped, flaws.all_stopped());
         self.left_out = counted(self.left_out, leaves_out);
+        self.steps += u64::from(steps);
         self.kinds.take(kind)?;
         take_ending(&mut self.endings, &mut self.results, alloc, ending, result)?;
         self.races.take(races)?;
@@ -130,6 +135,7 @@ impl Hunted {
             runs,
             all_stopped,
             left_out,
+            steps,
             flaws,
             kinds,
             endings,
@@ -141,6 +147,7 @@ impl Hunted {
         self.runs += runs;
         self.all_stopped += all_stopped;
         self.left_out += left_out;
+        self.steps += steps;
         self.kinds.join(kinds)?;
         self.endings.join(alloc, endings)?;
         self.results.join(alloc, results)?;
@@ -167,6 +174,13 @@ impl Hunted {
         ensures { result ≡ self.now.left_out }
     {
         self.left_out
+    }
+
+    /// How many steps all of them have.
+    pub fn steps(&self) -> u64
+        ensures { result ≡ self.now.steps }
+    {
+        self.steps
     }
 
     /// How many have each flaw.

@@ -21,6 +21,8 @@ pub struct Report {
     pub leaves_out: bool,
     /// The digest of its kind.
     pub kind: u64,
+    /// How many steps it has.
+    pub steps: u32,
 }
 
 impl Model for Report {
@@ -29,5 +31,5 @@ impl Model for Report {
 
     ghost Value = { Reported };
 
-    ghost view = { λ r. record { flaws = r.flaws; ending = r.ending.items; result = r.result.items; races = r.races.items; missed = map (λ line. line.items) r.missed.items; leaves_out = r.leaves_out; kind = r.kind } };
+    ghost view = { λ r. record { flaws = r.flaws; ending = r.ending.items; result = r.result.items; races = r.races.items; missed = map (λ line. line.items) r.missed.items; leaves_out = r.leaves_out; kind = r.kind; steps = r.steps } };
 }

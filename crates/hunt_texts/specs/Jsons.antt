@@ -44,12 +44,12 @@ unfoldable pub runs_of_json : ℕ → ℕ → ℕ → Bool → List ℕ
 runs_of_json seed from runs expects =
     field_json (codes "{\"hunt\":1,\"seed\":") seed ++ field_json (codes ",\"from\":") from ++ field_json (codes ",\"runs\":") runs ++ codes ",\"expects\":" ++ bool_json expects
 
-unfoldable pub sums_json : ℕ → ℕ → List ℕ
-sums_json stopped left = field_json (codes ",\"all_stopped\":") stopped ++ field_json (codes ",\"left_out\":") left
+unfoldable pub sums_json : ℕ → ℕ → ℕ → List ℕ
+sums_json stopped left steps = field_json (codes ",\"all_stopped\":") stopped ++ field_json (codes ",\"left_out\":") left ++ field_json (codes ",\"steps\":") steps
 
 unfoldable pub head_json : Sums → ℕ → ℕ → Bool → List ℕ
 head_json sums seed from expects =
-    runs_of_json seed from sums.runs expects ++ sums_json sums.all_stopped sums.left_out ++ ended_json from sums.flaws ++ faulted_json from sums.flaws ++ codes "}" ++ line_feed
+    runs_of_json seed from sums.runs expects ++ sums_json sums.all_stopped sums.left_out sums.steps ++ ended_json from sums.flaws ++ faulted_json from sums.flaws ++ codes "}" ++ line_feed
 
 -- the end of a line
 unfoldable pub runs_json : ℕ → ℕ → ℕ → List ℕ

@@ -64,6 +64,15 @@ found_text c from expects = if has_flaw c then flaw_texts from false (worded c) 
 unfoldable pub found_line : FlawCounts → ℕ → Bool → List ℕ
 found_line c from expects = found_text c from expects ++ line_feed
 
+-- ---- why there are no more runs
+
+unfoldable pub steps_text : ℕ → List ℕ
+steps_text steps = codes "ended after " ++ word_text steps (codes " steps, the limit of a hunt without --runs" ++ line_feed)
+
+-- where their steps are the reason
+abbrev pub limit_text : ℕ → Bool → List ℕ
+limit_text steps by_steps = if by_steps then steps_text steps else []
+
 -- ---- of how many kinds they are
 
 unfoldable pub seen_text : ℕ → ℕ → List ℕ
@@ -138,9 +147,9 @@ endings_from from endings results i (e ∷ es) = ending_line from e ++ results_t
 unfoldable pub left_text : ℕ → List ℕ
 left_text n = if n == 0 then [] else codes "left out " ++ decimal n ++ line_feed
 
--- what a hunt of this seed prints whose first run has this number, where lines were expected or weren't
-abbrev pub hunt_text : Sums → ℕ → ℕ → Bool → List ℕ
-hunt_text sums seed from expects =
-    head_line sums seed from ++ found_line sums.flaws from expects ++ kinds_line sums.kinds sums.runs ++ flat_map (race_line from) (told_in sums.races)
+-- what a hunt of this seed prints whose first run has this number, where lines were expected or weren't, and where its steps ended it or didn't
+abbrev pub hunt_text : Sums → ℕ → ℕ → Bool → Bool → List ℕ
+hunt_text sums seed from expects by_steps =
+    head_line sums seed from ++ found_line sums.flaws from expects ++ limit_text sums.steps by_steps ++ kinds_line sums.kinds sums.runs ++ flat_map (race_line from) (told_in sums.races)
     ++ endings_from from (told_in sums.endings) (told_in sums.results) 0 (told_in sums.endings)
     ++ flat_map (missed_line from) (told_in sums.missed) ++ left_text sums.left_out

@@ -1,7 +1,7 @@
 //! How many runs there are, how they ended, and what went wrong.
 
 ghost use Rattle.std.specs.Prelude.{◌≡◌, ◌++◌, ◌||◌, nat_lt, false, IfOk, OnOk};
-ghost use Rattle.hunt_texts.specs.Texts.{from_text, seed_text, ends_text, head_line, gap_text, flaw_text, flaw_texts, worded, none_text, found_text, found_line, left_text};
+ghost use Rattle.hunt_texts.specs.Texts.{from_text, seed_text, ends_text, head_line, gap_text, flaw_text, flaw_texts, worded, none_text, found_text, found_line, steps_text, limit_text, left_text};
 
 use crate::numbers::{put_number, put_word};
 use hunt_tally::{Count, FlawCounts, Hunted};
@@ -133,6 +133,24 @@ pub fn put_found(
 {
     put_all(out, c, from, expects)?;
     out.push(b'\n')?;
+    Ok(())
+}
+
+fn put_steps(out: &mut Vec<u8>, steps: u64) -> Result<(), AllocError>
+    ensures { OnOk result (out.new.items ≡ out.old.items ++ steps_text steps) }
+{
+    out.extend_from_slice(b"ended after ")?;
+    put_word(out, steps, b" steps, the limit of a hunt without --runs\n")?;
+    Ok(())
+}
+
+/// Writes why there are no more runs, if their steps are the reason.
+pub fn put_limit(out: &mut Vec<u8>, steps: u64, by_steps: bool) -> Result<(), AllocError>
+    ensures { OnOk result (out.new.items ≡ out.old.items ++ limit_text steps by_steps) }
+{
+    if by_steps {
+        return put_steps(out, steps);
+    }
     Ok(())
 }
 

@@ -84,11 +84,12 @@ fn put_runs(
 }
 
 #[tactic(auto, unfolding(crate::specs::Jsons::sums_json))]
-fn put_sums(out: &mut Vec<u8>, stopped: u32, left: u32) -> Result<(), AllocError>
-    ensures { OnOk result (out.new.items ≡ out.old.items ++ sums_json stopped left) }
+fn put_sums(out: &mut Vec<u8>, stopped: u32, left: u32, steps: u64) -> Result<(), AllocError>
+    ensures { OnOk result (out.new.items ≡ out.old.items ++ sums_json stopped left steps) }
 {
     put_field_json(out, b",\"all_stopped\":", u64::from(stopped))?;
-    put_field_json(out, b",\"left_out\":", u64::from(left))
+    put_field_json(out, b",\"left_out\":", u64::from(left))?;
+    put_field_json(out, b",\"steps\":", steps)
 }
 
 /// Writes the object of the hunt.
@@ -104,7 +105,7 @@ fn put_head(
 {
     let flaws = hunted.flaws();
     put_runs(out, seed, from, hunted.runs(), expects)?;
-    put_sums(out, hunted.all_stopped(), hunted.left_out())?;
+    put_sums(out, hunted.all_stopped(), hunted.left_out(), hunted.steps())?;
     put_ended(out, from, flaws)?;
     put_faulted(out, from, flaws)?;
     out.extend_from_slice(b"}\n")

@@ -45,7 +45,7 @@ WHOLE = b"\tstop\t0\t# a.s:1\n"
 OLD = b"\tlnop\t# what stood there\n"
 HUNT = b"".join(whole(iter([
     b'{"part":2,"version":"1.0.0","program":"","machine":"m.cell","sum":"%s"}\n' % (b"0" * 64),
-    b'{"hunt":1,"seed":1,"from":0,"runs":1,"expects":false,"all_stopped":1,"left_out":0'
+    b'{"hunt":1,"seed":1,"from":0,"runs":1,"expects":false,"all_stopped":1,"left_out":0,"steps":1'
     + b"".join(b',"%s":{"runs":0,"first":null}' % flaw.encode() for flaw in FLAWS) + b"}\n",
     b'{"number":0,"end":"AllStopped","runs":1,"first":0,"places":[],"words":[]}\n',
     b'{"text":"","spans":[],"digits":"","endings":[0],"runs":[1],"first":[0]}\n', b'{"kinds":"AAAAAAAAAAA=","runs":[1]}\n',

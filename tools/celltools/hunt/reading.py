@@ -20,7 +20,10 @@ from celltools.run.runs import Refused
 # What can be wrong in a run, in the order in which it is printed.
 FLAWS = ("race", "stuck", "budget", "fault", "halt", "missed")
 FORM_OF_HUNT = 1
+HEAD = ("hunt", "seed", "from", "runs", "expects", "all_stopped", "left_out", "steps", *FLAWS)  # members of a part's second line
+WITHOUT_STEPS = tuple(name for name in HEAD if name != "steps")  # the same in a part of form 1
 MOST_RUN, MOST_SEED = 0xFFFF_FFFE, 0xFFFF_FFFF_FFFF_FFFF
+MOST_STEPS = 1_000_000  # of a run: the greatest budget
 MOST_LINE = 1 << 28  # bytes
 CHECKSUM = re.compile(r"[0-9a-f]{64}")
 VERSION = re.compile(r"[0-9]+\.[0-9]+\.[0-9]+")
@@ -53,6 +56,7 @@ class Head:
     expects: bool
     all_stopped: int
     left_out: int
+    steps: Optional[int]  # None where a part of form 1 doesn't say
     flaws: Dict[str, Count]
 
     @property
@@ -231,16 +235,21 @@ def flaw_of(members: Json, name: str, head: Head) -> Count:
     return Count(runs, number_in(value, "first", head.start, head.stop - runs))
 
 
-def head_of(line: bytes) -> Head:
-    """The second line of a part."""
+def steps_in(members: Json, runs: int) -> Optional[int]:
+    """How many steps so many runs have, None where nobody knows."""
+    return None if members.get("steps") is None else number_in(members, "steps", 0, runs * MOST_STEPS)
+
+
+def head_of(line: bytes, form: int) -> Head:
+    """The second line of a part of this form."""
     members = object_of(line)
-    refuse_names(members, ("hunt", "seed", "from", "runs", "expects", "all_stopped", "left_out", *FLAWS))
+    refuse_names(members, WITHOUT_STEPS if form == written.FORM_OF_LISTS else HEAD)
     number_in(members, "hunt", FORM_OF_HUNT, FORM_OF_HUNT)
     runs = number_in(members, "runs", 1, MOST_RUN + 1)
     start = number_in(members, "from", 0, MOST_RUN + 1 - runs)
     refuse_other("expects", members["expects"], isinstance(members["expects"], bool), "true or false")
     stopped, left_out = (number_in(members, name, 0, runs) for name in ("all_stopped", "left_out"))
-    head = Head(number_in(members, "seed", 0, MOST_SEED), start, runs, members["expects"], stopped, left_out, {})
+    head = Head(number_in(members, "seed", 0, MOST_SEED), start, runs, members["expects"], stopped, left_out, steps_in(members, runs), {})
     head.flaws.update({name: flaw_of(members, name, head) for name in FLAWS})
     refuse_other_writing(members, line)
     return head
@@ -460,7 +469,7 @@ class Reader:
         start, checksum = self.number, hashlib.sha256(first)
         opening, second = opening_of(first), self.line()
         checksum.update(second)
-        part = Part(self.name, start, opening, head_of(second or self.cut(start)))
+        part = Part(self.name, start, opening, head_of(second or self.cut(start), opening[written.PART]))
         body = Body(part, hearer(part))
         while True:
             line = self.line() or self.cut(start)

@@ -202,6 +202,12 @@ def unexplained(told: Told) -> Told:
     return dataclasses.replace(told, members={**told.members, "places": places, "words": []})
 
 
+def added_steps(heads: Sequence[Head]) -> Optional[int]:
+    """How many steps all of them have, None where one doesn't say."""
+    steps = [head.steps for head in heads if head.steps is not None]
+    return sum(steps) if len(steps) == len(heads) else None
+
+
 def head_of(parts: Sequence[Part]) -> Head:
     """The head of all runs."""
     heads = [part.head for part in parts]
@@ -209,7 +215,7 @@ def head_of(parts: Sequence[Part]) -> Head:
     for head in heads[1:]:
         flaws = {name: flaws[name].added(head.flaws[name]) for name in FLAWS}
     return dataclasses.replace(heads[0], runs=sum(head.runs for head in heads), all_stopped=sum(head.all_stopped for head in heads),
-                               left_out=sum(head.left_out for head in heads), flaws=flaws)
+                               left_out=sum(head.left_out for head in heads), steps=added_steps(heads), flaws=flaws)
 
 
 # ---- what doesn't belong together
@@ -266,7 +272,7 @@ def json_lines(hunt: Hunt) -> Iterator[bytes]:
     head = hunt.head
     counts: Json = {name: dataclasses.asdict(count) for name, count in head.flaws.items()}
     yield written.line_of({"hunt": FORM_OF_HUNT, "seed": head.seed, "from": head.start, "runs": head.runs, "expects": head.expects,
-                           "all_stopped": head.all_stopped, "left_out": head.left_out, **counts})
+                           "all_stopped": head.all_stopped, "left_out": head.left_out, "steps": head.steps, **counts})
     numbers: Dict[str, int] = {}
     for told in hunt.tallies["race"].in_order():
         yield told_line(told)

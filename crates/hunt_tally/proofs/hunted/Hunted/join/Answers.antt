@@ -6,27 +6,28 @@ use Rattle.hunt_tally.proofs.Hunting.{on_ok}
 use Rattle.hunt_tally.proofs.hunted.Hunted.join.Goals as goal
 
 pub invariant_of-self : goal.invariant_of-self
-invariant_of-self c = within_both _ _ _ c.self.invariant c.other.invariant refl refl refl (c.join.ensures.within c.other.inside.runs c.other.invariant.flaws) c.join-2.ensures.runs (omega arith) (omega arith) (omega arith) (omega arith)
+invariant_of-self c = within_both _ _ _ c.self.invariant c.other.invariant refl refl refl refl (c.join.ensures.within c.other.inside.runs c.other.invariant.flaws) c.join-2.ensures.runs (omega arith) (omega arith) (omega arith) (omega arith)
 
 pub invariant_of-self-in_err-join-2 : goal.invariant_of-self-in_err-join-2
-invariant_of-self-in_err-join-2 c = within_both _ _ _ c.self.invariant c.other.invariant refl refl refl (c.join.ensures.within c.other.inside.runs c.other.invariant.flaws) c.join-2.ensures.runs (omega (arith, c.join-3.ensures.runs)) (omega arith) (omega arith) (omega arith)
+invariant_of-self-in_err-join-2 c = within_both _ _ _ c.self.invariant c.other.invariant refl refl refl refl (c.join.ensures.within c.other.inside.runs c.other.invariant.flaws) c.join-2.ensures.runs (omega (arith, c.join-3.ensures.runs)) (omega arith) (omega arith) (omega arith)
 
 pub invariant_of-self-in_err-join-3 : goal.invariant_of-self-in_err-join-3
-invariant_of-self-in_err-join-3 c = within_both _ _ _ c.self.invariant c.other.invariant refl refl refl (c.join.ensures.within c.other.inside.runs c.other.invariant.flaws) c.join-2.ensures.runs (omega (arith, c.join-3.ensures.runs)) (omega (arith, c.join-4.ensures.runs)) (omega arith) (omega arith)
+invariant_of-self-in_err-join-3 c = within_both _ _ _ c.self.invariant c.other.invariant refl refl refl refl (c.join.ensures.within c.other.inside.runs c.other.invariant.flaws) c.join-2.ensures.runs (omega (arith, c.join-3.ensures.runs)) (omega (arith, c.join-4.ensures.runs)) (omega arith) (omega arith)
 
 pub invariant_of-self-in_err-join-4 : goal.invariant_of-self-in_err-join-4
-invariant_of-self-in_err-join-4 c = within_both _ _ _ c.self.invariant c.other.invariant refl refl refl (c.join.ensures.within c.other.inside.runs c.other.invariant.flaws) c.join-2.ensures.runs (omega (arith, c.join-3.ensures.runs)) (omega (arith, c.join-4.ensures.runs)) (omega (arith, c.join-5.ensures.runs)) (omega arith)
+invariant_of-self-in_err-join-4 c = within_both _ _ _ c.self.invariant c.other.invariant refl refl refl refl (c.join.ensures.within c.other.inside.runs c.other.invariant.flaws) c.join-2.ensures.runs (omega (arith, c.join-3.ensures.runs)) (omega (arith, c.join-4.ensures.runs)) (omega (arith, c.join-5.ensures.runs)) (omega arith)
 
 pub returns-clause-joined : goal.returns-clause-joined
 returns-clause-joined c =
-    let here : Sums = record { runs = c.self.inside.runs; all_stopped = c.self.inside.all_stopped; left_out = c.self.inside.left_out; flaws = c.self.inside.flaws; kinds = c.self.inside.kinds; endings = c.self.inside.endings; results = c.self.inside.results; races = c.self.inside.races; missed = c.self.inside.missed } in
-    let behind : Sums = record { runs = c.other.inside.runs; all_stopped = c.other.inside.all_stopped; left_out = c.other.inside.left_out; flaws = c.other.inside.flaws; kinds = c.other.inside.kinds; endings = c.other.inside.endings; results = c.other.inside.results; races = c.other.inside.races; missed = c.other.inside.missed } in
-    let new : Sums = record { runs = here.runs + behind.runs; all_stopped = here.all_stopped + behind.all_stopped; left_out = here.left_out + behind.left_out; flaws = c.join.new.self; kinds = c.join-2.new.self; endings = c.join-3.new.self; results = c.join-4.new.self; races = c.join-5.new.self; missed = c.join-6.new.self } in
+    let here : Sums = record { runs = c.self.inside.runs; all_stopped = c.self.inside.all_stopped; left_out = c.self.inside.left_out; steps = c.self.inside.steps; flaws = c.self.inside.flaws; kinds = c.self.inside.kinds; endings = c.self.inside.endings; results = c.self.inside.results; races = c.self.inside.races; missed = c.self.inside.missed } in
+    let behind : Sums = record { runs = c.other.inside.runs; all_stopped = c.other.inside.all_stopped; left_out = c.other.inside.left_out; steps = c.other.inside.steps; flaws = c.other.inside.flaws; kinds = c.other.inside.kinds; endings = c.other.inside.endings; results = c.other.inside.results; races = c.other.inside.races; missed = c.other.inside.missed } in
+    let new : Sums = record { runs = here.runs + behind.runs; all_stopped = here.all_stopped + behind.all_stopped; left_out = here.left_out + behind.left_out; steps = here.steps + behind.steps; flaws = c.join.new.self; kinds = c.join-2.new.self; endings = c.join-3.new.self; results = c.join-4.new.self; races = c.join-5.new.self; missed = c.join-6.new.self } in
     on_ok c.join-6.result (λ (lines : Joined here.missed behind.missed new.missed).
     let both : AreBoth here behind new = record {
       runs = refl;
       all_stopped = refl;
       left_out = refl;
+      steps = refl;
       race = c.join.ensures.race;
       stuck = c.join.ensures.stuck;
       budget = c.join.ensures.budget;

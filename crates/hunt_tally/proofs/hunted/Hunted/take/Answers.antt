@@ -1,4 +1,4 @@
-use Rattle.std.proofs.Common.{◌≡◌, ◌+◌, cond, map, refl, ap, ◌∙◌, List, [], ◌∷◌, ◌++◌, subst}
+use Rattle.std.proofs.Common.{◌≡◌, ◌+◌, cond, map, refl, ap, ◌∙◌, List, [], ◌∷◌, ◌++◌, subst, rules}
 use Rattle.hunt_tally.specs.Tallies.{Took}
 use Rattle.hunt_tally.specs.Reports.{Reported, Sums, missed_told, hunted}
 use Rattle.hunt_tally.proofs.Hunting.{IsMore, took_report, on_ok}
@@ -7,13 +7,14 @@ use Rattle.hunt_tally.proofs.hunted.Hunted.take.Goals as goal
 pub returns : goal.returns
 returns c =
     let old : Sums = c.args.self.now in
-    let r : Reported = record { flaws = c.report.inside.flaws; ending = c.report.inside.ending.items; result = c.report.inside.result.items; races = c.report.inside.races.items; missed = map (λ line. line.items) c.report.inside.missed.items; leaves_out = c.report.inside.leaves_out; kind = c.report.inside.kind } in
-    let new : Sums = record { runs = c.self.inside.runs + 1; all_stopped = c.counted-self-inside.result; left_out = c.counted-self-inside-2.result; flaws = c.note.new.self; kinds = c.take.new.self; endings = c.take_ending.new.endings; results = c.take_ending.new.results; races = c.take-2.new.self; missed = c.take_missed.new.tally } in
+    let r : Reported = record { flaws = c.report.inside.flaws; ending = c.report.inside.ending.items; result = c.report.inside.result.items; races = c.report.inside.races.items; missed = map (λ line. line.items) c.report.inside.missed.items; leaves_out = c.report.inside.leaves_out; kind = c.report.inside.kind; steps = c.report.inside.steps } in
+    let new : Sums = record { runs = c.self.inside.runs + 1; all_stopped = c.counted-self-inside.result; left_out = c.counted-self-inside-2.result; steps = c.self.inside.steps + c.from.result; flaws = c.note.new.self; kinds = c.take.new.self; endings = c.take_ending.new.endings; results = c.take_ending.new.results; races = c.take-2.new.self; missed = c.take_missed.new.tally } in
     on_ok c.take_missed.result (λ (lines : Took (missed_told r) c.self.inside.missed c.take_missed.new.tally).
-    let is : IsMore r (record { runs = c.self.inside.runs; all_stopped = c.self.inside.all_stopped; left_out = c.self.inside.left_out; flaws = c.self.inside.flaws; kinds = c.self.inside.kinds; endings = c.self.inside.endings; results = c.self.inside.results; races = c.self.inside.races; missed = c.self.inside.missed }) new = record {
+    let is : IsMore r (record { runs = c.self.inside.runs; all_stopped = c.self.inside.all_stopped; left_out = c.self.inside.left_out; steps = c.self.inside.steps; flaws = c.self.inside.flaws; kinds = c.self.inside.kinds; endings = c.self.inside.endings; results = c.self.inside.results; races = c.self.inside.races; missed = c.self.inside.missed }) new = record {
       runs = refl;
       all_stopped = c.counted-self-inside.ensures ∙ ap (λ b. c.self.inside.all_stopped + cond b 1 0) c.all_stopped.ensures;
       left_out = c.counted-self-inside-2.ensures;
+      steps = ap (λ n. c.self.inside.steps + n) (let same : c.from.result ≡ c.report.inside.steps = search rules in same);
       race = c.note.ensures.race;
       stuck = c.note.ensures.stuck;
       budget = c.note.ensures.budget;
