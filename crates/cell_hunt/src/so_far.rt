@@ -40,7 +40,7 @@ impl SoFar {
             origins: Origins::new(alloc),
             least: None,
             races: Vec::new(alloc),
-            touched: Touched::new(alloc, setup.lines())?,
+            touched: Touched::new(alloc, setup.lines()),
         })
     }
 
@@ -92,7 +92,7 @@ impl SoFar {
         ensures searched { OnOk result (IsSearchedTo (place + 1) self.new) }
     {
         let effect = self.origins.add(self.search.machine(), step, place)?;
-        self.touched.add(step, effect);
+        self.touched.add(step, effect)?;
         let Some(latest) = self.search.go_on(step, effect)? else {
             return Ok(());
         };

@@ -1,5 +1,5 @@
--- The list that pages stand for, as a page is written.
-use Rattle.std.proofs.Common.{◌≡◌, ℕ, zero, suc, ◌+◌, ◌*◌, ◌-◌, ◌/◌, ◌%◌, ◌<◌, ◌≤◌, ap, refl, sym, subst, ◌∙◌, List, [], ◌∷◌, ◌++◌, length, get_or, inl, inr, arith, get_or-set_other}
+-- How a write changes the list that pages represent, and where its next digest is that isn't 0.
+use Rattle.std.proofs.Common.{◌≡◌, ℕ, zero, suc, ◌+◌, ◌*◌, ◌-◌, ◌/◌, ◌%◌, ◌<◌, ◌≤◌, ap, refl, sym, subst, ◌∙◌, List, [], ◌∷◌, ◌++◌, length, inl, inr, arith, get_or-set_other}
 use Rattle.std.specs.Prelude.{◌⊎◌, max, replicate, slice_index, slice_index_or, slice_set}
 use Rattle.std.proofs.lemmas.Bool.{cases_eq, cases_lt}
 use Rattle.std.proofs.lemmas.List.{get_or-replicate, get_or-set_same, get_or_past, length-replicate, length-set, set-get_or}
@@ -7,22 +7,16 @@ use Rattle.std.proofs.lemmas.List.FromFn.{fill_by_all, get_or-map-range_with_len
 use Rattle.digest_pages.specs.Nexts.{IsNext}
 use Rattle.digest_pages.specs.Pages.{ArePages, IsPut, digest_at, digests_in}
 
--- a list with its default behind it
-pub pad : {X : Type 0} (xs : List X) (d : X) (k : ℕ) → get_or (xs ++ d ∷ []) k d ≡ get_or xs k d
-pad [] d zero = refl
-pad [] d (suc k) = refl
-pad (x ∷ xs) d zero = refl
-pad (x ∷ xs) d (suc k) = pad xs d k
-
-pub zeros-behind : (xs : List ℕ) (n k : ℕ) → slice_index (xs ++ replicate n 0) k ≡ slice_index xs k
-zeros-behind [] n k = zeros n k
+-- zeros after a list read like its end
+pub zeros_after : (xs : List ℕ) (n k : ℕ) → slice_index (xs ++ replicate n 0) k ≡ slice_index xs k
+zeros_after [] n k = zeros n k
   where
     zeros : (n k : ℕ) → slice_index (replicate n 0) k ≡ 0
     zeros zero k = refl
     zeros (suc n) zero = refl
     zeros (suc n) (suc k) = zeros n k
-zeros-behind (x ∷ xs) n zero = refl
-zeros-behind (x ∷ xs) n (suc k) = zeros-behind xs n k
+zeros_after (x ∷ xs) n zero = refl
+zeros_after (x ∷ xs) n (suc k) = zeros_after xs n k
 
 -- ---- the list
 
@@ -48,7 +42,7 @@ at_index count pages are n = on (cases_lt n count)
 pub none_written : (count : ℕ) → digests_in count [] ≡ replicate count 0
 none_written count = sym (list_is count [] (replicate count 0) (length-replicate count 0) (λ k low. get_or-replicate count k 0 0 low))
 
--- ---- a page of other pages that read the same
+-- ---- other pages that read the same
 
 abbrev pub IsGrown : List (List ℕ) → List (List ℕ) → Type 0
 IsGrown old new = (k : ℕ) → slice_index_or new k [] ≡ slice_index_or old k []
@@ -103,13 +97,13 @@ grown_are count old pages are same few = record { short = are.short; few = few; 
 pub few_more : (count pages grown index : ℕ) → 256 * pages < count + 256 → grown ≤ max pages (index / 256 + 1) → index < count → 256 * grown < count + 256
 few_more count pages grown index few more inside = omega arith
 
--- a page that is put back as it was
+-- a page that is written back unchanged
 pub same_back : (old pages : List (List ℕ)) (at : ℕ) (page : List ℕ) → IsGrown old pages → page ≡ slice_index_or pages at [] → IsGrown old (slice_set pages at page)
 same_back old pages at page same is k = ap (λ p. slice_index_or (slice_set pages at p) k []) is ∙ ap (λ ps. slice_index_or ps k []) (set-get_or pages at []) ∙ same k
 
 -- ---- the next one that isn't 0
 
--- all digests from `from` on are 0 in front of a page
+-- all digests from `from` on are 0, up to the page
 abbrev pub IsPassed : List (List ℕ) → ℕ → ℕ → Type 0
 IsPassed pages from page = (n : ℕ) → from ≤ n → n < page * 256 → digest_at pages n ≡ 0
 

@@ -7,7 +7,7 @@ pub record IsNext (digests : List ℕ) (begin n : ℕ) : Type 0 where
   pub written : slice_index digests n ≡ 0 → ⊥
   pub least : (k : ℕ) → begin ≤ k → k < n → slice_index digests k ≡ 0
 
--- it is this, or all digests from there on are 0
+-- that index, or None if all digests from `from` on are 0
 abbrev pub TellsNext : List ℕ → ℕ → Option ℕ → Type 0
 TellsNext digests from None = (k : ℕ) → from ≤ k → slice_index digests k ≡ 0
 TellsNext digests from (Some n) = IsNext digests from n

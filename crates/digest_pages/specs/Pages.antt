@@ -6,18 +6,19 @@ use Rattle.std.specs.List.{range_with_len}
 abbrev pub digest_at : List (List ℕ) → ℕ → ℕ
 digest_at pages n = slice_index (slice_index_or pages (n / 256) []) (n % 256)
 
--- the list of so many digests that the pages stand for
+-- the list of `count` digests that the pages represent
 unfoldable pub digests_in : ℕ → List (List ℕ) → List ℕ
 digests_in count pages = map (digest_at pages) (range_with_len 0 count)
 
--- no more pages than that many digests need, whose number has 64 bits, and nothing is written behind the last one
+-- there are no more pages than `count` digests need, and no digest after the last one is written
 pub record ArePages (count : ℕ) (pages : List (List ℕ)) : Type 0 where
   pub short : count < 2 ^ 64
   pub few : 256 * length pages < count + 256
   pub beyond : (n : ℕ) → count ≤ n → digest_at pages n ≡ 0
 
--- ---- one page, of which digests behind its end are 0
+-- ---- one page; the digests after its end are 0
 
+-- it reads the same
 abbrev pub IsSame : List ℕ → List ℕ → Type 0
 IsSame old new = (k : ℕ) → slice_index new k ≡ slice_index old k
 

@@ -1,7 +1,7 @@
-//! A list of digests that is mostly zeros: its digests lie in pages, and a page has memory once one of its digests was written.
+//! A sparse list of digests, in pages that are allocated on their first write.
 #![tactic(auto)]
 
-ghost use Rattle.std.specs.Prelude.{◌≡◌, ◌≤◌, ◌<◌, ◌+◌, ◌*◌, ℕ, [], List, length, max, replicate, slice_index, slice_index_or, slice_set, IfSome, OnErr, OnOk};
+ghost use Rattle.std.specs.Prelude.{◌≡◌, ◌≤◌, ◌<◌, ◌+◌, ℕ, [], length, max, replicate, slice_index, slice_index_or, slice_set, IfSome, OnErr, OnOk};
 ghost use Rattle.digest_pages.specs.Nexts.{TellsNext};
 
 mod page;
@@ -10,7 +10,7 @@ use page::{PAGE, Page};
 use std::alloc::{AllocError, Global};
 use std::marker::Model;
 
-/// Adds pages without memory, up to the one with this index.
+/// Adds empty pages, up to the one with this index.
 fn grow(pages: &mut Vec<Page>, alloc: Global, index: usize) -> Result<(), AllocError>
     ensures there { OnOk result (index < length pages.new.items) }
     ensures few { length pages.new.items ≤ max (length pages.old.items) (index + 1) }
@@ -22,12 +22,12 @@ fn grow(pages: &mut Vec<Page>, alloc: Global, index: usize) -> Result<(), AllocE
     Ok(())
 }
 
-/// A list of digests. It costs memory and time by the pages that were written, not by its length.
+/// A sparse list of digests. A new one allocates nothing. A write allocates its page of 2 KiB, and 24 bytes for each page up to it.
 #[derive(Drop)]
 pub struct DigestPages {
     alloc: Global,
     count: usize,
-    // the first ones, of 256 digests each; all digests of the others are 0
+    // the pages up to the last one written; the digests of the pages after them are 0
     pages: Vec<Page>,
 }
 
@@ -62,7 +62,7 @@ impl DigestPages {
         self.count
     }
 
-    /// The digest at an index, 0 behind the last one.
+    /// The digest at an index, 0 after the last one.
     pub fn get(&self, index: usize) -> u64
         ensures { result ≡ slice_index self.now index }
     {
@@ -74,7 +74,7 @@ impl DigestPages {
         }
     }
 
-    /// Writes the digest at an index. Out of memory is the only error; the list is then as it was.
+    /// Writes the digest at an index. The only error is out of memory, which leaves the list as it was.
     pub fn put(&mut self, index: usize, digest: u64) -> Result<(), AllocError>
         requires { index < length self.old }
         ensures put { OnOk result (self.new ≡ slice_set self.old index digest) }
@@ -86,7 +86,7 @@ impl DigestPages {
         Ok(())
     }
 
-    /// The least index from this one on whose digest isn't 0.
+    /// The least index, from this one on, whose digest isn't 0.
     pub fn next_written(&self, from: usize) -> Option<usize>
         ensures next { TellsNext self.now from result }
         ensures inside { IfSome result (λ index. index < length self.now) }

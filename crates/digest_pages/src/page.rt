@@ -10,7 +10,7 @@ use std::marker::Model;
 /// How many digests a page has.
 pub const PAGE: usize = 256;
 
-/// A page: all of its digests, or none as long as they are all 0.
+/// A page, empty until its first write. The digests that it doesn't have are 0.
 #[derive(Drop)]
 pub struct Page {
     digests: Vec<u64>,
@@ -27,7 +27,7 @@ impl Model for Page {
 }
 
 impl Page {
-    /// A page without memory.
+    /// A page that was never written.
     pub fn new(alloc: Global) -> Page
         ensures { result ≡ [] }
     {
@@ -47,7 +47,7 @@ impl Page {
         }
     }
 
-    /// Gets the memory for all digests, if it has none yet.
+    /// Allocates all digests, if the page is empty.
     fn fill(&mut self) -> Result<(), AllocError>
         ensures full { OnOk result (length self.new ≡ 256) }
         ensures same { OnOk result (IsSame self.old self.new) }
@@ -68,7 +68,7 @@ impl Page {
         Ok(())
     }
 
-    /// The least index from this one on whose digest isn't 0.
+    /// The least index, from this one on, whose digest isn't 0.
     pub fn next_written(&self, from: usize) -> Option<usize>
         ensures next { TellsNext self.now from result }
         ensures inside { IfSome result (λ at. at < 256) }
