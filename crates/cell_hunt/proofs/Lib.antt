@@ -10,3 +10,4 @@ mod Kept
 mod Knowing
 mod AllRaces
 mod Touching
+mod Untouched

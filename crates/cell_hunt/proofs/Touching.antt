@@ -48,8 +48,8 @@ told_from : (f : ℕ → ℕ) (a n : ℕ) → touched_from a (map f (range_with_
 told_from f a zero = refl
 told_from f a (suc n) = ap (λ ks. touched a (f a) ++ ks) (told_from f (a + 1) n)
 
-pub kind_is : (m : Ran) (t : Touched) → HasTouched m t → digest (touched_from 0 t.digests.items) ≡ kind_of m
+pub kind_is : (m : Ran) (t : Touched) → HasTouched m t → digest (touched_from 0 t.digests) ≡ kind_of m
 kind_is m t has =
     let f : ℕ → ℕ = λ what. digest (touchers what (touches_in m)) in
-    ap (λ ks. digest (touched_from 0 ks)) (fill_by_all f t.digests.items (touchable m.setup.lines) 0 has.long (λ k low. has.are k (subst (λ n. k < n) (sym has.long) low)))
+    ap (λ ks. digest (touched_from 0 ks)) (fill_by_all f t.digests (touchable m.setup.lines) 0 has.long (λ k low. has.are k (subst (λ n. k < n) (sym has.long) low)))
     ∙ ap digest (told_from f 0 (touchable m.setup.lines))

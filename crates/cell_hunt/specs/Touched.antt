@@ -16,5 +16,5 @@ touched_from n (who ∷ more) = touched n who ++ touched_from (n + 1) more
 
 -- so many are kept, and they are those of the run
 pub record HasTouched (m : Ran) (t : Touched) : Type 0 where
-  pub long : length t.digests.items ≡ touchable m.setup.lines
-  pub are : AreDigests (touches_in m) t.digests.items
+  pub long : length t.digests ≡ touchable m.setup.lines
+  pub are : AreDigests (touches_in m) t.digests

@@ -41,7 +41,7 @@ impl SoFar {
             origins: Origins::new(alloc),
             least: None,
             races: Vec::new(alloc),
-            touched: Touched::new(alloc, setup.lines())?,
+            touched: Touched::new(alloc, setup.lines()),
         })
     }
 
@@ -95,7 +95,7 @@ impl SoFar {
     {
         self.origins
             .add(self.search.machine(), step, effect, place)?;
-        self.touched.add(step, effect);
+        self.touched.add(step, effect)?;
         let Some(latest) = self.search.go_on(step, effect)? else {
             return Ok(());
         };

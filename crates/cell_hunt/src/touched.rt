@@ -1,6 +1,6 @@
 //! What the steps of a run touched.
 
-ghost use Rattle.std.specs.Prelude.{◌≡◌, ◌++◌, ◌∷◌, [], fold, length, option_to_list, List, IfOk};
+ghost use Rattle.std.specs.Prelude.{◌≡◌, ◌++◌, ◌∷◌, [], fold, length, option_to_list, List, OnOk};
 ghost use Rattle.cell_hunt.specs.declared.touches.Touch.{Touch as ATouch};
 ghost use Rattle.cell_hunt.specs.Kinds.{digest, touchable, touched, touches};
 ghost use Rattle.cell_hunt.specs.Mixing.{with_number};
@@ -11,6 +11,7 @@ use crate::mixing::with_number;
 use crate::touches::{BEFORE_LINES, Touch, actor_number, line_touch, program_touch, value_touch};
 use cell_base::Step;
 use cell_machine::Effect;
+use digest_pages::DigestPages;
 use std::alloc::Global;
 
 /// The digest of a list with what was touched, if it was: its number, and the digest of who touched it.
@@ -26,59 +27,70 @@ fn with_touched(digest: u64, what: u64, who: u64) -> u64
 /// Of each that can be touched the digest of who touched it so far.
 #[derive(Drop)]
 pub struct Touched {
-    pub digests: Vec<u64>,
+    pub digests: DigestPages,
 }
 
 impl Touched {
     /// Before the first step, in a machine of so many lines.
-    pub fn new(alloc: Global, lines: u32) -> Result<Touched, HuntError>
-        ensures long { IfOk result (λ t. length t.digests.items ≡ touchable lines) }
-        ensures none { IfOk result (λ t. AreDigests [] t.digests.items) }
+    pub fn new(alloc: Global, lines: u32) -> Touched
+        ensures long { length result.digests ≡ touchable lines }
+        ensures none { AreDigests [] result.digests }
     {
-        let digests = vec![in alloc; 0u64; BEFORE_LINES as usize + lines as usize]?;
-        Ok(Touched { digests })
+        Touched {
+            digests: DigestPages::new(alloc, BEFORE_LINES as usize + lines as usize),
+        }
     }
 
     /// Takes in a touch.
-    fn touch(&mut self, touch: Touch)
-        ensures long { length self.new.digests.items ≡ length self.old.digests.items }
-        ensures more { (all : List ATouch) → AreDigests all self.old.digests.items → AreDigests (all ++ touch ∷ []) self.new.digests.items }
+    fn touch(&mut self, touch: Touch) -> Result<(), HuntError>
+        ensures long { OnOk result (length self.new.digests ≡ length self.old.digests) }
+        ensures more { OnOk result ((all : List ATouch) → AreDigests all self.old.digests → AreDigests (all ++ touch ∷ []) self.new.digests) }
     {
         let what = touch.what as usize;
         if what < self.digests.len() {
-            self.digests[what] = with_number(self.digests[what], u64::from(touch.who));
+            let digest = with_number(self.digests.get(what), u64::from(touch.who));
+            self.digests.put(what, digest)?;
         }
+        Ok(())
     }
 
     /// Takes in a touch, if there is one.
-    fn touch_some(&mut self, touch: Option<Touch>)
-        ensures long { length self.new.digests.items ≡ length self.old.digests.items }
-        ensures more { (all : List ATouch) → AreDigests all self.old.digests.items → AreDigests (all ++ option_to_list touch) self.new.digests.items }
+    fn touch_some(&mut self, touch: Option<Touch>) -> Result<(), HuntError>
+        ensures long { OnOk result (length self.new.digests ≡ length self.old.digests) }
+        ensures more { OnOk result ((all : List ATouch) → AreDigests all self.old.digests → AreDigests (all ++ option_to_list touch) self.new.digests) }
     {
         if let Some(touch) = touch {
-            self.touch(touch);
+            self.touch(touch)?;
         }
+        Ok(())
     }
 
     /// Takes in what a step with this effect touches.
-    pub fn add(&mut self, step: Step, effect: Effect)
-        ensures long { length self.new.digests.items ≡ length self.old.digests.items }
-        ensures more { (all : List ATouch) → AreDigests all self.old.digests.items → AreDigests (all ++ touches step effect) self.new.digests.items }
+    pub fn add(&mut self, step: Step, effect: Effect) -> Result<(), HuntError>
+        ensures long { OnOk result (length self.new.digests ≡ length self.old.digests) }
+        ensures more { OnOk result ((all : List ATouch) → AreDigests all self.old.digests → AreDigests (all ++ touches step effect) self.new.digests) }
     {
         let who = actor_number(step);
-        self.touch_some(program_touch(step, effect));
-        self.touch_some(line_touch(who, effect.reads));
-        self.touch_some(line_touch(who, effect.writes));
-        self.touch_some(value_touch(who, effect.note));
+        self.touch_some(program_touch(step, effect))?;
+        self.touch_some(line_touch(who, effect.reads))?;
+        self.touch_some(line_touch(who, effect.writes))?;
+        self.touch_some(value_touch(who, effect.note))?;
+        Ok(())
     }
 
-    /// The digest of all that was touched.
+    /// The digest of all that was touched. It costs by what was touched: a number that nobody touched adds nothing.
     pub fn kind(&self) -> u64
-        ensures { result ≡ digest (touched_from 0 self.now.digests.items) }
+        ensures { result ≡ digest (touched_from 0 self.now.digests) }
     {
+        let count = self.digests.len();
         let mut digest = 0;
-        for what in 0..self.digests.len() {
-            digest = with_touched(digest, what as u64, self.digests[what]);
+        let mut from = 0;
+        while from < count {
+            let Some(what) = self.digests.next_written(from) else {
+                break;
+            };
+            digest = with_touched(digest, what as u64, self.digests.get(what));
+            from = what + 1;
         }
         digest
     }
