@@ -1,7 +1,8 @@
 use Rattle.std.proofs.Common.{◌+◌, ap, drop, sym, ◌∙◌}
 use Rattle.std.specs.Prelude.{fold, slice_index}
 use Rattle.std.proofs.lemmas.List.Sums.{fold-append}
-use Rattle.cell_hunt.specs.Kinds.{touched, with_number}
+use Rattle.cell_hunt.specs.Kinds.{touched}
+use Rattle.cell_hunt.specs.Mixing.{with_number}
 use Rattle.cell_hunt.specs.Touched.{touched_from}
 use Rattle.cell_hunt.proofs.Untouched.{from_next, none_from}
 use Rattle.cell_hunt.proofs.touched.Touched.kind.Goals as goal
