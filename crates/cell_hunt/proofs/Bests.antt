@@ -150,7 +150,7 @@ pub processor-all : (key : Step → ℕ) (m : Ran) (word p : ℕ) (xs : List Ste
     → IsBestOf key (((xs ++ offered m (Exec p)) ++ offered m (Atomic p)) ++ offered_by_queue m word p (queue_length m p)) best → IsBestOf key (xs ++ offered_by m word p) best
 processor-all key m word p xs best is =
     subst (λ ys. IsBestOf key ys best) (ap (λ (ys : List Step). ys ++ offered_by_queue m word p (queue_length m p)) (append_assoc xs (offered m (Exec p)) (offered m (Atomic p)))
-      ∙ append_assoc xs (offered m (Exec p) ++ offered m (Atomic p)) (offered_by_queue m word p (queue_length m p))) is
+    ∙ append_assoc xs (offered m (Exec p) ++ offered m (Atomic p)) (offered_by_queue m word p (queue_length m p))) is
 
 first_zero : (m : Ran) (word : ℕ) → offered_by_first m word zero ≡ []
 unfolding offered_by_first

@@ -128,7 +128,7 @@ controller_none m M word p P at spe atomic queue =
     let count : queue_length m p ≡ length (outstanding P) = ap (λ o. option_map_or (λ (Q : Spe). length (outstanding Q)) o 0) (spe_is is) in
     ap (λ o. filter (λ s. is_some (next M s)) (option_map_or (steps_of_mfc p) o [])) spe
     ∙ first_off (flat_map (steps_of_number p P) (outstanding P)) (not_next m M (Atomic p) at atomic) (filter_flat (λ t. is_some (next M t)) (steps_of_number p P) (outstanding P) (λ i c there.
-      command_none m M word p i c P at spe there (queue_none m word p (queue_length m p) i queue (let l = index_within (outstanding P) i c there in omega (arith, l, count)))))
+    command_none m M word p i c P at spe there (queue_none m word p (queue_length m p) i queue (let l = index_within (outstanding P) i c there in omega (arith, l, count)))))
   where
     spe_is : state_of m ≡ Some M → spe_of m p ≡ Some P
     spe_is is = ap (λ o. option_and_then (λ (N : State). slice_get N.spes p) o) is ∙ spe
