@@ -1,6 +1,6 @@
 -- The choices of a seed make one run.
 use Rattle.std.proofs.Common.{◌≡◌, ℕ, ◌-◌, ap, refl, sym, ◌∙◌, subst, List, ◌∷◌, length, true≢false}
-use Rattle.std.specs.Prelude.{Option, Some, None, IsSome, is_some, Bool, true, false, if◌then◌else◌, slice_get}
+use Rattle.std.specs.Prelude.{Option, Some, None, is_some, Bool, true, false, if◌then◌else◌, slice_get}
 use Rattle.std.specs.Option.{option_and_then, option_map_or}
 use Rattle.std.proofs.lemmas.Option.{none-some, same_Some}
 use Rattle.cell_base.specs.declared.steps.Step.{Step}

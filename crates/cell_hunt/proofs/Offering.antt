@@ -1,6 +1,6 @@
 -- Each step that is offered is allowed.
-use Rattle.std.proofs.Common.{◌≡◌, ℕ, zero, suc, ◌%◌, ap, refl, sym, ◌∙◌, subst, List, [], ◌∷◌, ◌++◌, length, true≢false}
-use Rattle.std.specs.Prelude.{Option, Some, None, is_some, IsSome, nat_lt, Bool, true, false, filter, slice_get, if◌then◌else◌, cond, option_to_list}
+use Rattle.std.proofs.Common.{◌≡◌, ℕ, zero, suc, ◌%◌, ap, refl, subst, List, [], ◌∷◌, ◌++◌, length}
+use Rattle.std.specs.Prelude.{Option, Some, None, is_some, IsSome, nat_lt, Bool, true, false, filter, slice_get, if◌then◌else◌, option_to_list}
 use Rattle.std.specs.Option.{option_and_then, option_map_or}
 use Rattle.std.proofs.lemmas.List.Elements.{filter_passes}
 use Rattle.std.proofs.lemmas.Option.{none-some, same_Some, slice_get_within, get_or_from_slice_get}
@@ -10,7 +10,7 @@ use Rattle.cell_base.specs.declared.steps.Step.TheVariants.{Exec, Atomic, Host}
 use Rattle.cell_machine.specs.State.{State}
 use Rattle.cell_machine.specs.Next.{next}
 use Rattle.cell_machine.specs.Choices.{allowed_of_queued, picked_queued, queued_of, steps_of_queued}
-use Rattle.cell_machine.specs.Run.{Ran, state_of, next_of, allowed, picked, picked_of}
+use Rattle.cell_machine.specs.Run.{Ran, state_of, next_of, picked, picked_of}
 use Rattle.cell_machine.proofs.Choices.{pick_none, pick_one}
 use Rattle.cell_hunt.specs.Offers.{offered, offered_by, offered_by_first, offered_by_queue, offers, queue_length, IsGreatest}
 

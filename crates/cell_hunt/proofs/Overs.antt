@@ -1,12 +1,11 @@
 -- Where nobody has a step, none is allowed; and each step that is offered is allowed.
-use Rattle.std.proofs.Common.{◌≡◌, ℕ, zero, suc, ◌+◌, ◌-◌, ◌*◌, ◌%◌, ◌<◌, ◌≤◌, ap, refl, sym, ◌∙◌, subst, arith, List, [], ◌∷◌, ◌++◌, length, append_assoc, inl, inr, true≢false}
-use Rattle.std.specs.Prelude.{Option, Some, None, is_some, IsSome, IsSomeAnd, nat_lt, Bool, true, false, map, filter, flat_map, slice_get, if◌then◌else◌, cond, option_to_list, ◌⊎◌}
+use Rattle.std.proofs.Common.{◌≡◌, ℕ, zero, suc, ◌+◌, ◌%◌, ◌<◌, ◌≤◌, ap, refl, sym, ◌∙◌, arith, List, [], ◌∷◌, ◌++◌, length, append_assoc, inl, inr}
+use Rattle.std.specs.Prelude.{Option, Some, None, is_some, IsSomeAnd, nat_lt, Bool, true, false, map, filter, flat_map, slice_get, if◌then◌else◌, cond, option_to_list}
 use Rattle.std.specs.List.{range_with_len}
 use Rattle.std.specs.Option.{option_and_then, option_map_or}
 use Rattle.std.proofs.lemmas.Nat.{mod_below}
 use Rattle.std.proofs.lemmas.Bool.{cases_lt}
-use Rattle.std.proofs.lemmas.List.Elements.{filter_passes}
-use Rattle.std.proofs.lemmas.Option.{none-some, same_Some, slice_get-get_or, slice_get_within, get_or_from_slice_get}
+use Rattle.std.proofs.lemmas.Option.{none-some, slice_get-get_or}
 use Rattle.std.proofs.lemmas.Bool.Decides.{nat_tests}
 use Rattle.cell_base.specs.declared.steps.Actor.{Actor}
 use Rattle.cell_base.specs.declared.steps.Actor.TheVariants.{Spu, Mfc, Host as TheHost}
@@ -17,7 +16,7 @@ use Rattle.cell_machine.specs.State.{State}
 use Rattle.cell_machine.specs.Moves.{outstanding}
 use Rattle.cell_machine.specs.Next.{next}
 use Rattle.cell_machine.specs.Choices.{allowed_of_queued, picked_queued, queued_of, steps_of_queued}
-use Rattle.cell_machine.specs.Run.{Ran, state_of, next_of, spe_of, allowed, actors, picked, picked_of, first_of, first_allowed, steps_of, steps_of_mfc, steps_of_number}
+use Rattle.cell_machine.specs.Run.{Ran, state_of, next_of, spe_of, allowed, actors, first_of, first_allowed, steps_of_mfc, steps_of_number}
 use Rattle.cell_hunt.specs.Ends.{IsOver}
 use Rattle.cell_hunt.specs.Offers.{offered, offered_by, offered_by_first, offered_by_queue, offers, queue_length}
 

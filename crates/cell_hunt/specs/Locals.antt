@@ -1,5 +1,5 @@
 -- Local instructions: no other actor can see when one of them is made.
-use Rattle.std.specs.Prelude.{ℕ, ◌-◌, ◌==◌, ◌&&◌, Bool, true, false, not, nat_le, nat_lt, is_none, if◌then◌else◌, length, Option, Some, None, slice_get}
+use Rattle.std.specs.Prelude.{ℕ, ◌-◌, ◌==◌, ◌&&◌, Bool, true, false, nat_le, nat_lt, is_none, if◌then◌else◌, length, Option, Some, None, slice_get}
 use Rattle.std.specs.Option.{option_and_then, option_map_or}
 use Rattle.cell_base.specs.declared.steps.ChannelOp.{ChannelOp}
 use Rattle.cell_base.specs.declared.steps.ChannelOp.TheVariants.{Read, Count, Write}

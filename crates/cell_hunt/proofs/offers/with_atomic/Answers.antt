@@ -2,7 +2,7 @@ use Rattle.std.proofs.Common.{sym, ◌∙◌}
 use Rattle.cell_base.specs.declared.steps.Step.TheVariants.{Atomic}
 use Rattle.cell_hunt.specs.Choices.{key_of}
 use Rattle.cell_hunt.specs.Offers.{offered}
-use Rattle.cell_hunt.proofs.Bests.{best-more, best-same, offered-none, offered-one}
+use Rattle.cell_hunt.proofs.Bests.{best-more, offered-one}
 use Rattle.cell_hunt.proofs.offers.with_atomic.Goals as goal
 
 pub returns : goal.returns

@@ -3,7 +3,7 @@ use Rattle.std.specs.Prelude.{is_some}
 use Rattle.cell_base.specs.declared.steps.Step.TheVariants.{Host}
 use Rattle.cell_hunt.specs.Choices.{key_of}
 use Rattle.cell_hunt.specs.Offers.{offered}
-use Rattle.cell_hunt.proofs.Bests.{best-more, best-same, offered-none, offered-one}
+use Rattle.cell_hunt.proofs.Bests.{best-more, offered-one}
 use Rattle.cell_hunt.proofs.Offering.{pick-host}
 use Rattle.cell_hunt.proofs.offers.with_host.Goals as goal
 

@@ -3,7 +3,7 @@ use Rattle.std.specs.Prelude.{Some, is_some}
 use Rattle.cell_base.specs.declared.steps.Step.TheVariants.{Exec}
 use Rattle.cell_hunt.specs.Choices.{key_of}
 use Rattle.cell_hunt.specs.Offers.{offered}
-use Rattle.cell_hunt.proofs.Bests.{best-beaten, best-more, best-same, offered-none, offered-one, step-best}
+use Rattle.cell_hunt.proofs.Bests.{best-beaten, best-more, offered-one, step-best}
 use Rattle.cell_hunt.proofs.Offering.{pick-exec}
 use Rattle.cell_hunt.proofs.offers.with_instruction.Goals as goal
 

@@ -1,5 +1,4 @@
 use Rattle.std.proofs.Common.{◌≡◌, length, None, sym, ap, ◌∙◌, subst}
-use Rattle.cell_machine.specs.Effects.{effect_in}
 use Rattle.cell_machine.specs.Run.{Ran}
 use Rattle.race_check.specs.Races.{TellsLatest}
 use Rattle.race_check.specs.Searches.{run_of}
