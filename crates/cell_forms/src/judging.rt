@@ -49,11 +49,11 @@ fn go_on(
     looks: &mut Option<Looks>,
     place: u32,
     step: Step,
-    effect: Effect,
+    effect: &Effect,
 ) -> Result<Verdict, Fault>
     requires looks { MayLookAt (run_of search.old) looks.old }
     requires clear { IsClear search.old }
-    requires effect { effect_in (run_of search.old) step ≡ Some effect }
+    requires effect { effect_in (run_of search.old) step ≡ Some effect.now }
     requires place { place ≡ length (run_of search.old).steps }
     ensures run { IfOk result (λ _. run_of search.new ≡ record (run_of search.old) { steps = (run_of search.old).steps ++ step ∷ [] }) }
     ensures verdict { IfOk result (IsVerdict (run_of search.new)) }
@@ -93,7 +93,7 @@ fn search_steps(
         let Some(effect) = search.machine().effect(*step) else {
             return Err(Fault::NotARun { at: place });
         };
-        let verdict = go_on(search, looks, place, *step, effect)?;
+        let verdict = go_on(search, looks, place, *step, &effect)?;
         if let Verdict::Race { .. } = verdict {
             return Ok(verdict);
         }

@@ -59,11 +59,11 @@ impl Looks {
         search: &mut Search,
         place: u32,
         step: Step,
-        effect: Effect,
+        effect: &Effect,
     ) -> Result<Verdict, AllocError>
         requires looks { LooksAt (run_of search.old) self.old }
         requires clear { IsClear search.old }
-        requires effect { effect_in (run_of search.old) step ≡ Some effect }
+        requires effect { effect_in (run_of search.old) step ≡ Some effect.now }
         requires place { place ≡ length (run_of search.old).steps }
         ensures run { IfOk result (λ _. run_of search.new ≡ record (run_of search.old) { steps = (run_of search.old).steps ++ step ∷ [] }) }
         ensures verdict { IfOk result (IsVerdict (run_of search.new)) }
@@ -71,7 +71,7 @@ impl Looks {
         ensures looks { IfOk result (λ v. v ≡ Verdict.Accepted → LooksAt (run_of search.new) self.new) }
         ensures failed { OnErr result (HasMadeAtMost (run_of search.old) step (run_of search.new)) }
     {
-        let made = Made::of(search.machine(), step, effect);
+        let made = Made::of(search.machine(), step, *effect);
         let Ok(verdict) = search.advance(step, effect) else {
             return Err(AllocError);
         };

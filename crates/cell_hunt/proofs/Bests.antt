@@ -137,13 +137,8 @@ queue_more m word p n xs =
     let e : n + 1 ≡ suc n = omega arith in
     ap (λ k. xs ++ offered_by_queue m word p k) e ∙ ap (λ (ys : List Step). xs ++ ys) (queue_suc m word p n) ∙ sym (append_assoc xs (offered_by_queue m word p n) (option_to_list (queued_of m p n word)))
 
-pub queue-none : (key : Step → ℕ) (m : Ran) (word p n : ℕ) (xs : List Step) (best : Option Keyed) → queued_of m p n word ≡ None → IsBestOf key (xs ++ offered_by_queue m word p n) best → IsBestOf key (xs ++ offered_by_queue m word p (n + 1)) best
-queue-none key m word p n xs best none is =
-    subst (λ ys. IsBestOf key ys best) (sym (queue_more m word p n xs)) (best-same key (xs ++ offered_by_queue m word p n) (option_to_list (queued_of m p n word)) best (ap option_to_list none) is)
-
-pub queue-some : (key : Step → ℕ) (m : Ran) (word p n : ℕ) (xs : List Step) (s : Step) (best : Option Keyed) → queued_of m p n word ≡ Some s → IsBestOf key ((xs ++ offered_by_queue m word p n) ++ s ∷ []) best → IsBestOf key (xs ++ offered_by_queue m word p (n + 1)) best
-queue-some key m word p n xs s best some is =
-    subst (λ ys. IsBestOf key ys best) (sym (queue_more m word p n xs)) (best-more key (xs ++ offered_by_queue m word p n) (option_to_list (queued_of m p n word)) s best (ap option_to_list some) is)
+pub queue-next : (key : Step → ℕ) (m : Ran) (word p n : ℕ) (xs : List Step) (best : Option Keyed) → IsBestOf key ((xs ++ offered_by_queue m word p n) ++ option_to_list (queued_of m p n word)) best → IsBestOf key (xs ++ offered_by_queue m word p (n + 1)) best
+queue-next key m word p n xs best is = subst (λ ys. IsBestOf key ys best) (sym (queue_more m word p n xs)) is
 
 -- all that a processor offers
 pub processor-all : (key : Step → ℕ) (m : Ran) (word p : ℕ) (xs : List Step) (best : Option Keyed)

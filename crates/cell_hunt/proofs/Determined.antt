@@ -1,6 +1,6 @@
 -- The choices of a seed make one run.
 use Rattle.std.proofs.Common.{◌≡◌, ℕ, ◌-◌, ap, refl, sym, ◌∙◌, subst, List, ◌∷◌, length, true≢false}
-use Rattle.std.specs.Prelude.{Option, Some, None, is_some, Bool, true, false, if◌then◌else◌, slice_get}
+use Rattle.std.specs.Prelude.{Option, Some, None, IfSome, is_some, Bool, true, false, if◌then◌else◌, slice_get}
 use Rattle.std.specs.Option.{option_and_then, option_map_or}
 use Rattle.std.proofs.lemmas.Option.{none-some, same_Some}
 use Rattle.cell_base.specs.declared.steps.Step.{Step}
@@ -12,17 +12,18 @@ use Rattle.cell_machine.specs.Spe.{Spe}
 use Rattle.cell_machine.specs.Run.{Ran, next_of, spe_of}
 use Rattle.cell_machine.proofs.MachineEffects.{effect-allowed}
 use Rattle.cell_hunt.specs.declared.strategy.Strategy.{Strategy}
-use Rattle.cell_hunt.specs.Choices.{Choices, drawn, key_of, lowered_by, lowers, second_word, strategy_now, IsBest, IsChosen, IsDrawn, IsLowered, IsMade, IsNext, IsTop}
+use Rattle.cell_hunt.specs.Choices.{Choices, key_of, lowered_by, lowers, strategy_now, walked, with_new_keys, with_word, with_words, word_of, IsBest, IsChosen, IsDrawn, IsDrawnBy, IsFound, IsLowered, IsMade, IsNext, IsTop}
 use Rattle.cell_hunt.specs.Ends.{IsOver}
 use Rattle.cell_hunt.specs.Locals.{going_on, is_local, is_local_at, local_behind}
 use Rattle.cell_hunt.specs.Offers.{offers}
 use Rattle.cell_hunt.specs.Runs.{Makes, End, Then, with_step, IsRunOfSeed}
 use Rattle.cell_hunt.proofs.Bests.{greatest-one}
 use Rattle.cell_hunt.proofs.Offering.{greatest-allowed}
+use Rattle.cell_hunt.proofs.Walking.{walked-allowed}
 
 -- ---- a chosen step is allowed
 
-local_allowed : (m : Ran) (p : ℕ) → is_local_at m p ≡ true → is_some (next_of m (Exec p)) ≡ true
+pub local_allowed : (m : Ran) (p : ℕ) → is_local_at m p ≡ true → is_some (next_of m (Exec p)) ≡ true
 local_allowed m p h = (effect-allowed m (Exec p) (effect_in m (Exec p)) refl).0 (on (spe_of m p) (effect_in m (Exec p)) h)
   where
     on : (o : Option Spe) (e : Option Effect) → option_map_or (λ P. option_map_or (is_local P) e false) o false ≡ true → is_some e ≡ true
@@ -53,12 +54,26 @@ going_allowed m strategy s h = on strategy.local h
     on true e = last (slice_get m.steps (length m.steps - 1)) e
     on false e = absurd (none-some s e)
 
+top-allowed : (m : Ran) (strategy : Strategy) (word : ℕ) (c : Choices) (s : Step) (left : Choices) → IsTop m strategy word c s left → is_some (next_of m s) ≡ true
+top-allowed m strategy word c s left is = greatest-allowed m word (key_of m strategy c.keys) s is.best
+
+made-allowed : (b : Bool) (m : Ran) (strategy : Strategy) (word : ℕ) (c : Choices) (s : Step) (left : Choices) → IsMade b m strategy word c s left → is_some (next_of m s) ≡ true
+made-allowed true m strategy word c s left is = greatest-allowed m word (key_of m strategy left.keys) s is.best
+made-allowed false m strategy word c s left is = top-allowed m strategy word c s left is
+
+found-allowed : (o : Option Step) (m : Ran) (strategy : Strategy) (word : ℕ) (c : Choices) (s : Step) (left : Choices) → IfSome o (λ t. is_some (next_of m t) ≡ true) → IsFound o m strategy word c s left → is_some (next_of m s) ≡ true
+found-allowed (Some t) m strategy word c s left allowed is = subst (λ x. is_some (next_of m x) ≡ true) (sym is.0) allowed
+found-allowed None m strategy word c s left allowed is = top-allowed m strategy word (with_new_keys c) s left is
+
 drawn-allowed : (m : Ran) (strategy : Strategy) (c : Choices) (s : Step) (left : Choices) → IsDrawn m strategy c s left → is_some (next_of m s) ≡ true
-drawn-allowed m strategy c s left is = on (lowers strategy c) is
+drawn-allowed m strategy c s left is = on strategy.walks is
   where
-    on : (b : Bool) → IsMade b m strategy (second_word c.words) (drawn strategy c) s left → is_some (next_of m s) ≡ true
-    on true how = greatest-allowed m (second_word c.words) _ s how.best
-    on false how = greatest-allowed m (second_word c.words) _ s how.best
+    word : ℕ
+    word = word_of c.words
+
+    on : (b : Bool) → IsDrawnBy b m strategy word (with_word c) s left → is_some (next_of m s) ≡ true
+    on true how = found-allowed (walked m strategy word 8 (with_word c).words).step m strategy word (with_words (with_word c) (walked m strategy word 8 (with_word c).words).words) s left (walked-allowed m strategy word 8 (with_word c).words) how
+    on false how = made-allowed (lowers (with_word c)) m strategy word (with_word (with_word c)) s left how
 
 pub chosen-allowed : (m : Ran) (c : Choices) (s : Step) (left : Choices) → IsChosen m c s left → is_some (next_of m s) ≡ true
 chosen-allowed m c s left is = on (going_on m (strategy_now m c)) refl is
@@ -83,12 +98,24 @@ lowered_one m strategy word c s t left right a b =
 top_one : (m : Ran) (strategy : Strategy) (word : ℕ) (c : Choices) (s t : Step) (left right : Choices) → IsTop m strategy word c s left → IsTop m strategy word c t right → (s ≡ t) × (left ≡ right)
 top_one m strategy word c s t left right a b = (greatest-one (key_of m strategy c.keys) (offers m word) s t a.best b.best, a.leaves ∙ sym b.leaves)
 
+made_one : (b : Bool) (m : Ran) (strategy : Strategy) (word : ℕ) (c : Choices) (s t : Step) (left right : Choices) → IsMade b m strategy word c s left → IsMade b m strategy word c t right → (s ≡ t) × (left ≡ right)
+made_one true m strategy word c s t left right x y = lowered_one m strategy word c s t left right x y
+made_one false m strategy word c s t left right x y = top_one m strategy word c s t left right x y
+
+found_one : (o : Option Step) (m : Ran) (strategy : Strategy) (word : ℕ) (c : Choices) (s t : Step) (left right : Choices) → IsFound o m strategy word c s left → IsFound o m strategy word c t right → (s ≡ t) × (left ≡ right)
+found_one (Some x) m strategy word c s t left right a b = (a.0 ∙ sym b.0, a.1 ∙ sym b.1)
+found_one None m strategy word c s t left right a b = top_one m strategy word (with_new_keys c) s t left right a b
+
 drawn_one : (m : Ran) (strategy : Strategy) (c : Choices) (s t : Step) (left right : Choices) → IsDrawn m strategy c s left → IsDrawn m strategy c t right → (s ≡ t) × (left ≡ right)
-drawn_one m strategy c s t left right a b = on (lowers strategy c) a b
+drawn_one m strategy c s t left right a b = on strategy.walks a b
   where
-    on : (low : Bool) → IsMade low m strategy (second_word c.words) (drawn strategy c) s left → IsMade low m strategy (second_word c.words) (drawn strategy c) t right → (s ≡ t) × (left ≡ right)
-    on true x y = lowered_one m strategy (second_word c.words) (drawn strategy c) s t left right x y
-    on false x y = top_one m strategy (second_word c.words) (drawn strategy c) s t left right x y
+    word : ℕ
+    word = word_of c.words
+
+    on : (walks : Bool) → IsDrawnBy walks m strategy word (with_word c) s left → IsDrawnBy walks m strategy word (with_word c) t right → (s ≡ t) × (left ≡ right)
+    on true x y =
+        found_one (walked m strategy word 8 (with_word c).words).step m strategy word (with_words (with_word c) (walked m strategy word 8 (with_word c).words).words) s t left right x y
+    on false x y = made_one (lowers (with_word c)) m strategy word (with_word (with_word c)) s t left right x y
 
 next_one : (o : Option Step) (m : Ran) (strategy : Strategy) (c : Choices) (s t : Step) (left right : Choices) → IsNext o m strategy c s left → IsNext o m strategy c t right → (s ≡ t) × (left ≡ right)
 next_one (Some on) m strategy c s t left right a b = (a.0 ∙ sym b.0, a.1 ∙ sym b.1)

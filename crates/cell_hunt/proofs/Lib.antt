@@ -2,6 +2,9 @@ mod Bests
 mod Overs
 mod Offering
 mod Determined
+mod Commands
+mod LocalSteps
+mod Walking
 mod Making
 mod Places
 mod Same

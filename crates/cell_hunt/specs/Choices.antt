@@ -1,13 +1,13 @@
 -- Which step a run makes next, by its strategy and by chance.
-use Rattle.std.specs.Prelude.{◌≡◌, ℕ, ◌+◌, ◌-◌, ◌%◌, ◌^◌, ◌&&◌, Bool, true, false, not, nat_lt, if◌then◌else◌, Option, Some, None, length}
+use Rattle.std.specs.Prelude.{◌≡◌, ℕ, zero, suc, ◌+◌, ◌-◌, ◌%◌, ◌^◌, ◌&&◌, Bool, true, false, nat_lt, if◌then◌else◌, Option, Some, None, length}
 use Rattle.cell_base.specs.declared.steps.Step.{Step}
-use Rattle.cell_machine.specs.Run.{Ran}
+use Rattle.cell_machine.specs.Run.{Ran, picked_of}
 use Rattle.rand_pcg.specs.Lcg.{Lcg, started, increment_of}
 use Rattle.rand_pcg.specs.Pcg.{pcg32, multiplier_64}
 use Rattle.cell_hunt.specs.declared.keys.Keys.{Keys}
 use Rattle.cell_hunt.specs.declared.strategy.Strategy.{Strategy}
 use Rattle.cell_hunt.specs.Mixing.{with_number}
-use Rattle.cell_hunt.specs.Strategies.{strategy_at}
+use Rattle.cell_hunt.specs.Strategies.{actor_drawn, strategy_at}
 use Rattle.cell_hunt.specs.Keys.{key_at, opened as opened_keys, place_of, with_base, with_lowered}
 use Rattle.cell_hunt.specs.Locals.{going_on}
 use Rattle.cell_hunt.specs.Polls.{is_poll}
@@ -17,9 +17,9 @@ use Rattle.cell_hunt.specs.Offers.{offers, IsGreatest}
 
 pub record Choices : Type 0 where
   pub strategy : Strategy
-  -- where keys stay, the greatest one is lowered before a choice with a chance of 2^-rate
+  -- if keys stay, the greatest one is lowered before a choice with a chance of 2^-rate
   pub rate : ℕ
-  -- the words by chance that are still to come, each of 32 bits
+  -- the random words that are still to come, each of 32 bits
   pub words : Lcg
   pub keys : Keys
 
@@ -27,37 +27,23 @@ pub record Choices : Type 0 where
 abbrev pub words_of : ℕ → ℕ → Lcg
 words_of seed run = started 64 multiplier_64 (with_number seed run) (increment_of 64 run)
 
--- the next word of a generator, and the one behind it
-abbrev pub first_word : Lcg → ℕ
-first_word g = (pcg32 g).0
+-- the next word of a generator, and the generator after it
+abbrev pub word_of : Lcg → ℕ
+word_of g = (pcg32 g).0
 
-abbrev pub second_word : Lcg → ℕ
-second_word g = (pcg32 (pcg32 g).1).0
-
-abbrev pub behind_both : Lcg → Lcg
-behind_both g = (pcg32 (pcg32 g).1).1
+abbrev pub after_word : Lcg → Lcg
+after_word g = (pcg32 g).1
 
 -- before the first step: a word is the base of the keys, and one draws the rate
 abbrev pub opened : Strategy → Lcg → Choices
 opened strategy g = record {
   strategy = strategy;
-  rate = strategy.least_rate + second_word g % 8;
-  words = behind_both g;
-  keys = opened_keys (first_word g);
+  rate = strategy.least_rate + word_of (after_word g) % 8;
+  words = after_word (after_word g);
+  keys = opened_keys (word_of g);
 }
 
--- ---- a choice
-
--- two words are drawn; where keys are drawn anew, the first one is their base
-abbrev pub drawn : Strategy → Choices → Choices
-drawn strategy c = record c {
-  words = behind_both c.words;
-  keys = if strategy.anew then with_base (first_word c.words) c.keys else c.keys;
-}
-
--- otherwise it says whether the greatest key is lowered
-abbrev pub lowers : Strategy → Choices → Bool
-lowers strategy c = not strategy.anew && nat_lt (first_word c.words) (2 ^ (32 - c.rate))
+-- ---- keys
 
 -- the key of a step; polls are below all others where they come last
 abbrev pub key_of : Ran → Strategy → Keys → Step → ℕ
@@ -72,7 +58,7 @@ IsBest m strategy word keys s = IsGreatest (key_of m strategy keys) (offers m wo
 abbrev pub lowered_by : Ran → Choices → Step → Choices
 lowered_by m c s = record c { keys = with_lowered (place_of s) (length m.steps + 1) c.keys }
 
--- by these choices, for which two words were drawn, this step is made, and these are left
+-- by these choices this step is made, and these are left: the greatest key is lowered first, or it isn't
 pub record IsLowered (m : Ran) (strategy : Strategy) (word : ℕ) (c : Choices) (s : Step) (left : Choices) : Type 0 where
   pub top : Step
   pub was : IsBest m strategy word c.keys top
@@ -87,8 +73,57 @@ abbrev pub IsMade : Bool → Ran → Strategy → ℕ → Choices → Step → C
 IsMade true m strategy word c s left = IsLowered m strategy word c s left
 IsMade false m strategy word c s left = IsTop m strategy word c s left
 
+-- the choices after the next word, which has the chance of 2^-rate to lower the greatest key
+abbrev pub with_word : Choices → Choices
+with_word c = record c { words = after_word c.words }
+
+abbrev pub lowers : Choices → Bool
+lowers c = nat_lt (word_of c.words) (2 ^ (32 - c.rate))
+
+-- ---- a walk
+
+-- a step that was found, if one was, and the words that are left
+pub record Walked : Type 0 where
+  pub step : Option Step
+  pub words : Lcg
+
+abbrev pub or_later : Option Step → Lcg → Walked → Walked
+or_later (Some s) g later = record { step = Some s; words = g }
+or_later None g later = later
+
+-- each of the next n words draws an actor; the first that has a step makes the one that `word` picks
+unfoldable pub walked : Ran → Strategy → ℕ → ℕ → Lcg → Walked
+walked m strategy word zero g = record { step = None; words = g }
+walked m strategy word (suc n) g =
+    or_later (picked_of m (actor_drawn strategy (length m.setup.entries) (word_of g)) word) (after_word g) (walked m strategy word n (after_word g))
+
+-- the next word is the base of all keys
+abbrev pub with_new_keys : Choices → Choices
+with_new_keys c = record c { words = after_word c.words; keys = with_base (word_of c.words) c.keys }
+
+-- a step that was found is made; otherwise the one with the greatest key, where all are drawn anew
+abbrev pub IsFound : Option Step → Ran → Strategy → ℕ → Choices → Step → Choices → Type 0
+IsFound (Some t) m strategy word c s left = (s ≡ t) × (left ≡ c)
+IsFound None m strategy word c s left = IsTop m strategy word (with_new_keys c) s left
+
+abbrev pub with_words : Choices → Lcg → Choices
+with_words c words = record c { words = words }
+
+-- eight actors are drawn
+abbrev pub IsWalked : Ran → Strategy → ℕ → Choices → Step → Choices → Type 0
+IsWalked m strategy word c s left =
+    IsFound (walked m strategy word 8 c.words).step m strategy word (with_words c (walked m strategy word 8 c.words).words) s left
+
+-- ---- a choice
+
+-- by its strategy a run walks, or goes by keys that stay
+abbrev pub IsDrawnBy : Bool → Ran → Strategy → ℕ → Choices → Step → Choices → Type 0
+IsDrawnBy true m strategy word c s left = IsWalked m strategy word c s left
+IsDrawnBy false m strategy word c s left = IsMade (lowers c) m strategy word (with_word c) s left
+
+-- a word picks among the steps of one actor, or of one queued command
 abbrev pub IsDrawn : Ran → Strategy → Choices → Step → Choices → Type 0
-IsDrawn m strategy c s left = IsMade (lowers strategy c) m strategy (second_word c.words) (drawn strategy c) s left
+IsDrawn m strategy c s left = IsDrawnBy strategy.walks m strategy (word_of c.words) (with_word c) s left
 
 -- A processor goes on with local instructions, for which no word is drawn; otherwise the step is drawn.
 abbrev pub IsNext : Option Step → Ran → Strategy → Choices → Step → Choices → Type 0

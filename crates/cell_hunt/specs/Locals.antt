@@ -23,7 +23,8 @@ is_ended note = false
 abbrev pub is_slot_free : Spe → Bool
 is_slot_free P = is_none P.channels.slot
 
--- a command may be issued beside its controller: it leaves a place in the queue, so that the queue-full event can't depend on the order, and no tag status is asked for
+-- a command may be issued unseen by its controller if a place of the queue stays free and no tag status is requested: event 0x8 is raised when a full queue gets a free
+-- place, so it would depend on the order of this step and of the queue's own
 abbrev pub may_issue : Spe → Bool
 may_issue P = nat_lt (length (outstanding P)) 15 && is_none P.tags.request
 

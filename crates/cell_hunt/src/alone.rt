@@ -18,10 +18,10 @@ fn make_steps(machine: &mut Machine, chooser: &mut Chooser)
     ensures over { IsOver machine.new }
 {
     for place in 0..machine.setup().budget() {
-        let Some(chosen) = chooser.next(machine, place) else {
+        let Some(step) = chooser.next(machine, place) else {
             return;
         };
-        let Ok(_) = machine.step(chosen.step) else {
+        let Ok(_) = machine.step(step) else {
             unreachable!()
         };
     }

@@ -1,14 +1,13 @@
 //! Which step a run makes next.
 
-ghost use Rattle.std.specs.Prelude.{◌≡◌, ◌+◌, ◌-◌, ◌^◌, ◌<◌, nat_lt, length, Some, IfSome, IfNone, IsSome};
-ghost use Rattle.cell_machine.specs.Effects.{effect_in};
+ghost use Rattle.std.specs.Prelude.{◌≡◌, ◌+◌, ◌-◌, ◌^◌, ◌<◌, nat_lt, length, IfSome, IfNone, IsSome};
 ghost use Rattle.cell_machine.specs.Run.{next_of};
-ghost use Rattle.cell_hunt.specs.Choices.{IsChosen, IsDrawn, opened, words_of};
+ghost use Rattle.cell_hunt.specs.Choices.{IsChosen, IsDrawn, IsMade, IsWalked, lowers, opened, walked, with_word, words_of};
 ghost use Rattle.cell_hunt.specs.Ends.{IsOver};
 ghost use Rattle.cell_hunt.specs.Strategies.{strategy_of};
 
 use crate::keys::Keys;
-use crate::locals::{Chosen, going_on};
+use crate::locals::going_on;
 use crate::mixing::with_number;
 use crate::offers::best;
 use crate::owners::place_of;
@@ -19,13 +18,16 @@ use rand_core::utils::NextWord;
 use rand_pcg::Pcg32;
 use std::marker::Model;
 
+/// How many actors a walk draws before it goes by the keys of all.
+const TRIES: u32 = 8;
+
 /// The choices of a run.
 #[derive(Drop)]
 pub struct Chooser {
     strategy: Strategy,
-    /// Where keys stay, the greatest one is lowered before a choice with a chance of 2^-rate.
+    /// If keys stay, the greatest one is lowered before a choice with a chance of 2^-rate.
     rate: u32,
-    /// The words by chance that are still to come.
+    /// The random words that are still to come.
     words: Pcg32,
     keys: Keys,
 }
@@ -45,6 +47,21 @@ fn is_lowering(word: u32, rate: u32) -> bool
     u64::from(word) < 1u64 << 32u32.saturating_sub(rate)
 }
 
+/// The step of the first actor drawn that has one. A word draws each actor, and `word` picks among the steps of one.
+fn first_drawn(words: &mut Pcg32, machine: &Machine, strategy: Strategy, word: u32) -> Option<Step>
+    ensures drawn { (result ≡ (walked machine.now strategy word 8 words.old).step) × (words.new ≡ (walked machine.now strategy word 8 words.old).words) }
+    ensures allowed { IfSome result (λ s. IsSome (next_of machine.now s)) }
+{
+    for _ in 0..TRIES {
+        let actor = strategy.actor(machine.setup().spes(), words.next_word());
+        let step = machine.pick(actor, u64::from(word));
+        if step.is_some() {
+            return step;
+        }
+    }
+    None
+}
+
 impl Chooser {
     /// Before the first step of run `run` of a seed.
     pub fn new(seed: u64, run: u32) -> Chooser
@@ -62,7 +79,46 @@ impl Chooser {
         }
     }
 
-    /// The step that is drawn, None exactly where the run, which has so many steps, is over.
+    /// The step of a walk, in which `word` picks among the steps of an actor. None exactly if the run is over.
+    fn walk(&mut self, machine: &Machine, strategy: Strategy, word: u32) -> Option<Step>
+        ensures walked { IfSome result (λ s. IsWalked machine.now strategy word self.old s self.new) }
+        ensures allowed { IfSome result (λ s. IsSome (next_of machine.now s)) }
+        ensures none { IfNone result (IsOver machine.now) }
+    {
+        let step = first_drawn(&mut self.words, machine, strategy, word);
+        if step.is_some() {
+            return step;
+        }
+        let base = self.words.next_word();
+        self.keys.set_base(u64::from(base));
+        best(machine, strategy, &self.keys, word)
+    }
+
+    /// The step by keys that stay. None exactly if the run, which has so many steps, is over.
+    fn by_keys(
+        &mut self,
+        machine: &Machine,
+        strategy: Strategy,
+        word: u32,
+        steps: u32,
+    ) -> Option<Step>
+        requires steps { length machine.now.steps ≡ steps }
+        requires few { steps + 1 < 2 ^ 32 }
+        ensures made { IfSome result (λ s. IsMade (lowers self.old) machine.now strategy word (with_word self.old) s self.new) }
+        ensures allowed { IfSome result (λ s. IsSome (next_of machine.now s)) }
+        ensures none { IfNone result (IsOver machine.now) }
+    {
+        if !is_lowering(self.words.next_word(), self.rate) {
+            return best(machine, strategy, &self.keys, word);
+        }
+        let Some(top) = best(machine, strategy, &self.keys, word) else {
+            return None;
+        };
+        self.keys.lower(place_of(top), steps + 1);
+        best(machine, strategy, &self.keys, word)
+    }
+
+    /// The step that is drawn. None exactly if the run, which has so many steps, is over.
     fn draw(&mut self, machine: &Machine, strategy: Strategy, steps: u32) -> Option<Step>
         requires steps { length machine.now.steps ≡ steps }
         requires few { steps + 1 < 2 ^ 32 }
@@ -70,39 +126,27 @@ impl Chooser {
         ensures allowed { IfSome result (λ s. IsSome (next_of machine.now s)) }
         ensures none { IfNone result (IsOver machine.now) }
     {
-        let first = self.words.next_word();
-        let second = self.words.next_word();
-        if strategy.anew {
-            self.keys.set_base(u64::from(first));
-            return best(machine, strategy, &self.keys, second);
+        let word = self.words.next_word();
+        if strategy.walks {
+            self.walk(machine, strategy, word)
+        } else {
+            self.by_keys(machine, strategy, word, steps)
         }
-        if !is_lowering(first, self.rate) {
-            return best(machine, strategy, &self.keys, second);
-        }
-        let Some(top) = best(machine, strategy, &self.keys, second) else {
-            return None;
-        };
-        self.keys.lower(place_of(top), steps + 1);
-        best(machine, strategy, &self.keys, second)
     }
 
-    /// The next step of a run that has so many, None exactly where the run is over.
-    pub fn next(&mut self, machine: &Machine, steps: u32) -> Option<Chosen>
+    /// The next step of a run that has so many. None exactly if the run is over.
+    pub fn next(&mut self, machine: &Machine, steps: u32) -> Option<Step>
         requires steps { length machine.now.steps ≡ steps }
         requires few { steps + 1 < 2 ^ 32 }
-        ensures chosen { IfSome result (λ x. IsChosen machine.now self.old x.step self.new) }
-        ensures effect { IfSome result (λ x. effect_in machine.now x.step ≡ Some x.effect) }
-        ensures allowed { IfSome result (λ x. IsSome (next_of machine.now x.step)) }
+        ensures chosen { IfSome result (λ s. IsChosen machine.now self.old s self.new) }
+        ensures allowed { IfSome result (λ s. IsSome (next_of machine.now s)) }
         ensures none { IfNone result (IsOver machine.now) }
     {
         let strategy = self.strategy.at(steps, machine.setup().budget());
-        if let Some(chosen) = going_on(machine, strategy, steps) {
-            return Some(chosen);
+        let on = going_on(machine, strategy, steps);
+        if on.is_some() {
+            return on;
         }
-        let Some(step) = self.draw(machine, strategy, steps) else {
-            return None;
-        };
-        let effect = machine.allowed_effect(step);
-        Some(Chosen { step, effect })
+        self.draw(machine, strategy, steps)
     }
 }

@@ -77,12 +77,12 @@ impl Keys {
         ensures small { result < 2 ^ 40 }
     {
         let place = place_of(step);
-        if !strategy.anew {
+        if !strategy.walks {
             let lowered = self.lowered_at(place);
             if lowered != 0 {
                 return UNLOWERED - u64::from(lowered);
             }
         }
-        UNLOWERED + self.random_at(place) * strategy.weight(step)
+        UNLOWERED + self.random_at(place) * strategy.key_weight(step)
     }
 }

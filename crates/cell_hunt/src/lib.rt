@@ -1,9 +1,9 @@
-//! Many runs of one machine, in orders that a seed chooses, each searched for races.
+//! Many runs of one machine under random schedules that a seed chooses, each searched for races.
 //!
-//! A race that shows only once in many runs shows in one of them, and how many kinds of runs there are, by what their actors touched in which
-//! order, tells how much is left to be seen. Every processor, atomic slot and queued command of a machine has a key, and so has the host. Of those that
-//! have an allowed step the one with the greatest key makes one. The strategies of a hunt differ in how long keys stay, whose keys weigh less, and
-//! whether a processor goes on with instructions that nobody else can see.
+//! A race that only one of many runs shows is found by making many. The classes of the runs, by what their actors touched in which order, tell how
+//! much is left to be seen. A run makes its choices by one of four strategies: it walks, which draws an actor for each choice, or it gives each
+//! processor, atomic slot and queued command and the host a key, and who has the greatest key makes the step. In three strategies a processor goes
+//! on with instructions that no other actor can see.
 #![tactic(auto)]
 
 mod alone;

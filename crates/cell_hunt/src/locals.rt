@@ -1,22 +1,14 @@
 //! Local instructions: no other actor can see when one of them is made.
 
-ghost use Rattle.std.specs.Prelude.{◌≡◌, ◌-◌, ◌<◌, Some, None, length, option_map, slice_get, IfSome, IsSome, if◌then◌else◌};
+ghost use Rattle.std.specs.Prelude.{◌≡◌, ◌-◌, ◌<◌, Some, None, length, slice_get, IfSome, IsSome, if◌then◌else◌};
 ghost use Rattle.cell_base.specs.declared.steps.Step.TheVariants.{Exec};
 ghost use Rattle.cell_machine.specs.Spe.{Spe};
-ghost use Rattle.cell_machine.specs.Effects.{effect_in};
 ghost use Rattle.cell_machine.specs.Run.{next_of, spe_of};
 ghost use Rattle.cell_hunt.specs.Locals.{going_on, has_no_command, is_ended, is_in_registers, is_local, is_local_at, is_local_operation, is_local_read, is_local_write, is_slot_free, may_issue};
 
 use crate::strategy::Strategy;
 use cell_base::{ChannelOp, Step};
-use cell_machine::{Effect, Machine, Note};
-
-/// A step that was chosen, and its effect.
-#[derive(Clone, Copy)]
-pub struct Chosen {
-    pub step: Step,
-    pub effect: Effect,
-}
+use cell_machine::{Effect, Machine, Note, Reach};
 
 /// Whether a processor ceases to run.
 fn is_ended(note: Note) -> bool
@@ -88,16 +80,16 @@ fn has_no_command(machine: &Machine, spe: u8) -> bool
 }
 
 /// Whether an instruction of this effect neither loads nor stores.
-fn is_in_registers(effect: Effect) -> bool
-    ensures { result ≡ is_in_registers effect }
+fn is_in_registers(effect: &Effect) -> bool
+    ensures { result ≡ is_in_registers effect.now }
 {
     effect.reads.len == 0 && effect.writes.len == 0
 }
 
 /// Whether the next instruction of a processor, which has this effect, is local.
-fn is_local(machine: &Machine, spe: u8, effect: Effect) -> bool
+fn is_local(machine: &Machine, spe: u8, effect: &Effect) -> bool
     requires { spe < length machine.now.setup.entries }
-    ensures { (P : Spe) → spe_of machine.now spe ≡ Some P → result ≡ is_local P effect }
+    ensures { (P : Spe) → spe_of machine.now spe ≡ Some P → result ≡ is_local P effect.now }
 {
     if is_ended(effect.note) {
         return false;
@@ -111,23 +103,43 @@ fn is_local(machine: &Machine, spe: u8, effect: Effect) -> bool
     has_no_command(machine, spe)
 }
 
-/// The next instruction of a processor, where it is allowed and local.
-fn local_instruction(machine: &Machine, spe: u8) -> Option<Chosen>
-    ensures step { option_map (λ x. x.step) result ≡ (if is_local_at machine.now spe then Some (Exec spe) else None) }
-    ensures effect { IfSome result (λ x. effect_in machine.now x.step ≡ Some x.effect) }
-    ensures allowed { IfSome result (λ x. IsSome (next_of machine.now x.step)) }
+/// Whether the next instruction of a processor is allowed and local, by its effect.
+#[inline(never)]
+fn is_local_by_effect(machine: &Machine, spe: u8) -> bool
+    requires { spe < length machine.now.setup.entries }
+    ensures { result ≡ is_local_at machine.now spe }
+{
+    match machine.effect(Step::Exec { spe }) {
+        Some(effect) => is_local(machine, spe, &effect),
+        None => false,
+    }
+}
+
+/// Whether the next instruction of a processor is allowed and local.
+fn is_local_at(machine: &Machine, spe: u8) -> bool
+    requires { spe < length machine.now.setup.entries }
+    ensures { result ≡ is_local_at machine.now spe }
+{
+    match machine.reach(spe) {
+        Reach::Registers => true,
+        Reach::Store => has_no_command(machine, spe),
+        Reach::Other => is_local_by_effect(machine, spe),
+    }
+}
+
+/// The next instruction of a processor, if it is allowed and local.
+fn local_instruction(machine: &Machine, spe: u8) -> Option<Step>
+    ensures step { result ≡ (if is_local_at machine.now spe then Some (Exec spe) else None) }
+    ensures allowed { IfSome result (λ s. IsSome (next_of machine.now s)) }
 {
     if spe >= machine.setup().spes() {
         return None;
     }
-    let step = Step::Exec { spe };
-    let Some(effect) = machine.effect(step) else {
-        return None;
-    };
-    if !is_local(machine, spe, effect) {
-        return None;
+    if is_local_at(machine, spe) {
+        Some(Step::Exec { spe })
+    } else {
+        None
     }
-    Some(Chosen { step, effect })
 }
 
 /// The last step of a run of so many steps.
@@ -141,12 +153,11 @@ fn last_step(machine: &Machine, steps: u32) -> Option<Step>
     Some(machine.steps()[steps as usize - 1])
 }
 
-/// The next instruction of the processor that made the last step, where the strategy lets it go on.
-pub fn going_on(machine: &Machine, strategy: Strategy, steps: u32) -> Option<Chosen>
+/// The next instruction of the processor that made the last step, if the strategy lets it go on.
+pub fn going_on(machine: &Machine, strategy: Strategy, steps: u32) -> Option<Step>
     requires { length machine.now.steps ≡ steps }
-    ensures step { option_map (λ x. x.step) result ≡ going_on machine.now strategy }
-    ensures effect { IfSome result (λ x. effect_in machine.now x.step ≡ Some x.effect) }
-    ensures allowed { IfSome result (λ x. IsSome (next_of machine.now x.step)) }
+    ensures step { result ≡ going_on machine.now strategy }
+    ensures allowed { IfSome result (λ s. IsSome (next_of machine.now s)) }
 {
     if !strategy.local {
         return None;

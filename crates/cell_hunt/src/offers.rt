@@ -1,12 +1,13 @@
 //! Which of the allowed steps has the greatest key.
 
-ghost use Rattle.std.specs.Prelude.{◌≡◌, ◌<◌, ◌∷◌, ◌++◌, [], List, length, IfNone, IfSome, IsSome};
+ghost use Rattle.std.specs.Prelude.{◌≡◌, ◌<◌, ◌∷◌, ◌++◌, [], List, length, option_to_list, IfNone, IfSome, IsSome};
 ghost use Rattle.cell_machine.specs.Run.{next_of};
 ghost use Rattle.cell_base.specs.declared.steps.Step.{Step as AStep};
 ghost use Rattle.cell_base.specs.declared.steps.Step.TheVariants.{Exec, Atomic, Host};
 ghost use Rattle.cell_hunt.specs.Bests.{IsBestOf, is_beaten};
 ghost use Rattle.cell_hunt.specs.Choices.{IsBest, key_of};
 ghost use Rattle.cell_hunt.specs.Ends.{IsOver};
+ghost use Rattle.cell_machine.specs.Choices.{queued_of};
 ghost use Rattle.cell_hunt.specs.Offers.{offered, offered_by, offered_by_queue, queue_length};
 
 use crate::keys::Keys;
@@ -15,7 +16,7 @@ use crate::strategy::Strategy;
 use cell_base::{Actor, Step};
 use cell_machine::Machine;
 
-/// What the key of a step has more than that of a poll, where polls come last.
+/// How much the key of a step is above that of a poll, if polls come last.
 const ABOVE_POLLS: u64 = 1 << 41;
 
 /// A step and its key.
@@ -64,7 +65,7 @@ fn with_step(
     Some(Keyed { key, step })
 }
 
-/// The same of a processor's instruction, if it is allowed. That is asked only where its key is greater.
+/// The same of a processor's instruction, if it is allowed. That is asked only if its key is greater.
 fn with_instruction(
     machine: &Machine,
     strategy: Strategy,
@@ -101,6 +102,33 @@ fn with_atomic(
     with_step(machine, strategy, keys, Step::Atomic { spe }, best)
 }
 
+/// The same of the command at an index of a processor's queue, if it has an allowed step. That is asked only if its key is greater.
+fn with_command(
+    machine: &Machine,
+    strategy: Strategy,
+    keys: &Keys,
+    spe: u8,
+    index: usize,
+    word: u32,
+    best: Option<Keyed>,
+) -> Option<Keyed>
+    requires { spe < length machine.now.setup.entries }
+    ensures { (steps : List AStep) → IsBestOf (key_of machine.now strategy keys.now) steps best → IsBestOf (key_of machine.now strategy keys.now) (steps ++ option_to_list (queued_of machine.now spe index word)) result }
+{
+    let Some(cmd) = machine.queued_number(spe, index) else {
+        return best;
+    };
+    // all steps of a command have one key
+    let key = key_of(machine, strategy, keys, Step::Retire { spe, cmd });
+    if is_beaten(key, best) {
+        return best;
+    }
+    match machine.pick_queued(spe, index, u64::from(word)) {
+        Some(step) => Some(Keyed { key, step }),
+        None => best,
+    }
+}
+
 /// The same of the commands in a processor's queue. A word picks among the steps of each.
 fn with_queue(
     machine: &Machine,
@@ -115,9 +143,7 @@ fn with_queue(
 {
     let mut best = best;
     for index in 0..machine.queued(spe) {
-        if let Some(step) = machine.pick_queued(spe, index as usize, u64::from(word)) {
-            best = with_step(machine, strategy, keys, step, best);
-        }
+        best = with_command(machine, strategy, keys, spe, index as usize, word, best);
     }
     best
 }
@@ -154,7 +180,7 @@ fn with_processor(
     with_queue(machine, strategy, keys, spe, word, best)
 }
 
-/// The allowed step with the greatest key, where a word picks among the steps of each queued command. None comes exactly where the run is over.
+/// The allowed step with the greatest key, in which a word picks among the steps of each queued command. None exactly if the run is over.
 pub fn best(machine: &Machine, strategy: Strategy, keys: &Keys, word: u32) -> Option<Step>
     ensures best { IfSome result (IsBest machine.now strategy word keys.now) }
     ensures allowed { IfSome result (λ s. IsSome (next_of machine.now s)) }
@@ -165,7 +191,7 @@ pub fn best(machine: &Machine, strategy: Strategy, keys: &Keys, word: u32) -> Op
         best = with_processor(machine, strategy, keys, spe, word, best);
     }
     let Some(best) = with_host(machine, strategy, keys, best) else {
-        // nobody has a step, so this is None: it says that the run is over
+        // no actor has a step, so this is None, and its contract says that the run is over
         return machine.any_step();
     };
     Some(best.step)

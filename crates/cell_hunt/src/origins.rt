@@ -174,10 +174,10 @@ impl Origins {
         &mut self,
         machine: &Machine,
         step: Step,
-        effect: Effect,
+        effect: &Effect,
         place: u32,
     ) -> Result<(), HuntError>
-        requires effect { effect_in machine.now step ≡ Some effect }
+        requires effect { effect_in machine.now step ≡ Some effect.now }
         requires knows { Knows machine.now self.old }
         requires place { length machine.now.steps ≡ place }
         requires few { place + 1 < 2 ^ 32 }

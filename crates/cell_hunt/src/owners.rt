@@ -1,4 +1,4 @@
-//! Whose key stands where.
+//! Which command or actor makes a step, and the place of its key.
 
 ghost use Rattle.std.specs.Prelude.{◌≡◌};
 ghost use Rattle.cell_hunt.specs.Keys.{is_queued, place_of, queued_place};
@@ -31,11 +31,7 @@ pub fn is_queued(step: Step) -> bool
     ensures { result ≡ is_queued step }
 {
     match step {
-        Step::Exec { .. } => false,
-        Step::Atomic { .. } => false,
-        Step::Host => false,
-        Step::Piece { .. } => true,
-        Step::Elem { .. } => true,
-        Step::Retire { .. } => true,
+        Step::Exec { .. } | Step::Atomic { .. } | Step::Host => false,
+        Step::Piece { .. } | Step::Elem { .. } | Step::Retire { .. } => true,
     }
 }

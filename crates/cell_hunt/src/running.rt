@@ -94,10 +94,12 @@ fn make_all(so_far: &mut SoFar, chooser: &mut Chooser) -> Result<(), HuntError>
     ensures searched { OnOk result (IsSearchedTo (length (made_by so_far.new).steps) so_far.new) }
 {
     for place in 0..so_far.search.machine().setup().budget() {
-        let Some(chosen) = chooser.next(so_far.search.machine(), place) else {
+        let machine = so_far.search.machine();
+        let Some(step) = chooser.next(machine, place) else {
             return Ok(());
         };
-        so_far.advance(chosen.step, chosen.effect, place)?;
+        let effect = machine.allowed_effect(step);
+        so_far.advance(step, &effect, place)?;
     }
     Ok(())
 }

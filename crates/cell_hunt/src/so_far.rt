@@ -84,9 +84,9 @@ impl SoFar {
     }
 
     /// Makes the next step of the run, which is the one at this place and has this effect.
-    pub fn advance(&mut self, step: Step, effect: Effect, place: u32) -> Result<(), HuntError>
+    pub fn advance(&mut self, step: Step, effect: &Effect, place: u32) -> Result<(), HuntError>
         requires allowed { IsSome (next_of (made_by self.old) step) }
-        requires effect { effect_in (made_by self.old) step ≡ Some effect }
+        requires effect { effect_in (made_by self.old) step ≡ Some effect.now }
         requires searched { IsSearchedTo place self.old }
         requires place { length (made_by self.old).steps ≡ place }
         requires few { place + 1 < 2 ^ 32 }

@@ -42,6 +42,7 @@ impl Touched {
     }
 
     /// Takes in a touch.
+    #[inline(never)]
     fn touch(&mut self, touch: Touch) -> Result<(), HuntError>
         ensures long { OnOk result (length self.new.digests ≡ length self.old.digests) }
         ensures more { OnOk result ((all : List ATouch) → AreDigests all self.old.digests → AreDigests (all ++ touch ∷ []) self.new.digests) }
@@ -55,6 +56,7 @@ impl Touched {
     }
 
     /// Takes in a touch, if there is one.
+    #[inline(always)]
     fn touch_some(&mut self, touch: Option<Touch>) -> Result<(), HuntError>
         ensures long { OnOk result (length self.new.digests ≡ length self.old.digests) }
         ensures more { OnOk result ((all : List ATouch) → AreDigests all self.old.digests → AreDigests (all ++ option_to_list touch) self.new.digests) }
@@ -66,9 +68,9 @@ impl Touched {
     }
 
     /// Takes in what a step with this effect touches.
-    pub fn add(&mut self, step: Step, effect: Effect) -> Result<(), HuntError>
+    pub fn add(&mut self, step: Step, effect: &Effect) -> Result<(), HuntError>
         ensures long { OnOk result (length self.new.digests ≡ length self.old.digests) }
-        ensures more { OnOk result ((all : List ATouch) → AreDigests all self.old.digests → AreDigests (all ++ touches step effect) self.new.digests) }
+        ensures more { OnOk result ((all : List ATouch) → AreDigests all self.old.digests → AreDigests (all ++ touches step effect.now) self.new.digests) }
     {
         let who = actor_number(step);
         self.touch_some(program_touch(step, effect))?;

@@ -38,8 +38,8 @@ pub fn actor_number(step: Step) -> u32
 }
 
 /// The touch of its program by an instruction.
-pub fn program_touch(step: Step, effect: Effect) -> Option<Touch>
-    ensures { result ≡ program_touch step effect }
+pub fn program_touch(step: Step, effect: &Effect) -> Option<Touch>
+    ensures { result ≡ program_touch step effect.now }
 {
     match step {
         Step::Exec { spe } => Some(Touch {

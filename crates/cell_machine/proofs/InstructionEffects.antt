@@ -35,7 +35,7 @@ of a b c n f = record { fetch = a; reads = b; writes = c; note = n; fixed = f }
 same : (a a2 b b2 c c2 : Span) (n n2 : Note) (f f2 : Bool) → a ≡ a2 → b ≡ b2 → c ≡ c2 → n ≡ n2 → f ≡ f2 → Some (of a b c n f) ≡ Some (of a2 b2 c2 n2 f2)
 same a a2 b b2 c c2 n n2 f f2 d e g h k = rw (d, e, g, h, k) refl
 
-instr_is : (c : Processor) (P : Spe) (o : Option Instr) → ShowsSpe c P → instr_of (word_at c.store c.pc) ≡ o → instr P ≡ o
+pub instr_is : (c : Processor) (P : Spe) (o : Option Instr) → ShowsSpe c P → instr_of (word_at c.store c.pc) ≡ o → instr P ≡ o
 instr_is c P o shows is = rw (shows.store, shows.pc) is
 
 asks_is : (P : Spe) (o : Option Instr) → instr P ≡ o → asks P ≡ asked_by P o
@@ -80,3 +80,7 @@ instruction-effect lines spe c P i flow fetch reads writes note fixed shows may 
         (writes_is ∙ rw (← shows.pc, ← shows.registers) refl ∙ ap (λ x. quad_in spe (option_and_then (stores_at P) x)) (sym here))
         (tells Q o.regs o.store runs made ∙ ap (told spe P Q) asks_so)
         (fixes_so Q o.regs o.store made)
+
+-- the same word as the code holds it
+pub instr_shown : (c : Processor) (P : Spe) (o : Option Instr) → ShowsSpe c P → instr P ≡ o → instr_of (word_at c.store c.pc) ≡ o
+instr_shown c P o shows is = rw (← shows.store, ← shows.pc) is

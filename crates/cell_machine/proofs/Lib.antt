@@ -48,6 +48,7 @@ pub mod StateBytes
 pub mod HostBytes
 pub mod EffectBytes
 pub mod EffectsFitted
+pub mod Reaching
 pub mod Recorded
 pub mod ByteRunning
 pub mod EffectsDefined

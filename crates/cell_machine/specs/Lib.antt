@@ -26,6 +26,7 @@ pub mod Shows
 pub mod Blocked
 pub mod Shown
 pub mod Effects
+pub mod Reaches
 pub mod Written
 pub mod EffectLaws
 pub mod Sound

@@ -1,16 +1,20 @@
 //! What the next instruction of a processor would do, and what it tells.
 
-ghost use Rattle.std.specs.Prelude.{◌≡◌, ◌≢◌, ℕ, ◌≤◌, List, Option, Some, IsSome, true};
+ghost use Rattle.std.specs.Prelude.{◌≡◌, ◌≢◌, ℕ, ◌≤◌, List, Option, Some, IsSome, true, false};
 ghost use Rattle.std.specs.Option.{option_map, option_map_or};
 ghost use Rattle.cell_base.specs.declared.steps.ChannelOp.{ChannelOp};
 ghost use Rattle.cell_machine.specs.Spe.{Spe, is_running};
 ghost use Rattle.cell_machine.specs.Exec.{exec, followed, op_of};
 ghost use Rattle.cell_machine.specs.Channels.{channel};
 ghost use Rattle.cell_machine.specs.declared.effect.Note.TheVariants.{Nothing, TagRead};
-ghost use Rattle.cell_machine.specs.Effects.{quad_in, told, exec_effect};
+ghost use Rattle.cell_machine.specs.Effects.{quad_in, told, exec_effect, instr};
+ghost use Rattle.spu_exec.specs.Meaning.{flow_of};
+ghost use Rattle.spu_decode.specs.declared.Instr.{Instr as AnInstr};
+ghost use Rattle.cell_machine.specs.Reaches.{goes_on, reach, reach_of_row, uses_no_bytes, FitsReach};
+ghost use Rattle.spu_decode.specs.Spelling.{FieldsFit};
 
 use crate::channels::is_param;
-use crate::effect::{Effect, INBOUND, INTERRUPT, Note, OUTBOUND, Span};
+use crate::effect::{Effect, INBOUND, INTERRUPT, Note, OUTBOUND, Reach, Span};
 use crate::effects::{in_store, nowhere};
 use crate::processor::Processor;
 use cell_base::ChannelOp;
@@ -22,13 +26,31 @@ use cell_channels::{
 };
 use local_store::line_of;
 use mfc_command::{Order, check};
-use spu_decode::decode;
+use spu_decode::{Instr, Row, decode, row_spelled};
 use spu_exec::{Flow, leads_to, loads_at, stores_at};
 
 /// How many bytes of the store an instruction has, and a quadword.
 const WORD_BYTES: u32 = 4;
 
 const QUAD_BYTES: u32 = 16;
+
+/// What an instruction of this row uses.
+#[inline(always)]
+#[tactic(auto, unfolding(spu_decode::specs::Table::entry_of))]
+fn reach_of_row(row: Row) -> Reach
+    ensures reach { result ≡ reach_of_row row }
+    ensures goes { (i : AnInstr) (pc : ℕ) (a b t : List ℕ) → result ≢ Reach.Other → goes_on (flow_of i row pc a b t) ≡ true }
+    ensures registers { (imm pc : ℕ) (a b : List ℕ) → result ≡ Reach.Registers → uses_no_bytes row imm pc a b ≡ true }
+    ensures store { (imm pc : ℕ) (a b : List ℕ) → result ≡ Reach.Store → uses_no_bytes row imm pc a b ≡ false }
+{
+    match row {
+        Row::Lqd | Row::Lqx | Row::Lqa | Row::Lqr => Reach::Store,
+        Row::Stqd | Row::Stqx | Row::Stqa | Row::Stqr => Reach::Store,
+        Row::Heq | Row::Heqi | Row::Hgt | Row::Hgti | Row::Hlgt | Row::Hlgti => Reach::Other,
+        Row::Stop | Row::Rdch | Row::Rchcnt | Row::Wrch => Reach::Other,
+        _ => Reach::Registers,
+    }
+}
 
 /// The quadword of a store that holds an address, if there is one.
 fn quad_in(spe: u8, at: Option<u32>) -> Span
@@ -49,10 +71,16 @@ impl Processor {
         requires lines { lines ≤ 524288 }
         ensures { (P : Spe) → ShowsSpe self.now P → result ≡ option_map (exec_effect spe P) (exec lines P) }
     {
-        if !self.may_exec() {
+        if !self.is_running() {
             return None;
         }
-        Some(self.allowed_effect(lines, spe))
+        let Some(instruction) = decode(self.store.word(self.pc)) else {
+            return Some(self.bad_word_effect(spe));
+        };
+        if !self.may_make(instruction) {
+            return None;
+        }
+        Some(self.effect_by(lines, spe, instruction))
     }
 
     /// What the next instruction would do, which is allowed.
@@ -61,23 +89,75 @@ impl Processor {
         requires lines { lines ≤ 524288 }
         ensures { (P : Spe) → ShowsSpe self.now P → IsSome (exec lines P) → Some result ≡ option_map (exec_effect spe P) (exec lines P) }
     {
-        let fetch = in_store(spe, self.pc, WORD_BYTES);
-        let Some(instruction) = decode(self.store.word(self.pc)) else {
-            return Effect {
-                fetch,
+        match decode(self.store.word(self.pc)) {
+            Some(instruction) => self.effect_by(lines, spe, instruction),
+            None => self.bad_word_effect(spe),
+        }
+    }
+
+    /// What the word at the PC would do, which is no instruction.
+    #[inline(never)]
+    fn bad_word_effect(&self, spe: u8) -> Effect
+        ensures { (lines : ℕ) (P : Spe) → ShowsSpe self.now P → IsSome (exec lines P) → instr P ≡ None → Some result ≡ option_map (exec_effect spe P) (exec lines P) }
+    {
+        Effect {
+            fetch: in_store(spe, self.pc, WORD_BYTES),
+            reads: nowhere(),
+            writes: nowhere(),
+            note: Note::Ended,
+            fixed: self.fixes(),
+        }
+    }
+
+    /// What the instruction at the PC would do, which is allowed.
+    #[inline(always)]
+    fn effect_by(&self, lines: u32, spe: u8, instruction: Instr) -> Effect
+        requires number { CanIssue self.now.commands }
+        requires lines { lines ≤ 524288 }
+        requires fits { FieldsFit instruction }
+        ensures { (P : Spe) → ShowsSpe self.now P → IsSome (exec lines P) → instr P ≡ Some instruction → Some result ≡ option_map (exec_effect spe P) (exec lines P) }
+    {
+        match reach_of_row(instruction.row) {
+            Reach::Registers => Effect {
+                fetch: in_store(spe, self.pc, WORD_BYTES),
                 reads: nowhere(),
                 writes: nowhere(),
-                note: Note::Ended,
+                note: Note::Nothing,
                 fixed: self.fixes(),
-            };
-        };
+            },
+            _ => self.effect_beyond(lines, spe, instruction),
+        }
+    }
+
+    /// What any instruction would do, which is allowed.
+    #[inline(never)]
+    fn effect_beyond(&self, lines: u32, spe: u8, instruction: Instr) -> Effect
+        requires number { CanIssue self.now.commands }
+        requires lines { lines ≤ 524288 }
+        requires fits { FieldsFit instruction }
+        ensures { (P : Spe) → ShowsSpe self.now P → IsSome (exec lines P) → instr P ≡ Some instruction → Some result ≡ option_map (exec_effect spe P) (exec lines P) }
+    {
         let flow = leads_to(instruction, self.pc, &self.registers);
         Effect {
-            fetch,
+            fetch: in_store(spe, self.pc, WORD_BYTES),
             reads: quad_in(spe, loads_at(instruction, self.pc, &self.registers)),
             writes: quad_in(spe, stores_at(instruction, self.pc, &self.registers)),
             note: self.tells(lines, spe, flow),
             fixed: self.fixes_by(lines, flow),
+        }
+    }
+
+    /// What the next instruction uses.
+    pub(crate) fn reach(&self) -> Reach
+        ensures reach { (P : Spe) → ShowsSpe self.now P → result ≡ reach P }
+        ensures row { (P : Spe) (i : AnInstr) → ShowsSpe self.now P → instr P ≡ Some i → FitsReach result i.row }
+    {
+        if !self.is_running() {
+            return Reach::Other;
+        }
+        match row_spelled(self.store.word(self.pc)) {
+            Some(row) => reach_of_row(row),
+            None => Reach::Other,
         }
     }
 

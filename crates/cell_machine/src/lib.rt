@@ -26,7 +26,7 @@ mod transfers;
 mod walks;
 
 pub use cell_host::{Host, HostAction, Took};
-pub use effect::{Effect, Note, Place, Span};
+pub use effect::{Effect, Note, Place, Reach, Span};
 pub use error::MachineError;
 pub use machine::Machine;
 pub use mfc_command::DmaFault;

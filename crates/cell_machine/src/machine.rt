@@ -15,6 +15,7 @@ ghost use Rattle.cell_machine.specs.Limits.{IsOpening, shown};
 ghost use Rattle.cell_machine.specs.Run.{Ran, IsRun, state_of, next_of, spe_of, picked_of, first_of, picked, allowed, is_quiet, IsEnd};
 ghost use Rattle.cell_machine.specs.Actors.{MissesNone};
 ghost use Rattle.cell_machine.specs.Effects.{effect_in};
+ghost use Rattle.cell_machine.specs.Reaches.{HasReach, reach_in};
 ghost use Rattle.cell_machine.specs.EffectLaws.{FixesOnce, LooksAlone, WritesAlone};
 ghost use Rattle.cell_machine.specs.Order.{IsInOrder};
 ghost use Rattle.cell_machine.specs.Lists.{ListsAreInOrder};
@@ -27,7 +28,7 @@ ghost use Rattle.cell_machine.specs.Blocked.{AreBlocked};
 use crate::acting::{act, act_first, act_picked};
 use crate::blocked::Blocked;
 use crate::choosing::{first_step, has_atomic_step, is_quiet, nth_queued, nth_step};
-use crate::effect::Effect;
+use crate::effect::{Effect, Reach};
 use crate::effects::{allowed_effect, effect_of};
 use crate::error::MachineError;
 use crate::memory::SharedMemory;
@@ -306,6 +307,27 @@ impl Machine {
         ensures { IsSomeAnd (spe_of self.now spe) (λ P. result ≡ asks P) }
     {
         self.processors[spe as usize].asks()
+    }
+
+    /// What the next instruction of a processor that is there uses: `Other` also if none is allowed.
+    pub fn reach(&self, spe: u8) -> Reach
+        requires { spe < length self.now.setup.entries }
+        ensures reach { result ≡ reach_in self.now spe }
+        ensures has { HasReach result self.now spe }
+    {
+        if self.steps.len() >= self.setup.budget() as usize {
+            return Reach::Other;
+        }
+        self.processors[spe as usize].reach()
+    }
+
+    /// The number of the outstanding command at an index of the queue of a processor that is there, counted from 0. None comes exactly
+    /// behind the last one.
+    pub fn queued_number(&self, spe: u8, index: usize) -> Option<u32>
+        requires { spe < length self.now.setup.entries }
+        ensures { IsSomeAnd (spe_of self.now spe) (λ P. result ≡ slice_get (outstanding P) index) }
+    {
+        self.processors[spe as usize].queued_number(index)
     }
 
     /// The main memory.

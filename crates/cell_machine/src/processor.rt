@@ -1,6 +1,6 @@
 //! One processor.
 
-ghost use Rattle.std.specs.Prelude.{◌≡◌, ℕ, ◌+◌, ◌<◌, ◌≤◌, List, length, is_some, None, Some, true, false, IfOk, IsSome, IsSomeAnd, MatchBool, All};
+ghost use Rattle.std.specs.Prelude.{◌≡◌, ℕ, ◌+◌, ◌<◌, ◌≤◌, List, length, is_some, None, Some, true, false, IfOk, IsSome, IsSomeAnd, MatchBool, All, slice_get};
 ghost use Rattle.spu_decode.specs.declared.Instr.{Instr};
 ghost use Rattle.spu_decode.specs.Spelling.{FieldsFit, instr_of};
 ghost use Rattle.local_store.specs.Store.{word_at};
@@ -163,7 +163,7 @@ impl Processor {
 
     /// Whether the instruction at the PC is allowed, where it runs: a channel that it asks for is ready.
     #[inline(always)]
-    fn may_make(&self, instruction: Instr) -> bool
+    pub(crate) fn may_make(&self, instruction: Instr) -> bool
         requires { FieldsFit instruction }
         ensures { (lines : ℕ) (P : Spe) → ShowsSpe self.now P → is_running self.now.status ≡ true → instr_of (word_at self.now.store self.now.pc) ≡ Some instruction → result ≡ is_some (exec lines P) }
     {
@@ -249,6 +249,14 @@ impl Processor {
         ensures { (P : Spe) → ShowsSpe self.now P → result ≡ length (outstanding P) }
     {
         QUEUE_PLACES.saturating_sub(self.commands.queue.free())
+    }
+
+    /// The number of the outstanding command at an index of the queue.
+    pub(crate) fn queued_number(&self, index: usize) -> Option<u32>
+        ensures { (P : Spe) → ShowsSpe self.now P → result ≡ slice_get (outstanding P) index }
+    {
+        let (cmd, _) = self.commands.queue.outstanding_at(index)?;
+        Some(cmd)
     }
 
     /// What the next instruction asks of a channel.

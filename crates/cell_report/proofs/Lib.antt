@@ -1,3 +1,4 @@
 pub mod Texts
 pub mod Lengths
 pub mod Records
+pub mod Words

@@ -1,6 +1,6 @@
 //! The text of the summary of a run.
 
-ghost use Rattle.std.specs.Prelude.{◌≡◌, ◌++◌, length, Option, OnOk, IfOk, IsSomeAnd};
+ghost use Rattle.std.specs.Prelude.{◌≡◌, ◌*◌, ◌≤◌, ◌++◌, length, Option, OnOk, IfOk, IsSomeAnd};
 ghost use Rattle.std.specs.List.{count_by, sum};
 ghost use Rattle.cell_base.specs.Bytes.{number};
 ghost use Rattle.cell_machine.specs.declared.status.End.{End};
@@ -12,7 +12,7 @@ use crate::error::TextError;
 use crate::verdict::put_verdict;
 use cell_base::Step;
 use cell_machine::Machine;
-use main_memory::Memory;
+use main_memory::{LINE_BYTES, Memory};
 use race_check::Verdict;
 use state_lines::put_end;
 use std::alloc::{AllocError, Global};
@@ -44,16 +44,29 @@ fn word_of(bytes: &[u8; 4]) -> u32
     u32::from_be_bytes(*bytes)
 }
 
+/// The sum of the 32 words of a line.
+fn line_sum(line: &[u8]) -> u64
+    requires { length line.now ≡ 128 }
+    ensures sum { result ≡ sum (memory_words line.now) }
+    ensures small { result ≤ 32 * 4294967295 }
+{
+    let (words, _) = line.as_chunks::<4>();
+    let mut sum = 0;
+    for word in words {
+        sum += u64::from(word_of(word));
+    }
+    sum
+}
+
 /// The sum of all words of a memory, which does not wrap: there are at most 524,288 lines of 32 words.
 fn memory_sum(memory: &Memory) -> u64
     ensures { result ≡ sum (memory_words memory.now) }
 {
-    let few = memory.lines() <= 524_288;
-    prove!(few);
-    let (words, _) = memory.bytes().as_chunks::<4>();
+    let mut line = [0; LINE_BYTES as usize];
     let mut sum = 0;
-    for word in words {
-        sum += u64::from(word_of(word));
+    for index in 0..memory.lines() {
+        memory.copy_out(LINE_BYTES * index, &mut line);
+        sum += line_sum(&line);
     }
     sum
 }

@@ -1,4 +1,4 @@
-//! What standard error shows of a hunt where it is a terminal, and what ends a hunt early.
+//! What standard error shows of a hunt if it is a terminal, and what ends a hunt early.
 
 use hunt_forms::Progress;
 use hunt_tally::Hunted;
@@ -6,8 +6,8 @@ use std::fs;
 use std::io::IsTerminal;
 use std::time::Instant;
 
-/// How long the threads are to be busy at most before the next look, and how long a line stands at least, in milliseconds. At a look all threads
-/// end, and one joins what they tell.
+/// How long the threads are busy at most before the next look, and how long a line stays at least, in milliseconds. At a look all threads
+/// end, and one joins their results.
 const BUSY: u128 = 2000;
 
 const STANDS: u128 = 100;
@@ -20,13 +20,14 @@ const MOST_SHARE: u32 = 65_536;
 
 const MOST_TIMES: u128 = 64;
 
-/// Shows how far a hunt is, finds out how many runs fit between two looks, and ends the hunt once a file is there.
+/// Shows how far a hunt is, finds out how many runs fit between two looks, and ends the hunt once a file exists or its time is up.
 #[derive(Drop)]
 pub struct Look<'a> {
     rt: &'a HostRuntime,
     is_terminal: bool,
-    /// The file that ends the hunt, whether it has, and how many runs were made of how many.
+    /// The file that ends the hunt, its time in seconds, whether one of them has ended it, and how many runs were made of how many.
     until: Option<&'a str>,
+    time: Option<u32>,
     is_stopped: bool,
     made: u32,
     runs: u32,
@@ -49,23 +50,23 @@ fn since(rt: &HostRuntime, then: Option<Instant>) -> u128 {
     }
 }
 
-/// How many runs a thread makes next in the mean, when so many took so many milliseconds: those that keep it busy until the next look, so that there
-/// are few.
-fn next_share(share: u32, took: u128) -> u32 {
+/// How many runs a thread makes next in the mean to be busy for so many milliseconds, if its last ones took so many.
+fn next_share(share: u32, took: u128, busy: u128) -> u32 {
     let share = u128::from(share);
-    let fitting = share * BUSY / took.max(1);
+    let fitting = share * busy.min(BUSY) / took.max(1);
     let next = fitting.min(share * MOST_TIMES).max(1);
     u32::try_from(next).unwrap_or(MOST_SHARE).min(MOST_SHARE)
 }
 
 impl<'a> Look<'a> {
     /// Before the first run.
-    pub fn new(rt: &'a HostRuntime, until: Option<&'a str>) -> Look<'a> {
+    pub fn new(rt: &'a HostRuntime, until: Option<&'a str>, time: Option<u32>) -> Look<'a> {
         let now = Instant::now(rt).ok();
         Look {
             rt,
             is_terminal: rt.stderr().is_terminal(),
             until,
+            time,
             is_stopped: false,
             made: 0,
             runs: 0,
@@ -76,13 +77,29 @@ impl<'a> Look<'a> {
         }
     }
 
-    /// Says that the hunt ended early, where it did.
+    /// How many milliseconds of the hunt's time are left.
+    fn left(&self) -> u128 {
+        match self.time {
+            Some(time) => (1000 * u128::from(time)).saturating_sub(since(self.rt, self.began)),
+            None => u128::MAX,
+        }
+    }
+
+    /// Says that the hunt ended early, if it did.
     pub fn tell_end(&self) {
-        if self.is_stopped {
-            let rt = self.rt;
+        let rt = self.rt;
+        if !self.is_stopped {
+            return;
+        }
+        if self.left() > 0 {
             let _ = eprintln!(rt;
                 "hunt: ended early: {} of {} runs were made",
                 self.made, self.runs
+            );
+        } else {
+            let _ = eprintln!(rt;
+                "hunt: the time is up: --runs {} instead of --time makes the same runs",
+                self.made
             );
         }
     }
@@ -112,14 +129,17 @@ impl<'a> Progress for Look<'a> {
     /// By what the last ones took.
     fn share(&mut self) -> u32 {
         if self.busy.is_some() {
-            self.share = next_share(self.share, since(self.rt, self.busy));
+            self.share = next_share(self.share, since(self.rt, self.busy), self.left());
         }
         self.busy = Instant::now(self.rt).ok();
         self.share
     }
 
-    /// Not once the file is there.
+    /// Not once the file exists or the time is up.
     fn goes_on(&mut self) -> bool {
+        if self.left() == 0 {
+            self.is_stopped = true;
+        }
         if let Some(name) = self.until {
             let is_there = fs::exists(self.rt, name).unwrap_or(false);
             self.is_stopped = self.is_stopped || is_there;

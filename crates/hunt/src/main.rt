@@ -1,4 +1,4 @@
-//! `hunt`: makes many runs of a machine, in orders by chance that a seed chooses, and tells what was found.
+//! `hunt`: runs a machine many times under random schedules, and reports what it finds.
 #![tactic(auto)]
 
 mod look;
@@ -9,7 +9,7 @@ use hunt_forms::{Status, hunt};
 use look::Look;
 use std::io;
 use std::process::ExitCode;
-use words::{name_behind, until_of, words_of};
+use words::{name_behind, time_of, until_of, words_of};
 
 fn main(rt: HostRuntime) -> ExitCode {
     let mut files = DirStore::new(&rt);
@@ -21,18 +21,12 @@ fn main(rt: HostRuntime) -> ExitCode {
             return ExitCode::from(Status::Refused(refusal.fault).code());
         }
     };
-    let mut look = Look::new(&rt, until_of(words.as_slice()));
-    let status = hunt(
-        &rt,
-        rt.alloc(),
-        words.as_slice(),
-        &mut files,
-        &mut out,
-        &mut look,
-    );
+    let words = words.as_slice();
+    let mut look = Look::new(&rt, until_of(words), time_of(words));
+    let status = hunt(&rt, rt.alloc(), words, &mut files, &mut out, &mut look);
     look.tell_end();
     if let Status::Refused(fault) = status {
-        match name_behind(words.as_slice(), fault) {
+        match name_behind(words, fault) {
             Some(name) => {
                 let _ = eprintln!(rt; "hunt: {fault}: {name}");
             }

@@ -81,6 +81,14 @@ pub fn until_of(words: &[String]) -> Option<&str> {
     }
 }
 
+/// For how many seconds a hunt may run, where words say so.
+pub fn time_of(words: &[String]) -> Option<u32> {
+    match form_of(words) {
+        Form::Hunt(hunt) => hunt.time,
+        _ => None,
+    }
+}
+
 /// The machine file, the expectation file and the pass file that words name.
 fn names_of(words: &[String]) -> (Option<&str>, Option<&str>, Option<&str>) {
     match form_of(words) {

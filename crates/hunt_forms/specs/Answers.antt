@@ -96,13 +96,13 @@ pub record Promises (spoken : Spoken) (stopped : Bool) (store store_after : Stor
 
 -- ---- parts of the program
 
--- a text was written, behind which this is the status
+-- a text was written, after which this is the status
 abbrev pub EndsText : List ℕ → Status → Sinks → Sinks → Status → Type 0
 EndsText text status before after (Refused WriteFault) = Rose before.faults after.faults × TookPart before.taken after.taken text
 EndsText text status before after (Refused fault) = ⊥
 EndsText text status before after result = (result ≡ status) × Took before.taken after.taken text
 
--- such a text was written, of this status, or a part of one, or nothing for want of memory
+-- such a text was written, of this status, or a part of one, or nothing if out of memory
 abbrev pub EndsBy : (Status → List ℕ → Type 0) → Sinks → Sinks → Status → Type 0
 EndsBy Tells before after (Refused WriteFault) = Rose before.faults after.faults × ((status : Status) × (text : List ℕ) × Tells status text × TookPart before.taken after.taken text)
 EndsBy Tells before after (Refused Memory) = after.taken ≡ before.taken

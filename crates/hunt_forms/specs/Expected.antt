@@ -4,7 +4,7 @@ use Rattle.std.specs.List.{flat_map}
 use Rattle.cell_base.specs.Words.{lines_of, words_of}
 use Rattle.hunt_forms.specs.Lines.{without_return}
 
--- words behind another one, each behind a space
+-- words after another one, each after a space
 unfoldable pub spaced : List (List ℕ) → List ℕ
 spaced [] = []
 spaced (word ∷ words) = (32 ∷ word) ++ spaced words

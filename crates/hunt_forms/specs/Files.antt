@@ -161,7 +161,7 @@ PassedComes files None setup places (Ok keys) = bytes_in keys.items ≡ []
 PassedComes files None setup places (Err fault) = ⊥
 PassedComes files (Some name) setup places result = PassComes files name setup places result
 
--- it is said of files, or for want of memory
+-- it is about files, or out of memory
 abbrev pub IsOfFiles : Fault → Type 0
 IsOfFiles Usage = ⊥
 IsOfFiles WriteFault = ⊥

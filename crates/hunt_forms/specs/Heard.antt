@@ -1,11 +1,11 @@
--- The words of the command line, one after the other: options with what is said behind them, and words that mean something by their place.
+-- The words of the command line, one after the other: options with their values, and words that have a meaning by their place.
 use Rattle.std.specs.Prelude.{ℕ, Bool, true, false, ◌==◌, List, [], ◌∷◌, nat_eq, if◌then◌else◌, codes, Option, Some, None}
 use Rattle.std.specs.Borrow.{Bor}
 use Rattle.std.specs.Option.{option_map}
 use Rattle.std.specs.Cmp.Lexicographic.{pointwise}
 use Rattle.cell_base.specs.Numbers.{◌>>=◌}
 use Rattle.hunt_forms.specs.declared.heard.Key.{Key}
-use Rattle.hunt_forms.specs.declared.heard.Key.TheVariants.{Runs, Seed, From, Jobs, Expect, Pass, Until}
+use Rattle.hunt_forms.specs.declared.heard.Key.TheVariants.{Runs, Time, Seed, From, Jobs, Expect, Pass, Until}
 use Rattle.hunt_forms.specs.declared.heard.Heard.{Heard}
 
 abbrev pub Word : Type 0
@@ -18,15 +18,16 @@ abbrev pub has_dash : Word → Bool
 has_dash [] = false
 has_dash (b ∷ bs) = b == 45
 
--- what was said so far
+-- the words so far
 pub record Said : Type 0 where
-  -- by places: the machine file, and up to three words behind it
+  -- by places: the machine file, and up to three words after it
   pub machine : Option Word
   pub first : Option Word
   pub second : Option Word
   pub third : Option Word
   -- by options
   pub runs : Option Word
+  pub time : Option Word
   pub seed : Option Word
   pub from : Option Word
   pub jobs : Option Word
@@ -44,6 +45,7 @@ silent = record {
   second = None;
   third = None;
   runs = None;
+  time = None;
   seed = None;
   from = None;
   jobs = None;
@@ -54,14 +56,15 @@ silent = record {
   awaited = None;
 }
 
--- what stood in no place yet may be said once
+-- each may be given once
 abbrev pub once : Option Word → Word → Option (Option Word)
 once None word = Some (Some word)
 once (Some said) word = None
 
--- the word of an option
+-- the value of an option
 abbrev pub with_value : Said → Key → Word → Option Said
 with_value s Runs word = option_map (λ w. record s { runs = w; awaited = None }) (once s.runs word)
+with_value s Time word = option_map (λ w. record s { time = w; awaited = None }) (once s.time word)
 with_value s Seed word = option_map (λ w. record s { seed = w; awaited = None }) (once s.seed word)
 with_value s From word = option_map (λ w. record s { from = w; awaited = None }) (once s.from word)
 with_value s Jobs word = option_map (λ w. record s { jobs = w; awaited = None }) (once s.jobs word)
@@ -69,10 +72,11 @@ with_value s Expect word = option_map (λ w. record s { expect = w; awaited = No
 with_value s Pass word = option_map (λ w. record s { pass = w; awaited = None }) (once s.pass word)
 with_value s Until word = option_map (λ w. record s { until = w; awaited = None }) (once s.until word)
 
--- the options that have a word behind them
+-- the options that have a word after them
 abbrev pub key_of : Word → Option Key
 key_of word =
     if is_word word (codes "--runs") then Some Runs
+    else if is_word word (codes "--time") then Some Time
     else if is_word word (codes "--seed") then Some Seed
     else if is_word word (codes "--from") then Some From
     else if is_word word (codes "--jobs") then Some Jobs
@@ -93,7 +97,7 @@ abbrev pub with_json : Said → Bool → Option Said
 with_json s true = None
 with_json s false = Some (record s { json = true })
 
--- an option without a word behind it, or a place: no other word has a dash in front
+-- an option without a word after it, or a place: no other word has a dash in front
 abbrev pub with_plain : Said → Word → Option Said
 with_plain s word =
     if is_word word (codes "--json") then with_json s s.json
@@ -104,7 +108,7 @@ abbrev pub with_named : Said → Option Key → Word → Option Said
 with_named s None word = with_plain s word
 with_named s (Some key) word = Some (record s { awaited = Some key })
 
--- the next word, where none is awaited by an option, or the one that is
+-- the next word: the value of an option that awaits one, or another word
 abbrev pub with_awaited : Said → Option Key → Word → Option Said
 with_awaited s None word = with_named s (key_of word) word
 with_awaited s (Some key) word = with_value s key word
@@ -117,12 +121,12 @@ unfoldable pub said_on : Said → List Word → Option Said
 said_on s [] = Some s
 said_on s (word ∷ words) = with_word s word >>= λ t. said_on t words
 
--- what stands behind a reference
+-- the text of a reference
 abbrev pub texts_of : Option (Bor Word) → Option Word
 texts_of None = None
 texts_of (Some r) = Some r.now
 
--- what is told of the code's
+-- the words of the code's record
 abbrev pub heard : Heard → Said
 heard h = record {
   machine = texts_of h.machine;
@@ -130,6 +134,7 @@ heard h = record {
   second = texts_of h.second;
   third = texts_of h.third;
   runs = texts_of h.runs;
+  time = texts_of h.time;
   seed = texts_of h.seed;
   from = texts_of h.from;
   jobs = texts_of h.jobs;

@@ -100,12 +100,12 @@ race_text None false = codes ", not settled"
 abbrev pub told_line : Told → List ℕ
 told_line t = codes "run " ++ decimal t.run ++ codes " " ++ end_word t.outcome.end ++ race_text t.outcome.race t.settled ++ codes "\n"
 
--- this is told of a run
+-- this is printed of a run
 pub record IsToldOf (machine : Ran) (t : Told) : Type 0 where
   pub outcome : IsOutcome machine t.outcome
   pub settled : t.outcome.race ≡ None → IsTrue t.settled ↔ IsSettled machine
 
--- this is told of run `run` of the seed
+-- this is printed of run `run` of the seed
 pub record IsTold (setup : Opening) (seed run : ℕ) (t : Told) : Type 0 where
   pub number : t.run ≡ run
   pub machine : Ran
@@ -141,7 +141,7 @@ pub record HasMade (q : Quarry) (seed from : ℕ) (asked : Option ℕ) (stopped 
   pub taken : HasTaken q seed from made h
   pub all : AreMade stopped asked taken.reports
 
--- so many runs were made and taken in, and those of a round can be made behind them
+-- so many runs were made and taken in, and those of a round can be made after them
 pub record IsNext (q : Quarry) (hunt : Hunt) (made : ℕ) (round : Round) (h : Sums) : Type 0 where
   pub some : 0 < length q.setup.entries
   pub numbered : hunt.from + (made + round.runs) < 2 ^ 32
@@ -157,7 +157,7 @@ pub record MakesRounds (pre : Bor Quarry → Bor Hunt → ℕ → Round → MutB
       → IsNext q.now hunt.now made round sums.now → post q hunt made round sums result after
       → OnOk result (HasTaken q.now hunt.now.seed hunt.now.from (made + round.runs) after.now)
 
--- this was taken in of runs of the hunt that follow one another, none of them behind the first `end`
+-- this was taken in of runs of the hunt that follow one another, none of them after the first `end`
 pub record IsPart (q : Quarry) (seed from end : ℕ) (part : Part) : Type 0 where
   pub taken : HasTaken q seed (from + part.first) part.sums.runs part.sums
   pub within : part.first + part.sums.runs ≤ end

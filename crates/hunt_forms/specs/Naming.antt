@@ -30,7 +30,7 @@ abbrev pub names_line : Option NamedLine → List ℕ → Bool
 names_line None word = false
 names_line (Some line) word = is_number line.number (number_behind line.name word)
 
--- where a line of a source is named, it is the line that placed the instruction
+-- if a line of a source is named, it is the line that placed the instruction
 abbrev pub agrees : Places → ℕ → ℕ → List (List ℕ) → Bool
 agrees places p a [] = true
 agrees places p a (word ∷ words) = not (list_any (names_source word) places.sources.items) || names_line (source_line places p a) word

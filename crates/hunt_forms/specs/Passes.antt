@@ -14,24 +14,24 @@ use Rattle.hunt_forms.specs.Heard.{is_word}
 use Rattle.hunt_forms.specs.Lines.{without_return}
 use Rattle.hunt_forms.specs.Naming.{is_named}
 
--- a word, and the words behind it
+-- a word, and the words after it
 abbrev pub word_at : List (List ℕ) → Option (List ℕ × List (List ℕ))
 word_at [] = None
 word_at (word ∷ words) = Some (word, words)
 
--- a number, and the words behind it
+-- a number, and the words after it
 unfoldable pub number_in : List (List ℕ) → Option (ℕ × List (List ℕ))
 number_in words = word_at words >>= λ w. word_number w.0 >>= λ n. Some (n, w.1)
 
--- a processor, of so many
+-- a processor, of this many
 unfoldable pub spe_in : ℕ → List (List ℕ) → Option (ℕ × List (List ℕ))
 spe_in spes words = number_in words >>= λ n. if nat_lt n.0 spes then Some n else None
 
--- this very word, and the words behind it
+-- this very word, and the words after it
 unfoldable pub mark_in : List ℕ → List (List ℕ) → Option (List (List ℕ))
 mark_in mark words = word_at words >>= λ w. if is_word w.0 mark then Some w.1 else None
 
--- the words behind the next bar
+-- the words after the next bar
 unfoldable pub behind_bar : List (List ℕ) → Option (List (List ℕ))
 behind_bar [] = None
 behind_bar (word ∷ words) = if is_word word (codes "|") then Some words else behind_bar words
@@ -46,31 +46,31 @@ site_named letter spe place =
     else if is_word letter (codes "a") then Some (Atomic spe place)
     else None
 
--- `x 0 at 0x00080`, behind its letter
+-- `x 0 at 0x00080`, after its letter
 unfoldable pub spe_site : ℕ → List ℕ → List (List ℕ) → Option (Site × List (List ℕ))
 spe_site spes letter words =
     spe_in spes words >>= λ spe. mark_in (codes "at") spe.1 >>= λ rest. number_in rest >>= λ place. site_named letter spe.0 place.0 >>= λ site. Some (site, place.1)
 
--- `h 3`, behind its letter
+-- `h 3`, after its letter
 unfoldable pub host_site : List (List ℕ) → Option (Site × List (List ℕ))
 host_site words = number_in words >>= λ action. Some (Host action.0, action.1)
 
--- a site, and the words behind it
+-- a site, and the words after it
 unfoldable pub site_in : ℕ → List (List ℕ) → Option (Site × List (List ℕ))
 site_in spes words = word_at words >>= λ w. if is_word w.0 (codes "h") then host_site w.1 else spe_site spes w.0 w.1
 
--- a site of the machine, and the words behind it
+-- a site of the machine, and the words after it
 unfoldable pub named_in : Opening → Places → List (List ℕ) → Option (Site × List (List ℕ))
 named_in setup places words = site_in (length setup.entries) words >>= λ site. if is_named setup places site.0 site.1 then Some site else None
 
--- `race COUNT FIRST |`, or the bar alone; and the words behind it
+-- `race COUNT FIRST |`, or the bar alone; and the words after it
 unfoldable pub head_in : List (List ℕ) → Option (List (List ℕ))
 head_in words =
     word_at words >>= λ w.
     if is_word w.0 (codes "race") then (number_in w.1 >>= λ count. number_in count.1 >>= λ first. mark_in (codes "|") first.1)
     else mark_in (codes "|") words
 
--- two sites, each behind a bar; the line of a source may follow each
+-- two sites, each after a bar; the line of a source may follow each
 unfoldable pub race_in : Opening → Places → List (List ℕ) → Option Sites
 race_in setup places words =
     head_in words >>= λ rest. named_in setup places rest >>= λ first. behind_bar first.1 >>= λ more. named_in setup places more >>= λ second.

@@ -3,7 +3,7 @@ use Rattle.std.specs.Prelude.{ℕ, ◌+◌, ◌-◌, ◌≤◌, ◌<◌, ◌^◌
 use Rattle.std.specs.Option.{option_map}
 use Rattle.std.specs.List.{list_any}
 use Rattle.cell_base.specs.Numbers.{◌>>=◌}
-use Rattle.hunt_forms.specs.Numbers.{number_within}
+use Rattle.hunt_forms.specs.Numbers.{number_within, seconds_within}
 use Rattle.hunt_forms.specs.Heard.{Word, is_word, texts_of, Said, silent, said_on}
 use Rattle.hunt_forms.specs.declared.words.Form.{Form}
 use Rattle.hunt_forms.specs.declared.words.Form.TheVariants as form
@@ -12,16 +12,18 @@ use Rattle.hunt_forms.specs.declared.words.Hunt.{Hunt}
 -- a hunt that is asked for
 pub record Asked : Type 0 where
   pub machine : Word
-  -- the number of the first run, and how many, where it is said
+  -- the number of the first run, and how many, if given
   pub from : ℕ
   pub runs : Option ℕ
+  -- for how many seconds, if given
+  pub time : Option ℕ
   pub seed : ℕ
-  -- on how many threads, where it is said
+  -- on how many threads, if given
   pub jobs : Option ℕ
   -- the expectation file and the pass file
   pub expect : Option Word
   pub pass : Option Word
-  -- the file that ends the hunt once it is there
+  -- the file that ends the hunt once it exists
   pub until : Option Word
   pub json : Bool
 
@@ -41,6 +43,9 @@ most_runs = 1000000
 abbrev pub most_jobs : ℕ
 most_jobs = 256
 
+abbrev pub most_time : ℕ
+most_time = 1000000
+
 abbrev pub most_run : ℕ
 most_run = 2 ^ 32 - 1
 
@@ -49,7 +54,7 @@ most_seed = 2 ^ 64 - 1
 
 -- ---- the words of options and places
 
--- said by a place or by an option, and not by both
+-- given by a place or by an option, and not by both
 abbrev pub either : Option Word → Option Word → Option (Option Word)
 either None option = Some option
 either (Some place) None = Some (Some place)
@@ -66,42 +71,53 @@ positive n = if nat_lt 0 n then Some n else None
 abbrev pub count_within : ℕ → Word → Option ℕ
 count_within limit word = number_within limit word >>= positive
 
--- how many runs, where it is said
+-- how many runs, if given
 abbrev pub runs_said : Option Word → Option (Option ℕ)
 runs_said None = Some None
 runs_said (Some word) = option_map Some (count_within most_runs word)
 
--- how many runs a hunt makes at most, 1,000 where it isn't said
+-- for how many seconds, if given
+abbrev pub time_said : Option Word → Option (Option ℕ)
+time_said None = Some None
+time_said (Some word) = option_map Some (seconds_within most_time word >>= positive)
+
+-- a hunt with a time and no number of runs makes as many as there can be
+abbrev pub runs_asked : Option ℕ → Option ℕ → Option ℕ
+runs_asked None runs = runs
+runs_asked (Some time) None = Some most_runs
+runs_asked (Some time) (Some runs) = Some runs
+
+-- how many runs a hunt makes at most, by default 1,000
 abbrev pub most_made : Option ℕ → ℕ
 most_made runs = unwrap_or runs 1000
 
--- of how many runs each is told, 200 where it isn't said
+-- how many runs `each` prints, by default 200
 abbrev pub told_runs : Option ℕ → ℕ
 told_runs runs = unwrap_or runs 200
 
--- the seed, 1 where it isn't said
+-- the seed, by default 1
 abbrev pub seed_said : Option Word → Option ℕ
 seed_said word = number_or 1 most_seed word
 
--- the number of the first of so many runs, 0 where it isn't said
+-- the number of the first of this many runs, by default 0
 abbrev pub from_said : Option Word → ℕ → Option ℕ
 from_said word runs = number_or 0 most_run word >>= λ from. if nat_le (from + runs) most_run then Some from else None
 
--- on how many threads, where it is said
+-- on how many threads, if given
 abbrev pub jobs_said : Option Word → Option (Option ℕ)
 jobs_said None = Some None
 jobs_said (Some word) = option_map Some (count_within most_jobs word)
 
 -- ---- forms
 
--- nothing is said that is of hunts alone
+-- no option of hunts alone is given
 abbrev pub is_plain : Said → Bool
-is_plain s = is_none s.jobs && is_none s.expect && is_none s.pass && is_none s.until && not s.json
+is_plain s = is_none s.time && is_none s.jobs && is_none s.expect && is_none s.pass && is_none s.until && not s.json
 
 abbrev pub hunt_said : Said → Word → Option Word → Option Word → Option Spoken
 hunt_said s machine runs seed =
-    runs_said runs >>= λ runs. seed_said seed >>= λ seed. from_said s.from (most_made runs) >>= λ from. jobs_said s.jobs >>= λ jobs.
-    Some (hunt (record { machine = machine; from = from; runs = runs; seed = seed; jobs = jobs; expect = s.expect; pass = s.pass; until = s.until; json = s.json }))
+    runs_said runs >>= λ said. time_said s.time >>= λ time. seed_said seed >>= λ seed. from_said s.from (most_made (runs_asked time said)) >>= λ from. jobs_said s.jobs >>= λ jobs.
+    Some (hunt (record { machine = machine; from = from; runs = runs_asked time said; time = time; seed = seed; jobs = jobs; expect = s.expect; pass = s.pass; until = s.until; json = s.json }))
 
 abbrev pub each_said : Said → Word → Option Word → Option Word → Option Spoken
 each_said s machine runs seed =
@@ -113,7 +129,7 @@ record_said s machine run seed =
     if is_plain s && is_none s.runs && is_none s.from then (run >>= λ word. number_within most_run word >>= λ run. seed_said seed >>= λ seed. Some (record_of machine run seed))
     else None
 
--- `MACHINE`, `MACHINE RUNS [SEED]`, `MACHINE each [RUNS [SEED]]` or `MACHINE record K [SEED]`, where a number may be said by an option instead
+-- `MACHINE`, `MACHINE RUNS [SEED]`, `MACHINE each [RUNS [SEED]]` or `MACHINE record K [SEED]`, in which an option may give a number instead
 abbrev pub placed : Said → Word → Option Word → Option Spoken
 placed s machine None = hunt_said s machine s.runs s.seed
 placed s machine (Some word) =
@@ -139,6 +155,7 @@ asked h = record {
   machine = h.machine.now;
   from = h.from;
   runs = h.runs;
+  time = h.time;
   seed = h.seed;
   jobs = h.jobs;
   expect = texts_of h.expect;

@@ -1,4 +1,4 @@
-//! What is told of each run.
+//! What is printed of each run.
 
 ghost use Rattle.std.specs.Prelude.{◌≡◌, ◌<◌, ◌+◌, ◌++◌, length, IfOk, OnOk};
 ghost use Rattle.hunt_forms.specs.Hunts.{end_word, race_text, told_line, is_racy, IsTold, IsToldOf, TellsRuns};
@@ -11,12 +11,12 @@ use hunt_reports::put_sites;
 use settled::is_settled;
 use std::alloc::{AllocError, Global};
 
-/// What is told of a run.
+/// What is printed of a run.
 #[derive(Clone, Copy)]
 pub struct Told {
     pub run: u32,
     pub outcome: Outcome,
-    /// Whether it is settled, where it has no race.
+    /// Whether it is settled, if it has no race.
     pub settled: bool,
 }
 
@@ -31,7 +31,7 @@ fn end_word(end: End) -> &'static [u8]
 }
 
 impl Told {
-    /// What is told of a run that was made: if it has no race, whether it is settled.
+    /// What is printed of a run that was made: if it has no race, whether it is settled.
     fn of_run(alloc: Global, made: &SeedRun, run: u32) -> Result<Told, AllocError>
         ensures number { IfOk result (λ t. t.run ≡ run) }
         ensures told { IfOk result (IsToldOf made.now) }
@@ -55,7 +55,7 @@ impl Told {
         })
     }
 
-    /// Makes a run, and tells of it.
+    /// Makes a run, and returns what is printed of it.
     fn new(alloc: Global, setup: &Setup, seed: u64, run: u32) -> Result<Told, AllocError>
         requires { 0 < length setup.now.entries }
         ensures { IfOk result (IsTold setup.now seed run) }

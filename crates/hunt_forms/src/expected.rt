@@ -8,7 +8,7 @@ use crate::lines::without_return;
 use cell_base::line_text::{before_comment, first_line, next_word};
 use std::alloc::{AllocError, Global};
 
-/// Writes each word behind a space.
+/// Writes each word after a space.
 #[tactic(auto, unfolding(crate::specs::Expected::spaced))]
 fn put_spaced(out: &mut Vec<u8>, words: &[u8]) -> Result<(), AllocError>
     ensures { OnOk result (out.new.items ≡ out.old.items ++ spaced (words_in words.now)) }
@@ -35,7 +35,7 @@ fn said_by(alloc: Global, line: &[u8]) -> Result<Vec<u8>, AllocError>
     Ok(out)
 }
 
-/// Keeps what a line said, where it has words.
+/// Keeps the words of a line, if it has some.
 fn keep(expected: &mut Vec<Vec<u8>>, said: Vec<u8>) -> Result<(), AllocError>
     ensures { OnOk result (map (λ v. v.items) expected.new.items ≡ map (λ v. v.items) expected.old.items ++ some_line said.items) }
 {

@@ -40,7 +40,7 @@ pub enum Status {
 }
 
 impl Status {
-    /// The exit status: 0 where nothing was found, 1 where something was, and 2 to 7 for the refusals, as `cell` has them.
+    /// The exit status: 0 if nothing was found, 1 if something was, and 2 to 7 for the refusals, as `cell` has them.
     pub fn code(&self) -> u8
         ensures { result ≡ code_of self.now }
     {
@@ -72,7 +72,7 @@ impl fmt::Display for Fault {
     fn fmt<W: fmt::Write>(&self, f: &mut fmt::Formatter<W>) -> fmt::Result {
         match *self {
             Fault::Usage => f.write_str(
-                "usage: hunt MACHINE [--runs N] [--seed S] [--from K] [--jobs N] [--expect FILE] [--pass FILE] [--until FILE] [--json], hunt MACHINE RUNS [SEED], hunt MACHINE each [RUNS [SEED]] or hunt MACHINE record K [SEED]",
+                "usage: hunt MACHINE [--runs N] [--time S] [--seed S] [--from K] [--jobs N] [--expect FILE] [--pass FILE] [--until FILE] [--json], hunt MACHINE RUNS [SEED], hunt MACHINE each [RUNS [SEED]] or hunt MACHINE record K [SEED]",
             ),
             Fault::Machine(fault) => fault.fmt(f),
             Fault::ReadFault { file } => write!(f, "cannot read {file}"),

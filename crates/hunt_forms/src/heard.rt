@@ -4,10 +4,11 @@ ghost use Rattle.std.specs.Prelude.{◌≡◌, map, string_bytes};
 ghost use Rattle.std.specs.Option.{option_map};
 ghost use Rattle.hunt_forms.specs.Heard.{has_dash, heard, silent, key_of, with_value, with_place, with_json, with_plain, with_word, said_on};
 
-/// An option that has a word behind it.
+/// An option that has a word after it.
 #[derive(Clone, Copy, PartialEq, Eq)]
 pub enum Key {
     Runs,
+    Time,
     Seed,
     From,
     Jobs,
@@ -16,16 +17,17 @@ pub enum Key {
     Until,
 }
 
-/// What was said so far.
+/// The words so far.
 #[derive(Clone, Copy)]
 pub struct Heard<'a> {
-    /// By places: the machine file, and up to three words behind it.
+    /// By places: the machine file, and up to three words after it.
     pub machine: Option<&'a str>,
     pub first: Option<&'a str>,
     pub second: Option<&'a str>,
     pub third: Option<&'a str>,
     /// By options.
     pub runs: Option<&'a str>,
+    pub time: Option<&'a str>,
     pub seed: Option<&'a str>,
     pub from: Option<&'a str>,
     pub jobs: Option<&'a str>,
@@ -46,12 +48,13 @@ fn has_dash(word: &str) -> bool
     }
 }
 
-/// The option that has a word behind it.
+/// The option that has a word after it.
 fn key_of(word: &str) -> Option<Key>
     ensures { result ≡ key_of word.now }
 {
     match word {
         "--runs" => Some(Key::Runs),
+        "--time" => Some(Key::Time),
         "--seed" => Some(Key::Seed),
         "--from" => Some(Key::From),
         "--jobs" => Some(Key::Jobs),
@@ -73,6 +76,7 @@ impl<'a> Heard<'a> {
             second: None,
             third: None,
             runs: None,
+            time: None,
             seed: None,
             from: None,
             jobs: None,
@@ -84,7 +88,7 @@ impl<'a> Heard<'a> {
         }
     }
 
-    /// The word of an option, which is said once.
+    /// The value of an option, which is given once.
     fn with_value(self, key: Key, word: &'a str) -> Option<Heard<'a>>
         ensures { option_map heard result ≡ with_value (heard self.entry) key word.now }
     {
@@ -95,6 +99,7 @@ impl<'a> Heard<'a> {
         let value = Some(word);
         match key {
             Key::Runs if old.runs.is_none() => Some(Heard { runs: value, ..old }),
+            Key::Time if old.time.is_none() => Some(Heard { time: value, ..old }),
             Key::Seed if old.seed.is_none() => Some(Heard { seed: value, ..old }),
             Key::From if old.from.is_none() => Some(Heard { from: value, ..old }),
             Key::Jobs if old.jobs.is_none() => Some(Heard { jobs: value, ..old }),
@@ -146,7 +151,7 @@ impl<'a> Heard<'a> {
         Some(Heard { json: true, ..self })
     }
 
-    /// An option without a word behind it, or a place: no other word has a dash in front.
+    /// An option without a word after it, or a place: no other word has a dash in front.
     fn with_plain(self, word: &'a str) -> Option<Heard<'a>>
         ensures { option_map heard result ≡ with_plain (heard self.entry) word.now }
     {
@@ -176,7 +181,7 @@ impl<'a> Heard<'a> {
     }
 }
 
-/// What the words say behind those that were heard, None where one is no option and has no place.
+/// What the words say after those that were heard. None if one is no option and has no place.
 #[tactic(auto, unfolding(crate::specs::Heard::said_on))]
 fn hear_on<'a>(so_far: Heard<'a>, words: &'a [String]) -> Option<Heard<'a>>
     ensures { option_map heard result ≡ said_on (heard so_far.entry) (map string_bytes words.now) }

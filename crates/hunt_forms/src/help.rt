@@ -6,19 +6,21 @@ pub const HELP: &[u8] = b"usage: hunt MACHINE [OPTION..]
        hunt MACHINE each [RUNS [SEED]] [--runs N] [--seed S] [--from K]
        hunt MACHINE record K [SEED] [--seed S]
 
-Makes many runs of a machine, in orders by chance that a seed chooses, and tells what was found. `each` tells of each run how it ends and its
-race, or whether it is settled. `record` prints run K as `cell run` does.
+Runs a machine many times under random schedules, and reports what went wrong. `each` prints for each run how it ends and its first race, or
+whether it is settled. `record` prints run K as `cell run` does.
 
-  --runs N       so many runs, 1 to 1,000,000 (1,000, but none after 200, 300, .. runs that have 20,000,000 steps; 200 for `each`)
-  --seed S       the seed that chooses the orders (1)
-  --from K       the number of the first run (0)
-  --jobs N       on so many threads, 1 to 256 (as many as there are cores)
-  --expect FILE  each line of FILE has to be a line of the states of every run
-  --pass FILE    the races that FILE has, as hunt prints them, are left out
-  --until FILE   once FILE is there the hunt ends, and tells the runs that were made
-  --json         one JSON object a line
-  --help         this text
+  --runs N       the number of runs, 1 to 1,000,000 (default 1,000, or fewer if they are long: the hunt ends after 200, 300, .. runs as soon as
+                 these have 20,000,000 steps together; 200 for `each`)
+  --time S       end the hunt after S seconds, 1 to 1,000,000; without --runs it makes up to 1,000,000 runs
+  --seed S       the seed of the random schedules (default 1)
+  --from K       the number of the first run (default 0)
+  --jobs N       the number of threads, 1 to 256 (default: one for each core)
+  --expect FILE  each line of FILE has to be among the states of every run
+  --pass FILE    the races in FILE, as hunt prints them, aren't reported
+  --until FILE   end the hunt once FILE exists, and report on the runs made so far
+  --json         print one JSON object a line
+  --help         print this text
 
-The exit status of a hunt is 1 where a run has a race, is stuck, spent its budget, has a fault or a halt, or misses an expected line, that of
-`each` 1 where a run has a race, and else 0. 2 to 7 say why nothing was told, or not all.
+The exit status of a hunt is 1 if a run has a race, a deadlock, a fault or a halt, spends its budget, or misses an expected line, and that of
+`each` is 1 if a run has a race. Otherwise it is 0. With 2 to 7 the report is missing or incomplete.
 ";

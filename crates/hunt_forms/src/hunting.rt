@@ -67,7 +67,7 @@ where
 }
 
 /// Makes the runs of a hunt, all or as many as were made when somebody ended it, and takes their reports in. Who looks on is told of the end, also
-/// where it comes for want of memory.
+/// if the hunt ends because it is out of memory.
 pub fn hunt_runs<F, P>(
     team: &Team<F>,
     quarry: &Quarry,

@@ -18,7 +18,7 @@ fn begins_with(name: &[u8], word: &[u8]) -> bool
     word.len() > name.len() && &word[..name.len()] == name && word[name.len()] == b':'
 }
 
-/// The number of `NAME:NUMBER`, where a word has this name.
+/// The number of `NAME:NUMBER`, if a word has this name.
 fn number_behind(name: &[u8], word: &[u8]) -> Option<u32>
     ensures { result ≡ number_behind name.now word.now }
 {

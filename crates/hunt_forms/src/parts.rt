@@ -19,7 +19,7 @@ struct Runs {
     count: u32,
 }
 
-/// What runs that follow one another tell, and how many runs of the hunt stand before them.
+/// The reports of runs that follow one another, and how many runs of the hunt come before them.
 #[derive(Drop)]
 pub struct Part {
     pub first: u32,
@@ -44,7 +44,7 @@ fn next_runs(taken: &AtomicU32, end: u32, jobs: u32) -> Option<Runs>
     })
 }
 
-/// Makes runs one after the other, and takes in what each tells.
+/// Makes runs one after the other, and takes their reports in.
 fn make_part(
     alloc: Global,
     quarry: &Quarry,
@@ -99,7 +99,7 @@ pub fn make_parts(
     Ok(parts)
 }
 
-/// Takes in what a part tells, behind the runs that were taken in, and answers how many were then. Runs between them are made here, and a part
+/// Takes in what a part tells, after the runs that were taken in, and answers how many were then. Runs between them are made here, and a part
 /// with runs that were taken in is left out: as the counter counts there are neither.
 fn take_part(
     sums: &mut Hunted,
@@ -131,7 +131,7 @@ fn take_part(
     Ok(first + count)
 }
 
-/// Takes in what parts tell, in the order of the runs, behind those that were taken in, up to `end`. Runs that stand in no part are made here.
+/// Takes in what parts tell, in the order of the runs, after those that were taken in, up to `end`. Runs that stand in no part are made here.
 pub fn take_parts(
     sums: &mut Hunted,
     alloc: Global,

@@ -22,7 +22,7 @@ pub enum PassError {
     Memory,
 }
 
-/// A number, and the words behind it.
+/// A number, and the words after it.
 #[tactic(auto, unfolding(crate::specs::Passes::number_in))]
 fn number_in(words: &[u8]) -> Option<(u32, &[u8])>
     ensures { Reads (λ x. (x.0, words_in x.1.now)) result (number_in (words_in words.now)) }
@@ -32,7 +32,7 @@ fn number_in(words: &[u8]) -> Option<(u32, &[u8])>
     Some((n, rest))
 }
 
-/// A processor, of so many.
+/// A processor, of this many.
 #[tactic(auto, unfolding(crate::specs::Passes::spe_in))]
 fn spe_in(spes: u8, words: &[u8]) -> Option<(u8, &[u8])>
     ensures { Reads (λ x. (x.0, words_in x.1.now)) result (spe_in spes (words_in words.now)) }
@@ -45,7 +45,7 @@ fn spe_in(spes: u8, words: &[u8]) -> Option<(u8, &[u8])>
     }
 }
 
-/// The words behind this very word.
+/// The words after this very word.
 #[tactic(auto, unfolding(crate::specs::Passes::mark_in))]
 fn mark_in<'a>(mark: &[u8], words: &'a [u8]) -> Option<&'a [u8]>
     ensures { Reads (λ x. words_in x.now) result (mark_in mark.now (words_in words.now)) }
@@ -54,7 +54,7 @@ fn mark_in<'a>(mark: &[u8], words: &'a [u8]) -> Option<&'a [u8]>
     if word == mark { Some(rest) } else { None }
 }
 
-/// The words behind the next bar.
+/// The words after the next bar.
 #[tactic(auto, unfolding(crate::specs::Passes::behind_bar))]
 fn behind_bar(words: &[u8]) -> Option<&[u8]>
     ensures { Reads (λ x. words_in x.now) result (behind_bar (words_in words.now)) }
@@ -88,7 +88,7 @@ fn site_named(letter: &[u8], spe: u8, at: u32) -> Option<Site>
     }
 }
 
-/// `x 0 at 0x00080`, behind its letter.
+/// `x 0 at 0x00080`, after its letter.
 #[tactic(auto, unfolding(crate::specs::Passes::spe_site))]
 fn spe_site<'a>(spes: u8, letter: &[u8], words: &'a [u8]) -> Option<(Site, &'a [u8])>
     ensures { Reads (λ x. (x.0, words_in x.1.now)) result (spe_site spes letter.now (words_in words.now)) }
@@ -100,7 +100,7 @@ fn spe_site<'a>(spes: u8, letter: &[u8], words: &'a [u8]) -> Option<(Site, &'a [
     Some((site, rest))
 }
 
-/// `h 3`, behind its letter.
+/// `h 3`, after its letter.
 #[tactic(auto, unfolding(crate::specs::Passes::host_site))]
 fn host_site(words: &[u8]) -> Option<(Site, &[u8])>
     ensures { Reads (λ x. (x.0, words_in x.1.now)) result (host_site (words_in words.now)) }
@@ -109,7 +109,7 @@ fn host_site(words: &[u8]) -> Option<(Site, &[u8])>
     Some((Site::Host { action }, rest))
 }
 
-/// A site, and the words behind it.
+/// A site, and the words after it.
 #[tactic(auto, unfolding(crate::specs::Passes::site_in))]
 fn site_in(spes: u8, words: &[u8]) -> Option<(Site, &[u8])>
     ensures { Reads (λ x. (x.0, words_in x.1.now)) result (site_in spes (words_in words.now)) }
@@ -122,7 +122,7 @@ fn site_in(spes: u8, words: &[u8]) -> Option<(Site, &[u8])>
     }
 }
 
-/// A site of the machine, and the words behind it.
+/// A site of the machine, and the words after it.
 #[tactic(auto, unfolding(crate::specs::Passes::named_in))]
 fn named_in<'a>(setup: &Setup, places: &Places, words: &'a [u8]) -> Option<(Site, &'a [u8])>
     ensures { Reads (λ x. (x.0, words_in x.1.now)) result (named_in setup.now places.now (words_in words.now)) }
@@ -135,7 +135,7 @@ fn named_in<'a>(setup: &Setup, places: &Places, words: &'a [u8]) -> Option<(Site
     }
 }
 
-/// The words behind `race COUNT FIRST |`, or behind the bar alone.
+/// The words after `race COUNT FIRST |`, or after the bar alone.
 #[tactic(auto, unfolding(crate::specs::Passes::head_in))]
 fn head_in(words: &[u8]) -> Option<&[u8]>
     ensures { Reads (λ x. words_in x.now) result (head_in (words_in words.now)) }
@@ -149,7 +149,7 @@ fn head_in(words: &[u8]) -> Option<&[u8]>
     mark_in(b"|", rest)
 }
 
-/// Two sites, each behind a bar; the line of a source may follow each.
+/// Two sites, each after a bar; the line of a source may follow each.
 #[tactic(auto, unfolding(crate::specs::Passes::race_in))]
 fn race_in(setup: &Setup, places: &Places, words: &[u8]) -> Option<Sites>
     ensures { result ≡ race_in setup.now places.now (words_in words.now) }
@@ -173,7 +173,7 @@ fn has_hash(word: &[u8]) -> bool
     }
 }
 
-/// The race of a line; None where it is skipped.
+/// The race of a line; None if it is skipped.
 #[tactic(auto, unfolding(crate::specs::Passes::line_step))]
 fn line_step(setup: &Setup, places: &Places, line: &[u8]) -> Result<Option<(Sites, ())>, ()>
     ensures { result ≡ line_step setup.now places.now tt line.now }

@@ -27,7 +27,7 @@ use hunt_texts::{hunt_json, hunt_text};
 use std::alloc::{AllocError, Global};
 use std::thread::Threads;
 
-/// A status where something was found, or nothing.
+/// The status by whether something was found.
 fn status_of(is_found: bool) -> Status
     ensures { result ≡ status_of is_found }
 {
@@ -38,7 +38,7 @@ fn status_of(is_found: bool) -> Status
     }
 }
 
-/// Writes a text, behind which this is the status.
+/// Writes a text, after which this is the status.
 fn write_text<K: Sink>(text: &[u8], status: Status, out: &mut K) -> Status
     requires { (f : AFault) → status ≢ Status.Refused f }
     ensures sink_count { K.faults out.old ≤ K.faults out.new }
@@ -177,7 +177,7 @@ fn write_each<K: Sink>(
     }
 }
 
-/// Runs of which each is told: the files are read, and the lines are written.
+/// The form `each`: the files are read, and the lines of the runs are written.
 fn each_form<T: Store, K: Sink>(
     alloc: Global,
     machine: &str,

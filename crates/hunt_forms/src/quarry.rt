@@ -13,7 +13,7 @@ use cell_machine::Setup;
 use hunt_reports::{Asked, Places};
 use std::alloc::Global;
 
-/// The lines that are expected, where there is an expectation file.
+/// The expected lines, if there is an expectation file.
 fn expected_by<T: Store>(
     alloc: Global,
     files: &mut T,
@@ -32,7 +32,7 @@ fn expected_by<T: Store>(
     }
 }
 
-/// The keys of the races that are left out, where there is a pass file.
+/// The keys of the races that are left out, if there is a suppressions file.
 fn passed_by<T: Store>(
     alloc: Global,
     files: &mut T,

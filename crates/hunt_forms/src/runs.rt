@@ -20,7 +20,7 @@ fn report_of_run(alloc: Global, quarry: &Quarry, seed: u64, run: u32) -> Result<
     }
 }
 
-/// Makes so many runs behind those that were made, one after the other, and takes in what each tells.
+/// Makes this many runs after those that were made, one after the other, and takes their reports in.
 pub fn take_runs(
     sums: &mut Hunted,
     alloc: Global,

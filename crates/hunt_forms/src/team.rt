@@ -16,14 +16,14 @@ pub struct Round {
     pub jobs: u32,
 }
 
-/// How a round is made, and on how many threads where the words don't say.
+/// How a round is made, and on how many threads by default.
 #[derive(Drop)]
 pub struct Team<F: Fn(&Quarry, &Hunt, u32, Round, &mut Hunted) -> Result<(), AllocError>> {
     pub cores: u32,
     pub make: F,
 }
 
-/// Makes the runs of a round, behind those that were made, one after the other, and takes their reports in.
+/// Makes the runs of a round, after those that were made, one after the other, and takes their reports in.
 pub fn make_alone(
     alloc: Global,
     quarry: &Quarry,

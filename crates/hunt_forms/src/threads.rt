@@ -13,7 +13,7 @@ use std::alloc::{AllocError, Global};
 use std::sync::atomic::AtomicU32;
 use std::thread::{Threads, available_parallelism, map_indices};
 
-/// On how many threads runs are made where the words don't say: as many as there are cores.
+/// On how many threads runs are made by default: one for each core.
 pub fn cores_of<R: Threads>(rt: &R) -> u32 {
     match available_parallelism(rt) {
         Ok(cores) => u32::try_from(cores.get()).unwrap_or(u32::MAX),
@@ -21,7 +21,7 @@ pub fn cores_of<R: Threads>(rt: &R) -> u32 {
     }
 }
 
-/// What the threads tell that make the runs of a round, behind those that were made.
+/// What the threads tell that make the runs of a round, after those that were made.
 fn make_on_each<R: Threads + Sync>(
     rt: &R,
     alloc: Global,
@@ -61,7 +61,7 @@ fn all_parts(
     Ok(parts)
 }
 
-/// Makes the runs of a round, behind those that were made, on threads, and takes their reports in. One thread needs no parts.
+/// Makes the runs of a round, after those that were made, on threads, and takes their reports in. One thread needs no parts.
 pub fn make_on_threads<R: Threads + Sync>(
     rt: &R,
     alloc: Global,

@@ -3,17 +3,20 @@
 ghost use Rattle.std.specs.Prelude.{◌≡◌, ◌≤◌, ◌<◌, ◌+◌, Some, IfSome, map, option_and_then, string_bytes};
 ghost use Rattle.std.specs.Option.{option_map};
 ghost use Rattle.hunt_forms.specs.Heard.{heard, texts_of, silent, said_on};
-ghost use Rattle.hunt_forms.specs.Words.{asks_help, count_within, either, number_or, runs_said, most_made, told_runs, seed_said, from_said, jobs_said, is_plain, hunt_said, each_said, record_said, placed, form_said, spoken, said, most_runs, most_run, most_jobs, IsWithin};
+ghost use Rattle.hunt_forms.specs.Words.{asks_help, count_within, either, number_or, runs_asked, runs_said, time_said, most_made, told_runs, seed_said, from_said, jobs_said, is_plain, hunt_said, each_said, record_said, placed, form_said, spoken, said, most_runs, most_run, most_jobs, IsWithin};
 
 use crate::heard::{Heard, hear};
-use crate::numbers::number_of;
+use crate::numbers::{number_of, seconds_of};
 
 /// How many runs a hunt may make, and how many it makes at most if the words don't say.
 const MOST_RUNS: u32 = 1_000_000;
 
+/// For how many seconds a hunt may run.
+const MOST_TIME: u32 = 1_000_000;
+
 pub const DEFAULT_RUNS: u32 = 1000;
 
-/// Of how many runs each is told if the words don't say.
+/// How many runs `each` prints by default.
 const DEFAULT_TOLD: u32 = 200;
 
 /// On how many threads a hunt may run.
@@ -23,16 +26,18 @@ pub const MOST_JOBS: u32 = 256;
 #[derive(Clone, Copy)]
 pub struct Hunt<'a> {
     pub machine: &'a str,
-    /// The number of the first run, and how many, where it is said.
+    /// The number of the first run, and how many, if given.
     pub from: u32,
     pub runs: Option<u32>,
+    /// For how many seconds, if given.
+    pub time: Option<u32>,
     pub seed: u64,
-    /// On how many threads, where it is said.
+    /// On how many threads, if given.
     pub jobs: Option<u32>,
     /// The expectation file and the pass file.
     pub expect: Option<&'a str>,
     pub pass: Option<&'a str>,
-    /// The file that ends the hunt once it is there.
+    /// The file that ends the hunt once it exists.
     pub until: Option<&'a str>,
     pub json: bool,
 }
@@ -40,9 +45,9 @@ pub struct Hunt<'a> {
 /// What the words ask for.
 #[derive(Clone, Copy)]
 pub enum Form<'a> {
-    /// To make runs, and to tell what was found.
+    /// To make runs, and to report what was found.
     Hunt(Hunt<'a>),
-    /// To make so many runs, and to tell of each how it ends and its race.
+    /// To make this many runs, and to print for each how it ends and its race.
     Each {
         machine: &'a str,
         from: u32,
@@ -59,7 +64,7 @@ pub enum Form<'a> {
     NoForm,
 }
 
-/// The word of a place or of an option; None where both are said.
+/// The word of a place or of an option; None if both are given.
 fn either<'a>(place: Option<&'a str>, option: Option<&'a str>) -> Option<Option<&'a str>>
     ensures { option_map texts_of result ≡ either (texts_of place.entry) (texts_of option.entry) }
 {
@@ -89,6 +94,32 @@ fn runs_of(word: Option<&str>) -> Option<Option<u32>>
     }
 }
 
+fn time_of(word: Option<&str>) -> Option<Option<u32>>
+    ensures { result ≡ time_said (texts_of word.entry) }
+{
+    let Some(word) = word else {
+        return Some(None);
+    };
+    let seconds = seconds_of(word, u64::from(MOST_TIME))?;
+    if seconds > 0 {
+        Some(Some(seconds as u32))
+    } else {
+        None
+    }
+}
+
+/// How many runs are asked for: as many as there can be if only a time is given.
+fn runs_asked(time: Option<u32>, runs: Option<u32>) -> Option<u32>
+    ensures value { result ≡ runs_asked time runs }
+    ensures bounds { IfSome runs (λ n. (0 < n) × (n ≤ most_runs)) → IfSome result (λ n. (0 < n) × (n ≤ most_runs)) }
+{
+    if time.is_some() && runs.is_none() {
+        Some(MOST_RUNS)
+    } else {
+        runs
+    }
+}
+
 /// How many runs a hunt makes at most.
 pub fn most_made(runs: Option<u32>) -> u32
     ensures value { result ≡ most_made runs }
@@ -97,7 +128,7 @@ pub fn most_made(runs: Option<u32>) -> u32
     runs.unwrap_or(DEFAULT_RUNS)
 }
 
-/// Of how many runs each is told.
+/// How many runs `each` prints.
 fn told_runs(runs: Option<u32>) -> u32
     ensures value { result ≡ told_runs runs }
     ensures bounds { IfSome runs (λ n. (0 < n) × (n ≤ most_runs)) → (0 < result) × (result ≤ most_runs) }
@@ -122,7 +153,7 @@ fn run_of(word: &str) -> Option<u32>
     Some(n as u32)
 }
 
-/// The number of the first of so many runs.
+/// The number of the first of this many runs.
 fn from_of(word: Option<&str>, runs: u32) -> Option<u32>
     ensures value { result ≡ from_said (texts_of word.entry) runs }
     ensures bounds { IfSome result (λ from. from + runs ≤ most_run) }
@@ -148,11 +179,12 @@ fn jobs_of(word: Option<&str>) -> Option<Option<u32>>
     }
 }
 
-/// Whether nothing is said that is of hunts alone.
+/// Whether no option of hunts alone is given.
 fn is_plain(words: &Heard) -> bool
     ensures { result ≡ is_plain (heard words.now) }
 {
-    words.jobs.is_none()
+    words.time.is_none()
+        && words.jobs.is_none()
         && words.expect.is_none()
         && words.pass.is_none()
         && words.until.is_none()
@@ -168,7 +200,9 @@ fn hunt_form<'a>(
     ensures value { option_map said result ≡ hunt_said (heard words.now) machine.now (texts_of runs.entry) (texts_of seed.entry) }
     ensures within { IfSome result IsWithin }
 {
-    let runs = runs_of(runs)?;
+    let said = runs_of(runs)?;
+    let time = time_of(words.time)?;
+    let runs = runs_asked(time, said);
     let seed = seed_of(seed)?;
     let from = from_of(words.from, most_made(runs))?;
     let jobs = jobs_of(words.jobs)?;
@@ -176,6 +210,7 @@ fn hunt_form<'a>(
         machine,
         from,
         runs,
+        time,
         seed,
         jobs,
         expect: words.expect,
@@ -225,7 +260,7 @@ fn record_form<'a>(
     Some(Form::Record { machine, run, seed })
 }
 
-/// The form that the words behind the machine file ask for.
+/// The form that the words after the machine file ask for.
 fn placed<'a>(words: &Heard<'a>, machine: &'a str) -> Option<Form<'a>>
     ensures value { option_map said result ≡ placed (heard words.now) machine.now (heard words.now).first }
     ensures within { IfSome result IsWithin }
@@ -250,7 +285,7 @@ fn placed<'a>(words: &Heard<'a>, machine: &'a str) -> Option<Form<'a>>
     hunt_form(words, machine, runs, seed)
 }
 
-/// The form of the words, where they are one.
+/// The form of the words, if they are one.
 fn form_heard(words: &[String]) -> Option<Form<'_>>
     ensures value { option_map said result ≡ option_and_then form_said (said_on silent (map string_bytes words.now)) }
     ensures within { IfSome result IsWithin }

@@ -1,12 +1,19 @@
 // The greatest memory.
 
 use crate::holds;
-use main_memory::{Memory, MemoryError};
+use main_memory::{LINE_BYTES, Memory, MemoryError};
 
-// The greatest memory that `new` allows, 64 MiB, is made where there is as much.
+// The greatest memory that `new` allows, 64 MiB, has room for its last line.
 #[test]
 fn has_room_for_all_lines(rt: HostRuntime) -> Result<(), MemoryError> {
-    let memory = Memory::new(rt.alloc(), 524_288)?;
-    holds(&rt, memory.bytes().len() == 67_108_864);
+    let mut memory = Memory::new(rt.alloc(), 524_288)?;
+    let lines = memory.lines();
+    holds(&rt, lines == 524_288);
+    let mut line = [0; LINE_BYTES as usize];
+    if let Some(last) = lines.checked_sub(1) {
+        memory.copy_in(last * LINE_BYTES, &[7; LINE_BYTES as usize]);
+        memory.copy_out(last * LINE_BYTES, &mut line);
+    }
+    holds(&rt, line == [7; LINE_BYTES as usize]);
     Ok(())
 }

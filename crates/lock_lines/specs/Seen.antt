@@ -1,12 +1,14 @@
--- The words that a contract sees, and what is true of the line that each processor reserved last.
-use Rattle.std.specs.Prelude.{◌≤◌}
-use Rattle.lock_lines.specs.Marks.{AreMarks}
-use Rattle.lock_lines.specs.Words.{Words}
+-- The reservations that a contract sees, and what is always true of them.
+use Rattle.std.specs.Prelude.{◌≡◌, ◌<◌, ◌≤◌, ℕ, false, length}
+use Rattle.cell_base.specs.Bits.{has_bit}
+use Rattle.lock_lines.specs.Reservations.{Reservations}
 use Rattle.lock_lines.specs.declared.LockLines.TheInside.{Inside}
 
-abbrev pub words_of : Inside → Words
-words_of x = record { spes = x.spes; words = x.words.items; reserved = x.reserved }
+abbrev pub reservations_of : Inside → Reservations
+reservations_of x = record { spes = x.spes; lines = x.lines; holding = x.holding; reserved = x.reserved }
 
 pub record IsSound (x : Inside) : Type 0 where
   pub few : x.spes ≤ 16
-  pub marks : AreMarks x.words.items x.reserved
+  pub places : length x.reserved ≡ 16
+  -- only processors that there are hold a line
+  pub others : (p : ℕ) → x.spes ≤ p → p < 16 → has_bit x.holding p ≡ false

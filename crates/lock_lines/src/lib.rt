@@ -1,4 +1,4 @@
-//! The reservations of lines of main memory, one word for each line with one bit for each processor.
+//! The reservations of lines of main memory: the line that each processor reserved last, and whether it still holds it.
 #![tactic(auto)]
 
 ghost use Rattle.std.specs.Prelude.{◌≡◌, ℕ, ◌<◌, ◌≤◌, ◌==◌, ◌&&◌, not, IfOk, Some, None, slice_set};
@@ -6,15 +6,15 @@ ghost use Rattle.cell_base.specs.Bits.{has_bit};
 ghost use Rattle.lock_lines.specs.Logs.{Logs, no_logs, held};
 ghost use Rattle.lock_lines.specs.Calls.{IsAbove, after_store, after_getllar, after_putllc, answer_of};
 ghost use Rattle.lock_lines.specs.Versions.{Versions, opening_versions, is_reserved, line_held, line_reserved, stored_to, got, put};
-ghost use Rattle.lock_lines.specs.Marks.{is_marked, IsLineCleared, IsSpeCleared, IsMarkedAlone};
+ghost use Rattle.lock_lines.specs.Holders.{is_holder, IsLineCleared, IsSpeCleared};
 
 use std::alloc::{AllocError, Global};
 use std::marker::Model;
 
-/// How many processors a word has bits for.
+/// How many processors there can be: `holding` has a bit for each.
 const MAX_SPES: usize = 16;
 
-/// There was no room for the words.
+/// Out of memory. The reservations take none now, so no call returns it.
 #[derive(Clone, Copy, Debug, PartialEq, Eq)]
 pub enum LockError {
     Memory,
@@ -33,24 +33,26 @@ pub enum Lock {
     Lost,
 }
 
-/// Which lines are held. To a contract it is the number of processors and a word for each line, in which the bit of value 2^p says
-/// that processor p holds the line, and the line that each processor reserved last.
+/// Which processor holds which line. To a contract it is the numbers of processors and lines, the processors that hold a line, as
+/// bits, of which that of processor p has the value 2^p, and the line that each processor reserved last.
 #[derive(Drop)]
 pub struct LockLines {
     spes: u8,
-    words: Vec<u16>,
-    // the line that each processor reserved last, if it didn't give it up: it can hold no other
+    lines: u32,
+    // bit p: processor p still holds the line that it reserved last. A processor can hold no other, so there is no table of lines
+    holding: u16,
+    // the line that each processor reserved last, if it didn't give it up
     reserved: [Option<u32>; MAX_SPES],
 }
 
 impl Model for LockLines {
-    ghost use Rattle.lock_lines.specs.Words.{Words};
+    ghost use Rattle.lock_lines.specs.Reservations.{Reservations};
 
-    ghost Value = { Words };
+    ghost Value = { Reservations };
 
-    ghost use Rattle.lock_lines.specs.Seen.{words_of, IsSound};
+    ghost use Rattle.lock_lines.specs.Seen.{reservations_of, IsSound};
 
-    ghost view = { words_of };
+    ghost view = { reservations_of };
 
     ghost invariant = { IsSound };
 }
@@ -58,8 +60,8 @@ impl Model for LockLines {
 impl LockLines {
     ghost use Rattle.lock_lines.specs.Stands.{StandsFor, StandsForVersions, HasSameSize, line_count};
 
-    /// No reservation, of 1 to 524,288 lines by 1 to 16 processors. No later call takes memory.
-    pub fn new(alloc: Global, lines: u32, spes: u8) -> Result<LockLines, LockError>
+    /// No reservation, of 1 to 524,288 lines by 1 to 16 processors. Neither this nor a later call takes memory.
+    pub fn new(_: Global, lines: u32, spes: u8) -> Result<LockLines, LockError>
         requires some { 1 ≤ lines }
         requires few { lines ≤ 524288 }
         requires any { 1 ≤ spes }
@@ -69,12 +71,11 @@ impl LockLines {
         ensures logs { IfOk result (λ x. StandsFor x no_logs) }
         ensures versions { IfOk result (λ x. StandsForVersions x (opening_versions lines spes)) }
     {
-        let words = vec![in alloc; 0u16; lines as usize]?;
-        let reserved = [None; MAX_SPES];
         Ok(LockLines {
             spes,
-            words,
-            reserved,
+            lines,
+            holding: 0,
+            reserved: [None; MAX_SPES],
         })
     }
 
@@ -87,7 +88,8 @@ impl LockLines {
         ensures versions { (v : Versions) → StandsForVersions self.old v → StandsForVersions self.new (got spe line v) }
         ensures size { HasSameSize self.old self.new }
     {
-        self.mark_alone(spe, line);
+        self.reserved[usize::from(spe)] = Some(line);
+        self.holding |= 1 << spe;
     }
 
     /// PUTLLC: Stored exactly where the processor holds the line. It gives up what it had reserved, and a store ends all reservations
@@ -137,9 +139,9 @@ impl LockLines {
         requires line { line < line_count self.now }
         ensures logs { (logs : Logs) → StandsFor self.now logs → result ≡ held logs spe line }
         ensures versions { (v : Versions) → StandsForVersions self.now v → result ≡ is_reserved v spe line }
-        ensures marked { result ≡ is_marked self.now.words spe line }
+        ensures holder { result ≡ is_holder self.now spe line }
     {
-        (self.words[line as usize] >> spe) & 1 == 1
+        self.is_holding(spe) && self.reserved[usize::from(spe)] == Some(line)
     }
 
     /// The line that the processor holds. None comes exactly where it holds none.
@@ -147,9 +149,8 @@ impl LockLines {
         requires { spe < self.now.spes }
         ensures { (v : Versions) → StandsForVersions self.now v → result ≡ line_held v spe }
     {
-        let line = self.reserved[usize::from(spe)]?;
-        if self.held(spe, line) {
-            Some(line)
+        if self.is_holding(spe) {
+            self.reserved[usize::from(spe)]
         } else {
             None
         }
@@ -168,8 +169,19 @@ impl LockLines {
         requires { line < line_count self.now }
         ensures logs { (logs : Logs) (p : ℕ) → StandsFor self.now logs → p < 16 → has_bit result p ≡ held logs p line }
         ensures versions { (v : Versions) (p : ℕ) → StandsForVersions self.now v → p < 16 → has_bit result p ≡ is_reserved v p line }
+        ensures holders { (p : ℕ) → p < 16 → has_bit result p ≡ is_holder self.now p line }
     {
-        self.words[line as usize]
+        // mostly nobody holds a line, and each store asks
+        if self.holding == 0 {
+            return 0;
+        }
+        let mut holders = 0;
+        for spe in 0..self.spes {
+            if self.held(spe, line) {
+                holders |= 1 << spe;
+            }
+        }
+        holders
     }
 
     /// Those of them that aren't processor `spe`.
@@ -179,42 +191,37 @@ impl LockLines {
         ensures logs { (logs : Logs) (p : ℕ) → StandsFor self.now logs → p < 16 → has_bit result p ≡ (held logs p line && not (spe == p)) }
         ensures versions { (v : Versions) (p : ℕ) → StandsForVersions self.now v → p < 16 → has_bit result p ≡ (is_reserved v p line && not (spe == p)) }
     {
-        self.words[line as usize] & !(1 << spe)
+        // there are at most 16, so it has a bit
+        let _ = &self.spes;
+        self.holders(line) & !(1 << spe)
     }
 
-    /// Takes all marks from the line.
+    /// Whether the processor still holds the line that it reserved last.
+    fn is_holding(&self, spe: u8) -> bool
+        requires { spe < self.now.spes }
+        ensures { result ≡ has_bit self.now.holding spe }
+    {
+        (self.holding >> spe) & 1 == 1
+    }
+
+    /// Ends all reservations of the line.
     fn clear_line(&mut self, line: u32)
         requires { line < line_count self.old }
-        ensures marks { IsLineCleared line self.old.words self.new.words }
+        ensures holders { IsLineCleared line self.old self.new }
         ensures reserved { self.new.reserved ≡ self.old.reserved }
         ensures size { HasSameSize self.old self.new }
     {
-        self.words[line as usize] = 0;
+        self.holding &= !self.holders(line);
     }
 
-    /// Takes its mark and its reservation from the processor; the mark can only be at the line that it reserved last.
+    /// Takes from the processor what it reserved.
     fn clear_spe(&mut self, spe: u8)
         requires { spe < self.old.spes }
-        ensures marks { IsSpeCleared spe self.old.words self.new.words }
+        ensures holders { IsSpeCleared spe self.old self.new }
         ensures reserved { self.new.reserved ≡ slice_set self.old.reserved spe None }
         ensures size { HasSameSize self.old self.new }
     {
-        let Some(line) = self.reserved[usize::from(spe)].take() else {
-            return;
-        };
-        self.words[line as usize] &= !(1 << spe);
-    }
-
-    /// Marks the processor at this line and no other, and keeps that it reserved it.
-    fn mark_alone(&mut self, spe: u8, line: u32)
-        requires spe { spe < self.old.spes }
-        requires line { line < line_count self.old }
-        ensures marks { IsMarkedAlone spe line self.old.words self.new.words }
-        ensures reserved { self.new.reserved ≡ slice_set self.old.reserved spe (Some line) }
-        ensures size { HasSameSize self.old self.new }
-    {
-        self.clear_spe(spe);
-        self.reserved[usize::from(spe)] = Some(line);
-        self.words[line as usize] |= 1 << spe;
+        self.reserved[usize::from(spe)] = None;
+        self.holding &= !(1 << spe);
     }
 }

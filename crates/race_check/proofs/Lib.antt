@@ -9,6 +9,7 @@ pub mod Latest
 pub mod StackLaws
 pub mod CrowdLaws
 pub mod LineVisits
+pub mod NumberLaws
 pub mod Lists
 pub mod Visits
 pub mod Spans

@@ -45,25 +45,25 @@ pub unchanged : (shadow : Shadow) → IsLengthened shadow shadow
 unchanged shadow = record { left = λ p line list got. got; rest = λ k list got. inl got }
 
 -- an empty list came behind the others, for a slot that had none
-pub lengthened : (before after : Shadow) (slot : ℕ) (list : Line) → length before.lists.items ≤ slice_index before.numbers.items slot → after.lists.items ≡ before.lists.items ++ list ∷ [] → after.numbers.items ≡ set before.numbers.items slot (length before.lists.items)
+pub lengthened : (before after : Shadow) (slot : ℕ) (list : Line) → length before.lists.items ≤ slice_index before.numbers slot → after.lists.items ≡ before.lists.items ++ list ∷ [] → after.numbers ≡ set before.numbers slot (length before.lists.items)
     → list.writes.items ≡ [] → list.reads.items ≡ [] → IsLengthened before after
 lengthened before after slot list past lists numbers writes reads = record { left = left; rest = rest }
   where
-    same_slot : (p : Place) (line : ℕ) → slot_of (length after.numbers.items) p line ≡ slot_of (length before.numbers.items) p line
-    same_slot p line = ap (λ (ns : List ℕ). slot_of (length ns) p line) numbers ∙ ap (λ n. slot_of n p line) (length-set before.numbers.items slot (length before.lists.items))
+    same_slot : (p : Place) (line : ℕ) → slot_of (length after.numbers) p line ≡ slot_of (length before.numbers) p line
+    same_slot p line = ap (λ (ns : List ℕ). slot_of (length ns) p line) numbers ∙ ap (λ n. slot_of n p line) (length-set before.numbers slot (length before.lists.items))
 
-    same_list : (p : Place) (line : ℕ) → (slot_of (length before.numbers.items) p line ≡ slot → ⊥) → list_of after p line ≡ list_of before p line
+    same_list : (p : Place) (line : ℕ) → (slot_of (length before.numbers) p line ≡ slot → ⊥) → list_of after p line ≡ list_of before p line
     same_list p line ne =
-        ap (slice_index after.numbers.items) (same_slot p line)
-        ∙ ap (λ ns. slice_index ns (slot_of (length before.numbers.items) p line)) numbers
-        ∙ get_or-set_other before.numbers.items slot (slot_of (length before.numbers.items) p line) (length before.lists.items) 0 ne
+        ap (slice_index after.numbers) (same_slot p line)
+        ∙ ap (λ ns. slice_index ns (slot_of (length before.numbers) p line)) numbers
+        ∙ get_or-set_other before.numbers slot (slot_of (length before.numbers) p line) (length before.lists.items) 0 ne
 
     left : (p : Place) (line : ℕ) (l : Line) → slice_get before.lists.items (list_of before p line) ≡ Some l → slice_get after.lists.items (list_of after p line) ≡ Some l
-    left p line l got = go (cases_eq (slot_of (length before.numbers.items) p line) slot)
+    left p line l got = go (cases_eq (slot_of (length before.numbers) p line) slot)
       where
-        go : (slot_of (length before.numbers.items) p line ≡ slot) ⊎ (slot_of (length before.numbers.items) p line ≡ slot → ⊥) → slice_get after.lists.items (list_of after p line) ≡ Some l
+        go : (slot_of (length before.numbers) p line ≡ slot) ⊎ (slot_of (length before.numbers) p line ≡ slot → ⊥) → slice_get after.lists.items (list_of after p line) ≡ Some l
         go (inl here) =
-            absurd (let inside : list_of before p line < length before.lists.items = slice_get_within before.lists.items (list_of before p line) l got in let same : list_of before p line ≡ slice_index before.numbers.items slot = ap (slice_index before.numbers.items) here in omega (arith, past))
+            absurd (let inside : list_of before p line < length before.lists.items = slice_get_within before.lists.items (list_of before p line) l got in let same : list_of before p line ≡ slice_index before.numbers slot = ap (slice_index before.numbers) here in omega (arith, past))
         go (inr ne) = ap (slice_get after.lists.items) (same_list p line ne) ∙ ap (λ ls. slice_get ls (list_of before p line)) lists ∙ get_left before.lists.items (list ∷ []) (list_of before p line) l got
 
     rest : (k : ℕ) (l : Line) → slice_get after.lists.items k ≡ Some l → (slice_get before.lists.items k ≡ Some l) ⊎ ((l.writes.items ≡ []) × (l.reads.items ≡ []))
@@ -73,12 +73,12 @@ lengthened before after slot list past lists numbers writes reads = record { lef
     ]
 
 -- where its list stands then
-pub listed : (before after : Shadow) (slot : ℕ) (p : Place) (line : ℕ) → slot ≡ slot_of (length before.numbers.items) p line → slot < length before.numbers.items → after.numbers.items ≡ set before.numbers.items slot (length before.lists.items)
+pub listed : (before after : Shadow) (slot : ℕ) (p : Place) (line : ℕ) → slot ≡ slot_of (length before.numbers) p line → slot < length before.numbers → after.numbers ≡ set before.numbers slot (length before.lists.items)
     → length before.lists.items ≡ list_of after p line
 listed before after slot p line is inside numbers =
-    let long = ap length numbers ∙ length-set before.numbers.items slot (length before.lists.items) in
-    let here : slot_of (length after.numbers.items) p line ≡ slot = ap (λ n. slot_of n p line) long ∙ sym is in
-    sym (ap (slice_index after.numbers.items) here ∙ ap (λ ns. slice_index ns slot) numbers ∙ get_or-set_same before.numbers.items slot (length before.lists.items) 0 inside)
+    let long = ap length numbers ∙ length-set before.numbers slot (length before.lists.items) in
+    let here : slot_of (length after.numbers) p line ≡ slot = ap (λ n. slot_of n p line) long ∙ sym is in
+    sym (ap (slice_index after.numbers) here ∙ ap (λ ns. slice_index ns slot) numbers ∙ get_or-set_same before.numbers slot (length before.lists.items) 0 inside)
 
 -- a list that no step touched
 no_crowd : (crowds : List Crowd) (s : ℕ) (p : Place) (x : ℕ) → crowds ≡ [] → Has crowds s p x → ⊥

@@ -47,7 +47,7 @@ conflict_of a b p x v w t u (inl e) = inl (writes_into a b p x w (touch_writes a
 conflict_of a b p x v w t u (inr e) = inr (writes_into b a p x v (touch_writes b p x w u e) t)
 
 -- the list s has become `new`
-module _ (Before : ℕ → ℕ → Type 0) (trans : IsTransitive Before) (up : (i j : ℕ) → Before i j → i < j) (before after : Shadow) (s : ℕ) (old new : Line) (e : Entry) (writes : Bool) (line : ℕ) (inside : s < length before.lists.items) (numbers : after.numbers.items ≡ before.numbers.items)
+module _ (Before : ℕ → ℕ → Type 0) (trans : IsTransitive Before) (up : (i j : ℕ) → Before i j → i < j) (before after : Shadow) (s : ℕ) (old new : Line) (e : Entry) (writes : Bool) (line : ℕ) (inside : s < length before.lists.items) (numbers : after.numbers ≡ before.numbers)
     (lists : after.lists.items ≡ set before.lists.items s new) (at : slice_get before.lists.items s ≡ Some old) (is : s ≡ list_of before e.place line) where
   same_list : (p : Place) (l : ℕ) → list_of after p l ≡ list_of before p l
   same_list p l = ap (λ (ns : List ℕ). slice_index ns (slot_of (length ns) p l)) numbers

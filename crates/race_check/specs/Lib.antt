@@ -6,5 +6,6 @@ pub mod Safe
 pub mod Crowds
 pub mod Lines
 pub mod Slots
+pub mod Numbers
 pub mod Shows
 pub mod Searches

@@ -15,7 +15,7 @@ use Rattle.race_check.specs.Lines.{InLine}
 
 -- the number of the list that has what is kept of a line of a place
 abbrev pub list_of : Shadow → Place → ℕ → ℕ
-list_of shadow p line = slice_index shadow.numbers.items (slot_of (length shadow.numbers.items) p line)
+list_of shadow p line = slice_index shadow.numbers (slot_of (length shadow.numbers) p line)
 
 -- how a step touches a byte: it writes it, or at least reads it
 pub data Touch (a : Access) (p : Place) (x : ℕ) : Bool → Type 0 where

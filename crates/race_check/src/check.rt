@@ -31,7 +31,7 @@ fn search_again(search: &mut Search, m: &Machine) -> Result<Verdict, RaceError>
         let Some(effect) = search.machine().effect(*step) else {
             unreachable!()
         };
-        let verdict = search.advance(*step, effect)?;
+        let verdict = search.advance(*step, &effect)?;
         if let Verdict::Race { .. } = verdict {
             return Ok(verdict);
         }

@@ -12,6 +12,7 @@ mod entry;
 mod error;
 mod later;
 mod line;
+mod numbers;
 mod search;
 mod shadow;
 mod stack;

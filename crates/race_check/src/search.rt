@@ -85,9 +85,9 @@ impl Search {
 
     /// Makes the next step, of which the machine tells this effect, and answers the latest step that races with it, None exactly where
     /// none does. Want of memory is the only refusal: then the run is the old one, or already that with the step.
-    pub fn go_on(&mut self, step: Step, effect: Effect) -> Result<Option<u32>, RaceError>
+    pub fn go_on(&mut self, step: Step, effect: &Effect) -> Result<Option<u32>, RaceError>
         requires keeps { Keeps self.old }
-        requires effect { effect_in (run_of self.old) step ≡ Some effect }
+        requires effect { effect_in (run_of self.old) step ≡ Some effect.now }
         ensures run { IfOk result (λ _. run_of self.new ≡ record (run_of self.old) { steps = (run_of self.old).steps ++ step ∷ [] }) }
         ensures latest { IfOk result (TellsLatest (RaceIn (run_of self.new)) (length (run_of self.old).steps)) }
         ensures keeps { IfOk result (λ _. Keeps self.new) }
@@ -96,7 +96,7 @@ impl Search {
     {
         let last = self.accesses.len() as u32;
         // kept before the other calls, and read where it is kept: so it is copied once
-        let access = access_of(&effect);
+        let access = access_of(effect);
         self.accesses.push(access)?;
         self.walk.advance(step, effect)?;
         let kept = &self.accesses[last as usize];
@@ -117,9 +117,9 @@ impl Search {
     /// Makes the next step of a run without a race, of which the machine tells this effect, and answers the verdict on the run with it.
     /// Only after `Accepted` can it be called again, `go_on` always. Want of memory is the only refusal: then the run is the old one, or
     /// already that with the step.
-    pub fn advance(&mut self, step: Step, effect: Effect) -> Result<Verdict, RaceError>
+    pub fn advance(&mut self, step: Step, effect: &Effect) -> Result<Verdict, RaceError>
         requires clear { IsClear self.old }
-        requires effect { effect_in (run_of self.old) step ≡ Some effect }
+        requires effect { effect_in (run_of self.old) step ≡ Some effect.now }
         ensures run { IfOk result (λ _. run_of self.new ≡ record (run_of self.old) { steps = (run_of self.old).steps ++ step ∷ [] }) }
         ensures verdict { IfOk result (IsVerdict (run_of self.new)) }
         ensures clear { IfOk result (λ v. v ≡ Verdict.Accepted → IsClear self.new) }

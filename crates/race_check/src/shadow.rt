@@ -11,12 +11,10 @@ use crate::entry::Entry;
 use crate::error::RaceError;
 use crate::later::later;
 use crate::line::Line;
+use crate::numbers::Numbers;
 use cell_machine::{Place, Span};
 use run_walk::Walk;
 use std::alloc::Global;
-
-/// The number that no list has.
-const NONE: usize = usize::MAX;
 
 /// The most slots that a shadow has, however large main memory is: lines share one then.
 const SLOTS: u64 = 65536;
@@ -97,9 +95,9 @@ fn is_fetch(access: &Access) -> bool
 pub struct Shadow {
     alloc: Global,
     // the number of each slot's list
-    numbers: Vec<usize>,
+    numbers: Numbers,
     lists: Vec<Line>,
-    ghost some: { 0 < length numbers.items },
+    ghost some: { 0 < length numbers },
 }
 
 impl Shadow {
@@ -113,7 +111,7 @@ impl Shadow {
         ensures { IfOk result (λ shadow. shadow.lists.items ≡ []) }
     {
         let count = (2048 * u64::from(spes) + u64::from(memory) + 1).min(SLOTS);
-        let numbers = vec![in alloc; NONE; count as usize]?;
+        let numbers = Numbers::new(alloc, count as usize)?;
         Ok(Shadow {
             alloc,
             numbers,
@@ -129,13 +127,13 @@ impl Shadow {
         ensures lengthened { OnOk result (IsLengthened self.old self.new) }
     {
         let slot = slot(self.numbers.len(), place, line);
-        let number = self.numbers[slot];
+        let number = self.numbers.get(slot);
         if number < self.lists.len() {
             return Ok(number);
         }
         let number = self.lists.len();
         self.lists.push(Line::new(self.alloc))?;
-        self.numbers[slot] = number;
+        self.numbers.set(slot, number)?;
         Ok(number)
     }
 
@@ -216,7 +214,7 @@ impl Shadow {
             return false;
         }
         let slot = slot(self.numbers.len(), entry.place, line);
-        let number = self.numbers[slot];
+        let number = self.numbers.get(slot);
         if self.lists.len() <= number {
             return false;
         }

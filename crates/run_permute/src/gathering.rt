@@ -21,7 +21,7 @@ fn gather(m: &Machine, walk: &mut Walk, needs: &mut Needs) -> Result<(), AllocEr
         let Some(effect) = walk.machine().effect(*step) else {
             unreachable!()
         };
-        walk.advance(*step, effect)?;
+        walk.advance(*step, &effect)?;
         needs.follow(walk, place, *step)?;
     }
     Ok(())

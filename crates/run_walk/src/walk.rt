@@ -45,16 +45,16 @@ impl Walk {
     }
 
     /// Makes the next step, of which the machine tells this effect. Want of memory is the only refusal: then the run is as it was.
-    pub fn advance(&mut self, step: Step, effect: Effect) -> Result<(), AllocError>
+    pub fn advance(&mut self, step: Step, effect: &Effect) -> Result<(), AllocError>
         ghost m: { Ran }
         requires same { m ≡ walked self.old }
         requires stands { Stands self.old }
-        requires effect { effect_in m step ≡ Some effect }
+        requires effect { effect_in m step ≡ Some effect.now }
         ensures run { IfOk result (λ _. walked self.new ≡ record m { steps = m.steps ++ step ∷ [] }) }
         ensures stands { IfOk result (λ _. Stands self.new) }
         ensures failed { OnErr result (walked self.new ≡ m) }
     {
-        let Ok(_) = self.orderer.advance(step, effect) else {
+        let Ok(_) = self.orderer.advance(step, *effect) else {
             return Err(AllocError);
         };
         let Ok(_) = self.machine.step(step) else {

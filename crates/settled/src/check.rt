@@ -24,7 +24,7 @@ fn follow_again(m: &Machine, walk: &mut Walk, settling: &mut Settling) -> Result
             unreachable!()
         };
         let made = Made::of(walk.machine(), *step, effect);
-        walk.advance(*step, effect)?;
+        walk.advance(*step, &effect)?;
         settling.follow(walk, place, *step, &made)?;
         if !settling.is_settled_so_far() {
             return Ok(());

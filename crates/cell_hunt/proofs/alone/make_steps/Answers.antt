@@ -12,11 +12,11 @@ pub loop-place-preserved : goal.loop-place-preserved
 loop-place-preserved c =
     let m = c.loop-place.machine in
     let made = c.in-Ok.ensures.made.1 in
-    let longer : length c.step.new.self.steps ≡ length m.steps + 1 = ap (λ (r : Ran). length r.steps) made ∙ length_push m.steps c.in-Some.chosen.step in
+    let longer : length c.step.new.self.steps ≡ length m.steps + 1 = ap (λ (r : Ran). length r.steps) made ∙ length_push m.steps c.in-Some.step in
     record {
       setup = ap (λ (r : Ran). r.setup) made ∙ c.loop-place.invariant.setup;
       made = omega (arith, longer, c.loop-place.invariant.made);
-      chosen = continues-more _ _ c.loop-place.chooser c.next.new.self m c.step.new.self c.in-Some.chosen.step c.in-Some.ensures.chosen made c.loop-place.invariant.chosen;
+      chosen = continues-more _ _ c.loop-place.chooser c.next.new.self m c.step.new.self c.in-Some.step c.in-Some.ensures.chosen made c.loop-place.invariant.chosen;
     }
 
 pub returns-clause-goes : goal.returns-clause-goes

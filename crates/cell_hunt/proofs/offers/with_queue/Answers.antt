@@ -1,28 +1,17 @@
-use Rattle.std.proofs.Common.{◌≡◌, ◌+◌, ◌++◌, ◌∙◌, ap, arith, subst, sym}
-use Rattle.cell_machine.specs.Choices.{queued_of}
+use Rattle.std.proofs.Common.{◌≡◌, ◌++◌, arith, subst}
 use Rattle.cell_hunt.specs.Bests.{IsBestOf}
 use Rattle.cell_hunt.specs.Choices.{key_of}
 use Rattle.cell_hunt.specs.Offers.{offered_by_queue, queue_length}
-use Rattle.cell_hunt.proofs.Bests.{length-is, queue-init, queue-none, queue-some}
+use Rattle.cell_hunt.proofs.Bests.{length-is, queue-init, queue-next}
 use Rattle.cell_hunt.proofs.offers.with_queue.Goals as goal
-use Rattle.cell_hunt.proofs.offers.with_queue.Goals.{in-Some, in_default}
 
 pub loop-index-init : goal.loop-index-init
 loop-index-init c = λ steps so_far. queue-init (key_of c.args.machine.now c.args.strategy c.args.keys.now) c.args.machine.now c.args.word c.args.spe steps c.args.best so_far
 
 pub loop-index-preserved : goal.loop-index-preserved
 loop-index-preserved c = λ steps so_far.
-    let m = c.args.machine.now in
-    let key = key_of m c.args.strategy c.args.keys.now in
-    let word = c.pick_queued.ensures.picked ∙ ap (queued_of m c.args.spe c.loop-index.index) c.from.ensures in
-    let before : IsBestOf key (steps ++ offered_by_queue m c.args.word c.args.spe c.loop-index.index) c.loop-index.best = c.loop-index.invariant steps so_far in
-    elim c.match-pick_queued.branch [
-      | in-Some w ↦ subst (IsBestOf key (steps ++ offered_by_queue m c.args.word c.args.spe (c.loop-index.index + 1))) (sym w.best-is)
-          (queue-some key m c.args.word c.args.spe c.loop-index.index steps w.in-Some.step w.with_step-best.result (sym word ∙ w.in-Some.is)
-          (w.with_step-best.ensures (steps ++ offered_by_queue m c.args.word c.args.spe c.loop-index.index) before))
-      | in_default w ↦ subst (IsBestOf key (steps ++ offered_by_queue m c.args.word c.args.spe (c.loop-index.index + 1))) (sym w.best-is)
-          (queue-none key m c.args.word c.args.spe c.loop-index.index steps c.loop-index.best (sym word ∙ w.in_default.is) before)
-    ]
+    queue-next (key_of c.args.machine.now c.args.strategy c.args.keys.now) c.args.machine.now c.args.word c.args.spe c.loop-index.index steps c.with_command-best.result
+    (c.with_command-best.ensures (steps ++ offered_by_queue c.args.machine.now c.args.word c.args.spe c.loop-index.index) (c.loop-index.invariant steps so_far))
 
 pub returns : goal.returns
 returns c = λ steps so_far.

@@ -7,7 +7,6 @@ use Rattle.cell_machine.specs.Exec.{exec}
 use Rattle.cell_machine.specs.Memory.{lines_of}
 use Rattle.cell_machine.specs.Effects.{effect_of, exec_effect}
 use Rattle.cell_machine.proofs.Steps.{lines-is}
-use Rattle.cell_machine.proofs.Controllers.{issue-of}
 use Rattle.cell_machine.proofs.StepEffects.{effect-at}
 use Rattle.cell_machine.proofs.effects.allowed_effect.Goals as goal
 

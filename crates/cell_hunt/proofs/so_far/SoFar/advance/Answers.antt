@@ -28,7 +28,7 @@ touched c =
     let has = c.requires.searched.touched in
     record {
       long = c.in_ok-add-2.ensures.long ∙ has.long ∙ ap (λ (r : Ran). touchable r.setup.lines) (sym made);
-      are = subst (λ all. AreDigests all c.add-2.new.self.digests) (sym (ap touches_in made ∙ touches_more m c.args.step c.args.effect was effect)) (c.in_ok-add-2.ensures.more (touches_in m) has.are);
+      are = subst (λ all. AreDigests all c.add-2.new.self.digests) (sym (ap touches_in made ∙ touches_more m c.args.step c.args.effect.now was effect)) (c.in_ok-add-2.ensures.more (touches_in m) has.are);
     }
 
 searched : (c : In_ok-latest) → IsSearchedTo c.args.place (after c)

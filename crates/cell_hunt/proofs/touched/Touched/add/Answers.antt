@@ -6,7 +6,7 @@ use Rattle.cell_hunt.proofs.touched.Touched.add.Goals as goal
 
 pub returns-clause-more : goal.returns-clause-more
 returns-clause-more c = λ all are.
-    (let e = c.args.effect in
+    (let e = c.args.effect.now in
     let read = c.line_touch.ensures ∙ ap (λ who. line_touch who e.reads) c.actor_number-who.ensures in
     let wrote = c.line_touch-2.ensures ∙ ap (λ who. line_touch who e.writes) c.actor_number-who.ensures in
     let value = c.value_touch.ensures ∙ ap (λ who. value_touch who e.note) c.actor_number-who.ensures in

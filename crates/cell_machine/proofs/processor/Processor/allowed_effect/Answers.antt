@@ -1,18 +1,12 @@
-use Rattle.std.proofs.Common.{sym, ◌∙◌, ap}
+use Rattle.std.proofs.Common.{sym, ◌∙◌, ap, None, Some}
 use Rattle.spu_decode.specs.Spelling.{instr_of}
-use Rattle.cell_machine.specs.Effects.{quad_in}
-use Rattle.cell_machine.proofs.InstructionEffects.{bad_word-effect, instruction-effect}
+use Rattle.cell_machine.proofs.InstructionEffects.{instr_is}
 use Rattle.cell_machine.proofs.processor.Processor.allowed_effect.Goals as goal
 
-pub returns-in_default : goal.returns-in_default
-returns-in_default c = λ P shows allowed.
-    bad_word-effect c.args.lines c.args.spe c.args.self.now P _ _ _ _ shows allowed
-    (ap instr_of (sym c.word.ensures) ∙ sym c.decode.ensures.means ∙ c.in_default.is) c.in_store-fetch.ensures c.nowhere.ensures c.nowhere-in_default.ensures (c.fixes.ensures P shows)
+pub returns-in-Some : goal.returns-in-Some
+returns-in-Some c = λ P shows allowed.
+    c.effect_by.ensures P shows allowed (instr_is c.args.self.now P (Some c.in-Some.instruction) shows (ap instr_of (sym c.word.ensures) ∙ sym c.decode.ensures.means ∙ c.in-Some.is))
 
-pub returns : goal.returns
-returns c = λ P shows allowed.
-    instruction-effect c.args.lines c.args.spe c.args.self.now P c.in-Some.instruction c.leads_to-flow.result _ _ _ _ _ shows allowed
-    (ap instr_of (sym c.word.ensures) ∙ sym c.decode.ensures.means ∙ c.in-Some.is) c.leads_to-flow.ensures.flow c.in_store-fetch.ensures
-    (c.quad_in.ensures ∙ ap (quad_in c.args.spe) c.loads_at.ensures) (c.quad_in-2.ensures ∙ ap (quad_in c.args.spe) c.stores_at.ensures)
-    (λ Q registers store runs made. c.tells.ensures P Q registers store shows runs made)
-    (λ Q registers store made. c.fixes_by.ensures P Q registers store shows made)
+pub returns-in-None : goal.returns-in-None
+returns-in-None c = λ P shows allowed.
+    c.bad_word_effect.ensures c.args.lines P shows allowed (instr_is c.args.self.now P None shows (ap instr_of (sym c.word.ensures) ∙ sym c.decode.ensures.means ∙ c.in-None.is))

@@ -12,7 +12,7 @@ use Rattle.race_check.proofs.search.Search.advance.Goals as goal
 pub overflow_cast-last : goal.overflow_cast-last
 overflow_cast-last c =
     let many : c.len-last.result ≡ length c.args.self.now.accesses.items = search rules in
-    let few : c.len-last.result < 2 ^ 32 = subst (λ n. n < 2 ^ 32) (sym many) (counted-few c.args.self.now c.args.step c.args.effect c.requires.clear.keeps c.requires.effect) in
+    let few : c.len-last.result < 2 ^ 32 = subst (λ n. n < 2 ^ 32) (sym many) (counted-few c.args.self.now c.args.step c.args.effect.now c.requires.clear.keeps c.requires.effect) in
     search rules
 
 pub first_race-requires-clause-last : goal.first_race-requires-clause-last

@@ -16,7 +16,7 @@ after c = record { walk = c.advance.new.self; shadow = c.visit.new.self; accesse
 
 more : (c : In_ok-latest) → accesses_in (run_of (after c)) ≡ accesses_in (run_of c.args.self.now) ++ c.access_of-access.result ∷ []
 more c =
-    ap accesses_in c.in_ok-advance.ensures.run ∙ accesses-next (run_of c.args.self.now) c.args.step c.args.effect (search-told c.args.self.now c.requires.keeps) c.requires.effect ∙ ap (λ a. accesses_in (run_of c.args.self.now) ++ a ∷ []) (sym c.access_of-access.ensures)
+    ap accesses_in c.in_ok-advance.ensures.run ∙ accesses-next (run_of c.args.self.now) c.args.step c.args.effect.now (search-told c.args.self.now c.requires.keeps) c.requires.effect ∙ ap (λ a. accesses_in (run_of c.args.self.now) ++ a ∷ []) (sym c.access_of-access.ensures)
 
 advanced : (c : In_ok-latest) → Advanced c.args.self.now (after c) c.args.step c.access_of-access.result
 advanced c = record { keeps = c.requires.keeps; made = c.in_ok-advance.ensures.run; stands = c.in_ok-advance.ensures.stands; more = more c; put = c.in_ok-push.ensures.items }
@@ -44,7 +44,7 @@ takes c =
 pub overflow_cast-last : goal.overflow_cast-last
 overflow_cast-last c =
     let many : c.len-last.result ≡ length c.args.self.now.accesses.items = search rules in
-    let few : c.len-last.result < 2 ^ 32 = subst (λ n. n < 2 ^ 32) (sym many) (counted-few c.args.self.now c.args.step c.args.effect c.requires.keeps c.requires.effect) in
+    let few : c.len-last.result < 2 ^ 32 = subst (λ n. n < 2 ^ 32) (sym many) (counted-few c.args.self.now c.args.step c.args.effect.now c.requires.keeps c.requires.effect) in
     search rules
 
 pub visit-requires : goal.visit-requires

@@ -1,6 +1,5 @@
 use Rattle.std.proofs.Common.{rules, ◌≡◌, ◌<◌, ◌≤◌, ◌+◌, ◌*◌, ◌/◌, false, None, Some, length, refl, sym, ap, ◌∙◌}
 use Rattle.std.specs.Prelude.{slice_index}
-use Rattle.std.proofs.lemmas.List.{get_or_default}
 use Rattle.std.proofs.lemmas.Option.{slice_get-get_or}
 use Rattle.race_check.specs.Walks.{IsOrdered}
 use Rattle.race_check.specs.Shows.{list_of}
@@ -17,13 +16,12 @@ returns-clause-taken c = λ t.
     let span = c.args.span.now in
     let entry = c.whole-entry.result in
     let line = span.at / 128 in
-    let number = c.index-number.result.now in
+    let number = c.get-number.result in
     let inside : number < length shadow.lists.items = search rules in
-    let numbers = shadow.numbers.items in
+    let numbers = shadow.numbers in
     let slot = c.slot-slot.result in
-    let low : slot < length numbers = search rules in
     let here : slot ≡ slot_of (length numbers) entry.place line = search rules in
-    let is : number ≡ list_of shadow entry.place line = c.index-number.ensures ∙ get_or_default numbers slot number 0 low ∙ ap (slice_index numbers) here in
+    let is : number ≡ list_of shadow entry.place line = c.get-number.ensures ∙ ap (slice_index numbers) here in
     let end : span.at + span.len ≤ 128 * line + 128 = search rules in
     let at = slice_get-get_or shadow.lists.items number c.index_mut.result.now inside ∙ ap Some (sym c.index_mut.ensures.value) in
     takes_one (IsOrdered m) shadow _ span c.args.step false line entry c.whole-entry.ensures.step c.whole-entry.ensures.holds c.whole-entry.ensures.only refl end None

@@ -16,8 +16,8 @@ advance-requires g c = (
 
 pub unreachable-requires : goal.unreachable-requires
 unreachable-requires g c =
-    let effect : effect_in c.args.self.now.machine c.args.step ≡ Some c.args.effect = ap (λ m. effect_in m c.args.step) (sym c.requires.0) ∙ c.requires.1.1 in
-    let allowed = (effect-allowed c.args.self.now.machine c.args.step (Some c.args.effect) (sym effect)).0 refl in
+    let effect : effect_in c.args.self.now.machine c.args.step ≡ Some c.args.effect.now = ap (λ m. effect_in m c.args.step) (sym c.requires.0) ∙ c.requires.1.1 in
+    let allowed = (effect-allowed c.args.self.now.machine c.args.step (Some c.args.effect.now) (sym effect)).0 refl in
     true≢false (sym (subst IsOk c.in_default-step.is (c.step.ensures.allowed.1 allowed)))
 
 pub returns-clause-stands : goal.returns-clause-stands
