@@ -9,7 +9,7 @@ NUMBER = re.compile(r"0|[1-9][0-9]*", re.A)
 SEED = 0, 2**64 - 1
 RUNS = 1, 1_000_000
 RUN = 0, MOST_NUMBER
-OPTIONS: Dict[str, Tuple[int, int]] = {"--runs": RUNS, "--seed": SEED, "--from": RUN, "--jobs": (1, 256)}
+OPTIONS: Dict[str, Tuple[int, int]] = {"--runs": RUNS, "--time": RUNS, "--seed": SEED, "--from": RUN, "--jobs": (1, 256)}
 PLACES = {"each": ("RUNS", "SEED"), "record": ("K", "SEED")}
 RANGES = {"RUNS": RUNS, "SEED": SEED, "K": RUN}
 CELL_HELP, HUNT_HELP = "./cell --help lists the forms", "./hunt --help lists the forms and their options"
@@ -37,6 +37,8 @@ def misused_hunt(words: Sequence[str]) -> str:
     """Returns what is wrong with words that are no form of ./hunt."""
     places, options = hunt_words(words)
     for option, value in options:
+        if option == "--time":
+            value = value.removesuffix("s")
         if option in OPTIONS and (why := why_number(f"the value of {option}", value, *OPTIONS[option])):
             return why
     form = places[1] if len(places) > 1 else ""
