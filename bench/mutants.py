@@ -5,8 +5,9 @@ Usage: bench/mutants.py [--runs N] [--seed S] PROGRAM..
 
 The mutants are the rows of tests/deletions.table in which some of 200 runs, but not all, have a data race, a deadlock, a fault or a halt. This clone's hunt and
 each PROGRAM, such as the bin/hunt of an older commit, hunt each of them. A line for each mutant has how many of N runs (1,000) have what most runs have of these
-four. The last lines have for each PROGRAM the geometric mean of the runs that it needs for a find, divided by those that this clone's hunt needs: of all mutants,
-and of those that at most half of its runs find. A spent budget is no find, since a fair schedule might have ended the run.
+four. The last lines have for each PROGRAM the geometric mean of the runs that it needs for a find, divided by those that this clone's hunt needs: of the mutants
+that a run of one of the two misses, and of those that at most half of the runs of PROGRAM find. A mutant that every run of both finds can't be found sooner. A
+spent budget is no find, since a fair schedule might have ended the run.
 """
 import celltools.common.starting  # noqa: F401  (before all others)
 
@@ -68,7 +69,8 @@ def mean(ratios: Sequence[float]) -> str:
 
 def print_means(results: Sequence[Found], hunts: Sequence[pathlib.Path], runs: int) -> None:
     for place, hunt in enumerate(hunts[1:], 1):
-        pairs = [(finds[place], max(finds[0], NOTHING) / max(finds[place], NOTHING)) for _, finds in results]
+        missed = [finds for _, finds in results if min(finds[0], finds[place]) < runs]
+        pairs = [(finds[place], max(finds[0], NOTHING) / max(finds[place], NOTHING)) for finds in missed]
         rare = [ratio for finds, ratio in pairs if finds <= runs / 2]
         print(f"{hunt}: {mean([ratio for _, ratio in pairs])} times the runs a find; {mean(rare)} where at most half of its runs find the bug")
 
