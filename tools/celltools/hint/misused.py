@@ -37,7 +37,7 @@ def misused_hunt(words: Sequence[str]) -> str:
     """Returns what is wrong with words that are no form of ./hunt."""
     places, options = hunt_words(words)
     for option, value in options:
-        if option == "--time":
+        if option == "--time" and NUMBER.fullmatch(value.removesuffix("s")):
             value = value.removesuffix("s")
         if option in OPTIONS and (why := why_number(f"the value of {option}", value, *OPTIONS[option])):
             return why
