@@ -27,6 +27,11 @@ pub next_of-within : (m : Ran) (M : State) (s : Step) → state_of m ≡ Some M 
 next_of-within m M s stands within =
     let e : nat_lt (length m.steps) m.setup.budget ≡ true = grind (arith, nat_tests) in rw (e, stands) refl
 
+pub made-allowed : (m : Ran) (M : State) (s t : Step) (Q : State → Type 0) → state_of m ≡ Some M → length m.steps < m.setup.budget → t ≡ s → IsSomeAnd (act M s) Q → IsSome (next_of m t)
+made-allowed m M s t Q stands within same made =
+    let here = some_and (act M s) Q made in
+    ap is_some (next_of-within m M t stands within ∙ ap (next M) same ∙ ap (option_map (ended_by M s)) here.1)
+
 pub any-allowed : (o : Option Step) (m : Ran) (M : State) → state_of m ≡ Some M → length m.steps < m.setup.budget → o ≡ first_allowed M → IfSome o (λ s. IsSome (next_of m s))
 any-allowed None m M stands within first = tt
 any-allowed (Some s) m M stands within first = ap is_some (next_of-within m M s stands within) ∙ first_allowed-allowed M s (sym first)

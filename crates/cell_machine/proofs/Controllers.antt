@@ -19,10 +19,10 @@ use Rattle.lock_lines.specs.Versions.{Reserved}
 use Rattle.cell_machine.specs.Memory.{MainMemory}
 use Rattle.cell_machine.specs.declared.memory.SharedMemory.{SharedMemory}
 use Rattle.cell_machine.specs.declared.processor.Processor.{Processor}
-use Rattle.cell_machine.specs.declared.signals.Reach.{Reach}
+use Rattle.cell_machine.specs.declared.signals.RemoteChange.{RemoteChange}
 use Rattle.cell_machine.specs.Kept.{IsKept}
 use Rattle.cell_machine.specs.MovesShown.{reading}
-use Rattle.cell_machine.specs.Shows.{IsBounded, CanStep, CanGo, CanIssue, ShowsSpe, ShowsMemory, IsSignal, Makes, Reaches}
+use Rattle.cell_machine.specs.Shows.{IsBounded, CanStep, CanGo, CanIssue, ShowsSpe, ShowsMemory, IsSignal, Makes, IsRemoteChange}
 use Rattle.cell_machine.proofs.Same.{some_same}
 use Rattle.cell_machine.proofs.SpeShown.{first_of_both, second_of_both, not_of, get-either, begins-at, begins-none, part-facts, present-plain}
 use Rattle.cell_machine.proofs.MovesShown.{present-list}
@@ -202,13 +202,13 @@ pub told-moves : (P : Spe) (m : Moves) (c : ℕ) (d : Command) (stalls : Bool) �
 told-moves P m c d stalls is = rw is refl
 
 -- what a piece that is moved, marked and told leaves
-pub piece-made : (new : Processor) (P : Spe) (memory : SharedMemory) (m : MainMemory) (reserved : List (Option Reserved)) (store store2 : List ℕ) (c e k : ℕ) (stalls : Bool) (d : Command) (x : Element) (r : Reach) → may_piece P c e k ≡ true → slice_get P.moves.issued c ≡ Some d → present P.moves.read c d ≡ Some x
+pub piece-made : (new : Processor) (P : Spe) (memory : SharedMemory) (m : MainMemory) (reserved : List (Option Reserved)) (store store2 : List ℕ) (c e k : ℕ) (stalls : Bool) (d : Command) (x : Element) (r : RemoteChange) → may_piece P c e k ≡ true → slice_get P.moves.issued c ≡ Some d → present P.moves.read c d ≡ Some x
     → x.number ≡ e → P.store ≡ store → stalls ≡ is_stalled (with_done P.moves c e k) c d
     → ((Q : Spe) → Q.store ≡ store → (moved m Q d.kind (part_in x k)).spe ≡ record Q { store = store2 })
     → ((Q : Spe) → Q.store ≡ store → ShowsMemory memory (moved m Q d.kind (part_in x k)).memory reserved)
-    → ((Q : Spe) → Q.store ≡ store → Reaches r m reserved (moved m Q d.kind (part_in x k)))
+    → ((Q : Spe) → Q.store ≡ store → IsRemoteChange r m reserved (moved m Q d.kind (part_in x k)))
     → ShowsSpe new (if stalls then told (record P { store = store2; moves = with_done P.moves c e k }) d.tag else record P { store = store2; moves = with_done P.moves c e k })
-    → Makes (Some r) (piece m P c e k) (λ z y. ShowsSpe new y.spe × ShowsMemory memory y.memory reserved × Reaches z m reserved y)
+    → Makes (Some r) (piece m P c e k) (λ z y. ShowsSpe new y.spe × ShowsMemory memory y.memory reserved × IsRemoteChange z m reserved y)
 piece-made new P memory m reserved store store2 c e k stalls d x r may at p number same stalled stores copies reaches shows =
     let Q : Spe = after_part P c e k d in
     let was : Q.store ≡ store = notified-store P (with_done P.moves c e k) c d ∙ same in

@@ -14,7 +14,7 @@ use Rattle.cell_signals.specs.Registers.{register_of}
 use Rattle.cell_machine.specs.declared.memory.SharedMemory.{SharedMemory}
 use Rattle.cell_machine.specs.declared.processor.Processor.{Processor}
 use Rattle.cell_machine.specs.declared.signals.Delivery.{Delivery}
-use Rattle.cell_machine.specs.declared.signals.Reach.{Reach}
+use Rattle.cell_machine.specs.declared.signals.RemoteChange.{RemoteChange}
 use Rattle.cell_machine.specs.Spe.{Spe}
 use Rattle.cell_machine.specs.State.{State}
 use Rattle.cell_machine.specs.Memory.{MainMemory, lines_of}
@@ -25,7 +25,7 @@ use Rattle.cell_machine.specs.Transfers.{Left, piece}
 use Rattle.cell_machine.specs.Atomic.{atomic}
 use Rattle.cell_machine.specs.Raised.{events, bits_of, with_raised, raised_at, is_atomic_of}
 use Rattle.cell_machine.specs.Next.{act_in, own, left, with_left, with_events, closed_in}
-use Rattle.cell_machine.specs.Shows.{Shows, ShowsSpe, ShowsMemory, reservations, AllTwo, AreSettled, IsStill, event_of, informed, informed_by, IsDelivery, lost_by, is_held, is_lost, Loses, LosesOthers, Reaches, Makes}
+use Rattle.cell_machine.specs.Shows.{Shows, ShowsSpe, ShowsMemory, reservations, AllTwo, AreSettled, IsStill, event_of, informed, informed_by, IsDelivery, lost_by, is_held, is_lost, Loses, LosesOthers, IsRemoteChange, Makes}
 use Rattle.cell_machine.specs.OwnEvents.{own_bits, with_own, with_freed, with_fixed, with_flow}
 use Rattle.cell_base.proofs.BitLaws.{bit-none}
 use Rattle.cell_machine.proofs.AllTwo.{two_at, two_set, two_length, some_map, some-made}
@@ -326,21 +326,21 @@ alone-ends {memory = memory} {host = host} processors new M s p P Q shows all fe
     (sym (lost_none 0 coded) ∙ sent-ends M s p P x 0 all at count plain_step reserved (inr refl) tt (record { each = λ q o low got. bit-none q ∙ sym (gone (is_held M.memory o)) }))
 
 -- a piece, of which r is what it does to other processors
-pub piece-ends : {memory : SharedMemory} {host : Progress} (memory2 : SharedMemory) (processors final : List Processor) (new : Processor) (M : State) (s : Step) (p : ℕ) (P : Spe) (x : Left) (r : Reach) → Shows processors memory host M → AreSettled M.spes
+pub piece-ends : {memory : SharedMemory} {host : Progress} (memory2 : SharedMemory) (processors final : List Processor) (new : Processor) (M : State) (s : Step) (p : ℕ) (P : Spe) (x : Left) (r : RemoteChange) → Shows processors memory host M → AreSettled M.spes
     → length processors ≤ 16 → slice_get M.spes p ≡ Some P → ((q : ℕ) → is_atomic_of q s ≡ false) → IsSame P x.spe → ShowsSpe new (settled (with_own P x.spe))
-    → ShowsMemory memory2 x.memory (reservations M.spes) → Reaches r M.memory (reservations M.spes) x → IsDelivery r.sent
+    → ShowsMemory memory2 x.memory (reservations M.spes) → IsRemoteChange r M.memory (reservations M.spes) x → IsDelivery r.sent
     → ((spes : List Spe) → AllTwo ShowsSpe (slice_set processors p new) spes → AllTwo ShowsSpe final (map (lost_by r.losers) (enumerate_from 0 (informed_by spes r.sent))))
     → Shows final memory2 host (closed_in M s (with_left M p x))
-piece-ends {host = host} memory2 processors final new M s p P x r shows all few at plain_step same one memory_is reach register spreads =
+piece-ends {host = host} memory2 processors final new M s p P x r shows all few at plain_step same one memory_is change register spreads =
     let base = slice_set M.spes p x.spe in
     let coded = slice_set M.spes p (settled (with_own P x.spe)) in
     let count : length M.spes ≤ 16 = let l = two_length ShowsSpe processors M.spes shows.spes in omega arith in
     let kept : reservations base ≡ reservations M.spes = map-set (λ (K : Spe). K.reserved) M.spes p x.spe ∙ ap (slice_set (reservations M.spes) p) same.reserved ∙ set-same (reservations M.spes) p P.reserved (reserved-at M.spes p P at) in
-    let told : map (lost_by r.losers) (enumerate_from 0 (informed_by coded x.sent)) ≡ map (lost_by r.losers) (enumerate_from 0 (informed_by coded r.sent)) = ap (λ o. map (lost_by r.losers) (enumerate_from 0 (informed_by coded o))) reach.sent in
+    let told : map (lost_by r.losers) (enumerate_from 0 (informed_by coded x.sent)) ≡ map (lost_by r.losers) (enumerate_from 0 (informed_by coded r.sent)) = ap (λ o. map (lost_by r.losers) (enumerate_from 0 (informed_by coded o))) change.sent in
     state-ends memory2 host final M s (with_left M p x) base (map (lost_by r.losers) (enumerate_from 0 (informed_by coded x.sent))) (left-alike M p x)
     (subst (ShowsMemory memory2 x.memory) (sym kept) memory_is) shows.host_is
     (subst (AllTwo ShowsSpe final) (sym told) (spreads coded (two_set ShowsSpe processors M.spes p new (settled (with_own P x.spe)) shows.spes one)))
-    (sent-ends M s p P x r.losers all at count plain_step same.reserved (inl same.signals) (subst IsDelivery (sym reach.sent) register) reach.losers)
+    (sent-ends M s p P x r.losers all at count plain_step same.reserved (inl same.signals) (subst IsDelivery (sym change.sent) register) change.losers)
 
 -- an atomic command
 pub atomic-ends : {memory : SharedMemory} {host : Progress} (memory2 : SharedMemory) (processors final : List Processor) (new : Processor) (M : State) (p : ℕ) (P : Spe) (x : Left) (losers : ℕ) → Shows processors memory host M → AreSettled M.spes
@@ -480,14 +480,14 @@ flow-acts {memory = memory} {host = host} s f processors d new M p made shows al
     (does P seen) (same P)))
 
 -- a piece
-pub piece-acts : {memory : SharedMemory} {host : Progress} (memory2 : SharedMemory) (processors final : List Processor) (d new : Processor) (M : State) (p c e k : ℕ) (r : Reach) → Shows processors memory host M → AreSettled M.spes → length processors ≤ 16 → p < length processors
+pub piece-acts : {memory : SharedMemory} {host : Progress} (memory2 : SharedMemory) (processors final : List Processor) (d new : Processor) (M : State) (p c e k : ℕ) (r : RemoteChange) → Shows processors memory host M → AreSettled M.spes → length processors ≤ 16 → p < length processors
     → IsDelivery r.sent
-    → ((P : Spe) → ShowsSpe (slice_index_or processors p d) P → Makes (Some r) (piece M.memory P c e k) (λ z x. ShowsSpe new (with_flow P x.spe) × ShowsMemory memory2 x.memory (reservations M.spes) × Reaches z M.memory (reservations M.spes) x))
+    → ((P : Spe) → ShowsSpe (slice_index_or processors p d) P → Makes (Some r) (piece M.memory P c e k) (λ z x. ShowsSpe new (with_flow P x.spe) × ShowsMemory memory2 x.memory (reservations M.spes) × IsRemoteChange z M.memory (reservations M.spes) x))
     → ((spes : List Spe) → AllTwo ShowsSpe (slice_set processors p new) spes → AllTwo ShowsSpe final (map (lost_by r.losers) (enumerate_from 0 (informed_by spes r.sent))))
     → IsSomeAnd (act_in M p (Piece p c e k)) (λ N. Shows final memory2 host (closed_in M (Piece p c e k) N))
 piece-acts {host = host} memory2 processors final d new M p c e k r shows all few h register does spreads =
     act-own (Piece p c e k) processors d M p true (λ N. Shows final memory2 host (closed_in M (Piece p c e k) N)) shows h (λ P at seen.
-    some-made (piece M.memory P c e k) r (λ z x. ShowsSpe new (with_flow P x.spe) × ShowsMemory memory2 x.memory (reservations M.spes) × Reaches z M.memory (reservations M.spes) x) (λ x. IsSame P x.spe)
+    some-made (piece M.memory P c e k) r (λ z x. ShowsSpe new (with_flow P x.spe) × ShowsMemory memory2 x.memory (reservations M.spes) × IsRemoteChange z M.memory (reservations M.spes) x) (λ x. IsSame P x.spe)
     (λ x. Shows final memory2 host (closed_in M (Piece p c e k) (with_left M p x)))
     (λ x a b. piece-ends memory2 processors final new M (Piece p c e k) p P x r shows all few at (λ q. refl) b (subst (ShowsSpe new) (calm-flow P x.spe (same-is_calm P x.spe b)) a.0) a.1 a.2 register spreads)
     (does P seen) (piece-same M.memory P c e k))

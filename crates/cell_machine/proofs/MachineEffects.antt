@@ -41,6 +41,9 @@ effect-told m M s r stands some is =
     let both = some-next (nat_lt (length m.steps) m.setup.budget) (state_of m) M s stands some in
     let e : nat_lt (length m.steps) m.setup.budget ≡ true = both.0 in rw (e, stands) (is both.1)
 
+pub effect-some : (m : Ran) (M : State) (s : Step) → state_of m ≡ Some M → IsSome (next_of m s) → IsSome (effect_of M s)
+effect-some m M s stands some = (some-next (nat_lt (length m.steps) m.setup.budget) (state_of m) M s stands some).1
+
 some-within : (b : Bool) (o : Option State) → is_some (cond b o None) ≡ true → b ≡ true
 some-within true o some = refl
 some-within false o some = absurd (cc)

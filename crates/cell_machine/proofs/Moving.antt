@@ -11,7 +11,7 @@ use Rattle.cell_machine.specs.Spe.{Spe}
 use Rattle.cell_machine.specs.Memory.{MainMemory}
 use Rattle.cell_machine.specs.Moves.{parts_in}
 use Rattle.cell_machine.specs.Transfers.{copied, sent, moved, delivery, is_put, is_signal, part_in}
-use Rattle.cell_machine.specs.Shows.{ShowsMemory, Loses, Reaches, IsSignal}
+use Rattle.cell_machine.specs.Shows.{ShowsMemory, Loses, IsRemoteChange, IsSignal}
 use Rattle.cell_machine.proofs.MemoryShown.{none-loses}
 use Rattle.cell_machine.proofs.Raising.{signal-first}
 
@@ -24,7 +24,7 @@ unfolding sent
 sent-memory new m reserved P kind x h shows = rw h shows
 
 pub sent-reaches : (m : MainMemory) (reserved : List (Option Reserved)) (P : Spe) (kind : Kind) (x : Element) (k : ℕ) (d : Delivery) → is_signal kind ≡ true → IsSignal x → k < parts_in x → d ≡ delivery P (part_in x 0)
-    → Reaches (record { sent = Some d; losers = 0 }) m reserved (moved m P kind (part_in x k))
+    → IsRemoteChange (record { sent = Some d; losers = 0 }) m reserved (moved m P kind (part_in x k))
 unfolding sent
 sent-reaches m reserved P kind x k d h is less does =
     let first : k ≡ 0 = signal-first x k is less in
@@ -42,5 +42,5 @@ copied_none m P true x = refl
 copied_none m P false x = refl
 
 pub copied-reaches : (losers : ℕ) (m : MainMemory) (reserved : List (Option Reserved)) (P : Spe) (kind : Kind) (x : Part) → is_signal kind ≡ false → Loses losers m reserved (copied m P (is_put kind) x).memory
-    → Reaches (record { sent = None; losers = losers }) m reserved (moved m P kind x)
+    → IsRemoteChange (record { sent = None; losers = losers }) m reserved (moved m P kind x)
 copied-reaches losers m reserved P kind x h loses = rw h (record { sent = copied_none m P (is_put kind) x; losers = loses })

@@ -1,4 +1,4 @@
--- What the next instruction of a processor uses, and what its effect says of that.
+-- The reach of a processor's next instruction, and its effect.
 use Rattle.std.proofs.Common.{◌≡◌, ℕ, ◌<◌, ◌≤◌, ap, refl, sym, subst, ◌∙◌, arith, List, length, true≢false}
 use Rattle.std.specs.Prelude.{Option, Some, None, Bool, true, false, not, ◌==◌, ◌&&◌, is_none, is_some, IsSomeAnd, nat_lt, slice_get}
 use Rattle.std.specs.Option.{option_map}
@@ -21,7 +21,8 @@ use Rattle.cell_machine.specs.Memory.{lines_of}
 use Rattle.cell_machine.specs.Exec.{asks, asked_by, exec, exec_instr, followed, op_of}
 use Rattle.cell_machine.specs.Effects.{effect_in, effect_of, exec_effect, fixes, in_store, instr, nowhere, quad_in, told}
 use Rattle.cell_machine.specs.Run.{Ran, spe_of, state_of}
-use Rattle.cell_machine.specs.Reaches.{goes_on, reach, reach_in, uses_no_bytes, FitsReach, HasReach, IsPlain}
+use Rattle.cell_machine.specs.Reaches.{reach, reach_in, reach_of, HasReach, IsPlain}
+use Rattle.cell_machine.specs.ReachLaws.{goes_on, uses_no_bytes, FitsReach}
 use Rattle.cell_machine.specs.Shows.{ShowsSpe}
 use Rattle.cell_machine.proofs.InstructionEffects.{instr_shown, instruction-effect}
 use Rattle.cell_machine.proofs.MachineEffects.{effect-allowed}
@@ -71,13 +72,32 @@ bytes-of spe None None b h = h
 bytes-of spe None (Some y) b h = h
 bytes-of spe (Some x) y b h = h
 
--- ---- the effect of one that uses registers alone, as the code comes to it
+-- ---- the effect of an instruction that goes on
 
 flow_is : (i : Instr) (pc : ℕ) (registers : List (List ℕ)) (store : List ℕ)
     → (meaning i pc registers store).flow ≡ flow_of i i.row pc (register registers i.ra) (register registers i.rb) (register registers i.rt)
 unfolding meaning
 flow_is i pc registers store = refl
 
+pub going-effect : (lines spe : ℕ) (c : Processor) (P : Spe) (i : Instr) (fetch reads writes : Span) (fixed : Bool) → ShowsSpe c P → is_some (exec lines P) ≡ true → instr P ≡ Some i
+    → ((pc : ℕ) (a b t : List ℕ) → goes_on (flow_of i i.row pc a b t) ≡ true)
+    → fetch ≡ in_store spe c.pc 4
+    → reads ≡ quad_in spe (loaded_at i.row i.imm c.pc (register c.registers i.ra) (register c.registers i.rb))
+    → writes ≡ quad_in spe (stored_at i.row i.imm c.pc (register c.registers i.ra) (register c.registers i.rb))
+    → fixed ≡ fixes P
+    → Some (record { fetch = fetch; reads = reads; writes = writes; note = Nothing; fixed = fixed }) ≡ option_map (exec_effect spe P) (exec lines P)
+going-effect lines spe c P i fetch reads writes fixed shows may some goes fetch_is reads_is writes_is fixed_is =
+    let a = register c.registers i.ra in
+    let b = register c.registers i.rb in
+    let t = register c.registers i.rt in
+    let flow = flow_of i i.row c.pc a b t in
+    let on = goes c.pc a b t in
+    instruction-effect lines spe c P i flow fetch reads writes Nothing fixed shows may (instr_shown c P (Some i) shows some)
+    (λ store. sym (flow_is i c.pc c.registers store)) fetch_is reads_is writes_is
+    (λ Q registers store runs made. goes-tells lines spe P Q (record P { registers = registers; store = store }) flow on refl made)
+    (λ Q registers store made. fixed_is ∙ goes-fixes lines P Q (record P { registers = registers; store = store }) flow on refl made)
+
+-- of one that uses registers alone
 pub registers-effect : (lines spe : ℕ) (c : Processor) (P : Spe) (i : Instr) (fetch reads writes : Span) (fixed : Bool) → ShowsSpe c P → is_some (exec lines P) ≡ true → instr P ≡ Some i
     → ((pc : ℕ) (a b t : List ℕ) → goes_on (flow_of i i.row pc a b t) ≡ true) → ((imm pc : ℕ) (a b : List ℕ) → uses_no_bytes i.row imm pc a b ≡ true)
     → fetch ≡ in_store spe c.pc 4 → reads ≡ nowhere → writes ≡ nowhere → fixed ≡ fixes P
@@ -85,14 +105,13 @@ pub registers-effect : (lines spe : ℕ) (c : Processor) (P : Spe) (i : Instr) (
 registers-effect lines spe c P i fetch reads writes fixed shows may some goes none fetch_is reads_is writes_is fixed_is =
     let a = register c.registers i.ra in
     let b = register c.registers i.rb in
-    let t = register c.registers i.rt in
-    let flow = flow_of i i.row c.pc a b t in
-    let on = goes c.pc a b t in
     let bytes = no-bytes spe (loaded_at i.row i.imm c.pc a b) (stored_at i.row i.imm c.pc a b) (none i.imm c.pc a b) in
-    instruction-effect lines spe c P i flow fetch reads writes Nothing fixed shows may (instr_shown c P (Some i) shows some)
-    (λ store. sym (flow_is i c.pc c.registers store)) fetch_is (reads_is ∙ bytes.0) (writes_is ∙ bytes.1)
-    (λ Q registers store runs made. goes-tells lines spe P Q (record P { registers = registers; store = store }) flow on refl made)
-    (λ Q registers store made. fixed_is ∙ goes-fixes lines P Q (record P { registers = registers; store = store }) flow on refl made)
+    going-effect lines spe c P i fetch reads writes fixed shows may some goes fetch_is (reads_is ∙ bytes.0) (writes_is ∙ bytes.1) fixed_is
+
+-- the instruction that has a reach other than Other
+pub instr-reached : (o : Option Instr) (r : Reach) → reach_of o ≡ r → (r ≡ Other → ⊥) → (i : Instr) × (o ≡ Some i)
+instr-reached None r is apart = absurd (apart (sym is))
+instr-reached (Some i) r is apart = (i, refl)
 
 -- ---- a reach that isn't Other
 
@@ -170,7 +189,7 @@ plain m M p P bytes stands at within is =
 pub registers≢other : Registers ≡ Other → ⊥
 registers≢other e = cc
 
-store≢other : Store ≡ Other → ⊥
+pub store≢other : Store ≡ Other → ⊥
 store≢other e = cc
 
 pub has-reach : (m : Ran) (M : State) (p : ℕ) (P : Spe) (r : Reach) → state_of m ≡ Some M → slice_get M.spes p ≡ Some P → length m.steps < m.setup.budget

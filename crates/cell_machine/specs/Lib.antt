@@ -27,6 +27,7 @@ pub mod Blocked
 pub mod Shown
 pub mod Effects
 pub mod Reaches
+pub mod ReachLaws
 pub mod Written
 pub mod EffectLaws
 pub mod Sound

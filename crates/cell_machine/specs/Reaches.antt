@@ -1,13 +1,10 @@
--- What the next instruction of a processor uses.
-use Rattle.std.specs.Prelude.{◌≡◌, ℕ, ◌==◌, ◌&&◌, Bool, true, false, not, nat_lt, is_none, if◌then◌else◌, List, length, None, IsSome, IsSomeAnd}
+-- The reach of a processor's next instruction: what it uses.
+use Rattle.std.specs.Prelude.{◌≡◌, ℕ, ◌==◌, ◌&&◌, Bool, true, false, not, nat_lt, if◌then◌else◌, length, Option, None, IsSome, IsSomeAnd}
 use Rattle.std.specs.Option.{option_map_or}
 use Rattle.cell_base.specs.declared.steps.Step.TheVariants.{Exec}
 use Rattle.spu_decode.specs.declared.Instr.{Instr}
 use Rattle.spu_decode.specs.declared.row.Row.{Row}
 use Rattle.spu_decode.specs.declared.row.Row.TheVariants.{Lqd, Stqd, Lqx, Stqx, Lqa, Stqa, Lqr, Stqr, Heq, Heqi, Hgt, Hgti, Hlgt, Hlgti, Stop, Rdch, Rchcnt, Wrch}
-use Rattle.spu_exec.specs.declared.flow.Flow.{Flow}
-use Rattle.spu_exec.specs.declared.flow.Flow.TheVariants.{Next, Stop as StopFlow, Halt, Channel}
-use Rattle.spu_exec.specs.Meaning.{flow_of, loaded_at, stored_at}
 use Rattle.cell_machine.specs.declared.effect.Reach.{Reach}
 use Rattle.cell_machine.specs.declared.effect.Reach.TheVariants.{Registers, Store, Other}
 use Rattle.cell_machine.specs.declared.effect.Note.TheVariants.{Nothing}
@@ -38,38 +35,25 @@ reach_of_row Rchcnt = Other
 reach_of_row Wrch = Other
 reach_of_row row = Registers
 
--- neither loads nor stores
-abbrev pub uses_no_bytes : Row → ℕ → ℕ → List ℕ → List ℕ → Bool
-uses_no_bytes row imm pc a b = is_none (loaded_at row imm pc a b) && is_none (stored_at row imm pc a b)
+-- the reach of an instruction, if there is one
+abbrev pub reach_of : Option Instr → Reach
+reach_of i = option_map_or (λ (i : Instr). reach_of_row i.row) i Other
 
--- the processor runs on at some address
-abbrev pub goes_on : Flow → Bool
-goes_on (Next pc) = true
-goes_on (StopFlow code next) = false
-goes_on (Halt next) = false
-goes_on (Channel op) = false
-
--- an instruction of this row has this reach
-pub record FitsReach (r : Reach) (row : Row) : Type 0 where
-  pub goes : (i : Instr) (pc : ℕ) (a b t : List ℕ) → (r ≡ Other → ⊥) → goes_on (flow_of i row pc a b t) ≡ true
-  pub registers : (imm pc : ℕ) (a b : List ℕ) → r ≡ Registers → uses_no_bytes row imm pc a b ≡ true
-  pub store : (imm pc : ℕ) (a b : List ℕ) → r ≡ Store → uses_no_bytes row imm pc a b ≡ false
-
--- that of the next instruction of P, if P runs and has one
+-- the reach of the next instruction of P, if P runs and has one
 abbrev pub reach : Spe → Reach
-reach P = if is_running P.status then option_map_or (λ (i : Instr). reach_of_row i.row) (instr P) Other else Other
+reach P = if is_running P.status then reach_of (instr P) else Other
 
--- the same under the budget
+-- the same, `Other` once the budget is spent
 abbrev pub reach_in : Ran → ℕ → Reach
 reach_in m p = if nat_lt (length m.steps) m.setup.budget then option_map_or reach (spe_of m p) Other else Other
 
--- the next instruction of processor p is allowed and asks for no channel, its effect tells nothing, and it reads or writes bytes exactly if `bytes` says so
+-- the next instruction of processor p is allowed and asks for no channel, its effect has no note, and it reads or writes bytes exactly if `bytes` is true
 pub record IsPlain (m : Ran) (p : ℕ) (bytes : Bool) : Type 0 where
   pub allowed : IsSome (next_of m (Exec p))
   pub asks : IsSomeAnd (spe_of m p) (λ P. asks P ≡ None)
   pub effect : IsSomeAnd (effect_in m (Exec p)) (λ e. (e.note ≡ Nothing) × (not (e.reads.len == 0 && e.writes.len == 0) ≡ bytes))
 
--- so is each with such a reach
+-- an instruction with the reach Registers or Store is plain
 abbrev pub HasReach : Reach → Ran → ℕ → Type 0
 HasReach Registers m p = IsPlain m p false
 HasReach Store m p = IsPlain m p true

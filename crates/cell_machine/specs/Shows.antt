@@ -24,7 +24,7 @@ use Rattle.cell_machine.specs.Tags.{settled}
 use Rattle.cell_signals.specs.Registers.{register_of}
 use Rattle.cell_machine.specs.declared.events.Load.{Load}
 use Rattle.cell_machine.specs.declared.signals.Delivery.{Delivery}
-use Rattle.cell_machine.specs.declared.signals.Reach.{Reach}
+use Rattle.cell_machine.specs.declared.signals.RemoteChange.{RemoteChange}
 use Rattle.cell_machine.specs.Signals.{with_signal}
 use Rattle.cell_machine.specs.Raised.{is_queue_full, has_stall, with_raised}
 use Rattle.cell_machine.specs.OwnEvents.{alone, with_own}
@@ -155,8 +155,8 @@ pub record Loses (losers : ℕ) (m : MainMemory) (reserved : List (Option Reserv
 abbrev pub LosesOthers : ℕ → ℕ → MainMemory → List (Option Reserved) → MainMemory → Type 0
 LosesOthers spe losers m reserved n = (p : ℕ) (o : Option Reserved) → p < 16 → slice_get reserved p ≡ Some o → has_bit losers p ≡ (is_lost m n o && not (spe == p))
 
--- what a step does beyond its own processor is what it leaves
-pub record Reaches (r : Reach) (m : MainMemory) (reserved : List (Option Reserved)) (x : Left) : Type 0 where
+-- the change in other processors is the one that the specification's step leaves
+pub record IsRemoteChange (r : RemoteChange) (m : MainMemory) (reserved : List (Option Reserved)) (x : Left) : Type 0 where
   pub sent : x.sent ≡ r.sent
   pub losers : Loses r.losers m reserved x.memory
 

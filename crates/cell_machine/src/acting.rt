@@ -24,7 +24,7 @@ use cell_host::Host;
 
 /// Makes the next instruction of a processor, or leaves all as it is where it isn't allowed.
 #[inline(always)]
-fn act_exec(
+pub(crate) fn act_exec(
     processors: &mut [Processor],
     memory: &SharedMemory,
     blocked: &mut Blocked,
@@ -70,11 +70,11 @@ fn act_piece(
     if spe as usize >= processors.len() {
         return false;
     }
-    let Some(reach) = processors[spe as usize].piece_step(memory, cmd, elem, part) else {
+    let Some(change) = processors[spe as usize].piece_step(memory, cmd, elem, part) else {
         return false;
     };
-    spread(processors, reach);
-    blocked.wake(spe, reach.is_none());
+    spread(processors, change);
+    blocked.wake(spe, change.is_none());
     true
 }
 

@@ -402,6 +402,7 @@ impl Processor {
     }
 
     /// Does a channel operation, and says whether it was allowed. Where it wasn't, nothing changes.
+    #[inline(never)]
     pub(crate) fn channel(&mut self, lines: u32, op: ChannelOp) -> bool
         requires register { RegisterFits op }
         requires number { CanIssue self.old.commands }

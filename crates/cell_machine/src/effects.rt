@@ -1,4 +1,4 @@
-//! What the steps of flow controllers and of the host would do.
+//! The effects of the MFC's and the host's steps.
 
 ghost use Rattle.std.specs.Prelude.{◌≡◌, ℕ, ◌+◌, ◌≤◌, ◌<◌, List, Option, Some, IsSome, length, slice_get, if◌then◌else◌};
 ghost use Rattle.std.specs.Option.{option_map, option_and_then};
@@ -30,10 +30,10 @@ use main_memory::LINE_BYTES;
 use mfc_command::{AtomicKind, AtomicOp, Part, part, parts};
 use mfc_lists::Element;
 
-/// How many bytes of the store an element of a list is read from.
+/// The bytes of a list element in the local store.
 const ELEMENT_BYTES: u32 = 8;
 
-/// How many bytes of the store a signal has.
+/// The bytes of a signal in the local store.
 const SIGNAL_BYTES: u32 = 4;
 
 /// No bytes.
@@ -64,7 +64,7 @@ pub(crate) fn in_store(spe: u8, at: u32, len: u32) -> Span
     }
 }
 
-/// Where a part is copied from: the store, or the memory.
+/// The source of a part: the local store or main memory.
 fn copied_from(spe: u8, put_it: bool, x: Part) -> Span
     ensures { result ≡ part_reads spe put_it x }
 {
@@ -75,7 +75,7 @@ fn copied_from(spe: u8, put_it: bool, x: Part) -> Span
     }
 }
 
-/// Where it is copied to: the memory, or the store.
+/// The destination of a part: main memory or the local store.
 fn copied_to(spe: u8, put_it: bool, x: Part) -> Span
     ensures { result ≡ part_writes spe put_it x }
 {
@@ -99,7 +99,7 @@ fn copying(spe: u8, put_it: bool, x: Part, fixed: bool) -> Effect
     }
 }
 
-/// What a value that is delivered tells, where there are so many processors.
+/// The note of a delivered value, in a machine with `spes` processors.
 fn told_delivery(spes: usize, sent: Delivery) -> Note
     ensures { result ≡ told_delivery spes (Some sent) }
 {
@@ -126,7 +126,7 @@ fn looking(reads: Span, note: Note, fixed: bool) -> Effect
     }
 }
 
-/// The effect of an atomic command: a line that isn't stored is looked at all the same.
+/// The effect of an atomic command. A PUTLLC that stores nothing still reads its line.
 fn line_effect(memory: &SharedMemory, spe: u8, a: AtomicOp, fixed: bool) -> Effect
     requires fits { OrderFits (line_count memory.now.locks) (Atomic a) }
     requires spe { spe < memory.now.locks.spes }
@@ -153,7 +153,7 @@ fn line_effect(memory: &SharedMemory, spe: u8, a: AtomicOp, fixed: bool) -> Effe
 impl Processor {
     ghost use Rattle.cell_machine.specs.Shows.{ShowsSpe, CanStep};
 
-    /// What a piece would do, where there are so many processors.
+    /// The effect of a piece, in a machine with `spes` processors.
     fn piece_effect(&self, spes: usize, spe: u8, cmd: u32, elem: u16, k: u16) -> Option<Effect>
         requires { (lines : ℕ) × CanStep lines self.now × (lines ≤ 524288) }
         ensures { (P : Spe) (m : MainMemory) → ShowsSpe self.now P → result ≡ option_and_then (λ x. of_command P cmd (piece_effect spes spe cmd k P x)) (piece m P cmd elem k) }
@@ -174,7 +174,7 @@ impl Processor {
         Some(copying(spe, is_put(command.kind), copied, fixed))
     }
 
-    /// What the reading of the next element of a command would do.
+    /// The effect of reading the next element of a list command.
     fn elem_effect(&self, lines: u32, spe: u8, cmd: u32) -> Option<Effect>
         requires can { CanStep lines self.now }
         requires lines { lines ≤ 524288 }
@@ -199,7 +199,7 @@ impl Processor {
         }
     }
 
-    /// What a fault of an element tells.
+    /// The note of a faulty element.
     fn tells_fault(&self) -> Note
         ensures { result ≡ (if is_running self.now.status then Ended else Nothing) }
     {
@@ -210,7 +210,7 @@ impl Processor {
         }
     }
 
-    /// What the retirement of a command would do.
+    /// The effect of retiring a command.
     fn retire_effect(&self, cmd: u32) -> Option<Effect>
         requires { IsKept self.now.commands.queue }
         ensures { (P : Spe) → ShowsSpe self.now P → result ≡ option_map plain_effect (retire P cmd) }
@@ -222,7 +222,7 @@ impl Processor {
         Some(looking(nowhere(), Note::Nothing, fixed))
     }
 
-    /// What the atomic command in the slot would do.
+    /// The effect of the atomic command in the slot.
     fn atomic_effect(&self, memory: &SharedMemory, spe: u8) -> Option<Effect>
         requires can { CanStep (line_count memory.now.locks) self.now }
         requires spe { spe < memory.now.locks.spes }
@@ -239,7 +239,7 @@ impl Processor {
     }
 }
 
-/// What an element that was read tells.
+/// The note of an element that was read.
 fn told_element(x: Element) -> Note
     requires size { x.size ≤ 16384 }
     requires fits { x.ea + x.size < 4294967296 }
@@ -254,7 +254,7 @@ fn told_element(x: Element) -> Note
 
 // ---- the host
 
-/// The bytes that an action of the host stores.
+/// The bytes that a host action stores.
 fn host_writes(action: HostAction) -> Span
     ensures { result ≡ host_writes action }
 {
@@ -264,7 +264,7 @@ fn host_writes(action: HostAction) -> Span
     }
 }
 
-/// What an action of the host tells.
+/// The note of a host action.
 fn host_tells(action: HostAction) -> Note
     ensures { result ≡ host_tells action }
 {
@@ -287,7 +287,7 @@ fn host_tells(action: HostAction) -> Note
     }
 }
 
-/// What the next action of the script would do.
+/// The effect of the script's next action, `None` if it isn't allowed.
 fn host_effect(processors: &[Processor], script: &Host) -> Option<Effect>
     ensures { (memory : SharedMemory) (M : State) → Shows processors.now memory script.now M → result ≡ effect_of M Step.Host }
 {
@@ -308,7 +308,7 @@ fn host_effect(processors: &[Processor], script: &Host) -> Option<Effect>
 
 // ---- all of them
 
-/// What a step would do, None where it isn't allowed.
+/// The effect of a step, `None` if it isn't allowed.
 pub(crate) fn effect_of(
     processors: &[Processor],
     memory: &SharedMemory,
@@ -359,21 +359,35 @@ pub(crate) fn effect_of(
     }
 }
 
-/// What a step would do, which is allowed.
+/// The effect of a step, which is allowed.
+#[inline(always)]
 pub(crate) fn allowed_effect(
     processors: &[Processor],
     memory: &SharedMemory,
     host: &Host,
     s: Step,
-) -> Option<Effect>
-    requires { CanGo processors.now memory.now }
-    ensures { (M : State) → Shows processors.now memory.now host.now M → IsSome (effect_of M s) → result ≡ effect_of M s }
+) -> Effect
+    requires can { CanGo processors.now memory.now }
+    requires allowed { (M : State) × Shows processors.now memory.now host.now M × IsSome (effect_of M s) }
+    ensures { (M : State) → Shows processors.now memory.now host.now M → IsSome (effect_of M s) → Some result ≡ effect_of M s }
 {
     if let Step::Exec { spe } = s {
         if (spe as usize) < processors.len() {
-            let lines = memory.bytes.lines();
-            return Some(processors[spe as usize].allowed_effect(lines, spe));
+            return processors[spe as usize].allowed_effect(memory.bytes.lines(), spe);
         }
     }
-    effect_of(processors, memory, host, s)
+    other_effect(processors, memory, host, s)
+}
+
+/// The effect of any step, which is allowed.
+#[inline(never)]
+fn other_effect(processors: &[Processor], memory: &SharedMemory, host: &Host, s: Step) -> Effect
+    requires can { CanGo processors.now memory.now }
+    requires allowed { (M : State) × Shows processors.now memory.now host.now M × IsSome (effect_of M s) }
+    ensures { (M : State) → Shows processors.now memory.now host.now M → Some result ≡ effect_of M s }
+{
+    let Some(effect) = effect_of(processors, memory, host, s) else {
+        unreachable!()
+    };
+    effect
 }

@@ -1,4 +1,4 @@
-//! What the next instruction of a processor would do, and what it tells.
+//! The effect of a processor's next instruction.
 
 ghost use Rattle.std.specs.Prelude.{◌≡◌, ◌≢◌, ℕ, ◌≤◌, List, Option, Some, IsSome, true, false};
 ghost use Rattle.std.specs.Option.{option_map, option_map_or};
@@ -8,10 +8,12 @@ ghost use Rattle.cell_machine.specs.Exec.{exec, followed, op_of};
 ghost use Rattle.cell_machine.specs.Channels.{channel};
 ghost use Rattle.cell_machine.specs.declared.effect.Note.TheVariants.{Nothing, TagRead};
 ghost use Rattle.cell_machine.specs.Effects.{quad_in, told, exec_effect, instr};
-ghost use Rattle.spu_exec.specs.Meaning.{flow_of};
 ghost use Rattle.spu_decode.specs.declared.Instr.{Instr as AnInstr};
-ghost use Rattle.cell_machine.specs.Reaches.{goes_on, reach, reach_of_row, uses_no_bytes, FitsReach};
-ghost use Rattle.spu_decode.specs.Spelling.{FieldsFit};
+ghost use Rattle.cell_machine.specs.Reaches.{reach, reach_of, reach_of_row};
+ghost use Rattle.cell_machine.specs.ReachLaws.{goes_on, uses_no_bytes, FitsReach};
+ghost use Rattle.spu_exec.specs.Meaning.{flow_of};
+ghost use Rattle.spu_decode.specs.Spelling.{instr_of};
+ghost use Rattle.local_store.specs.Store.{word_at};
 
 use crate::channels::is_param;
 use crate::effect::{Effect, INBOUND, INTERRUPT, Note, OUTBOUND, Reach, Span};
@@ -26,15 +28,15 @@ use cell_channels::{
 };
 use local_store::line_of;
 use mfc_command::{Order, check};
-use spu_decode::{Instr, Row, decode, row_spelled};
+use spu_decode::{Row, decode, row_spelled};
 use spu_exec::{Flow, leads_to, loads_at, stores_at};
 
-/// How many bytes of the store an instruction has, and a quadword.
+/// The bytes of an instruction in the local store, and of a quadword.
 const WORD_BYTES: u32 = 4;
 
 const QUAD_BYTES: u32 = 16;
 
-/// What an instruction of this row uses.
+/// The reach of an instruction of this row.
 #[inline(always)]
 #[tactic(auto, unfolding(spu_decode::specs::Table::entry_of))]
 fn reach_of_row(row: Row) -> Reach
@@ -52,7 +54,19 @@ fn reach_of_row(row: Row) -> Reach
     }
 }
 
-/// The quadword of a store that holds an address, if there is one.
+/// The reach of the instruction that a word spells, `Other` if it spells none.
+#[inline(always)]
+fn reach_of_word(word: u32) -> Reach
+    ensures reach { result ≡ reach_of (instr_of word) }
+    ensures fits { (i : AnInstr) → instr_of word ≡ Some i → FitsReach result i.row }
+{
+    match row_spelled(word) {
+        Some(row) => reach_of_row(row),
+        None => Reach::Other,
+    }
+}
+
+/// The quadword of the local store that holds an address, if there is one.
 fn quad_in(spe: u8, at: Option<u32>) -> Span
     ensures { result ≡ quad_in spe at }
 {
@@ -65,38 +79,96 @@ fn quad_in(spe: u8, at: Option<u32>) -> Span
 impl Processor {
     ghost use Rattle.cell_machine.specs.Shows.{ShowsSpe, CanIssue};
 
-    /// What the next instruction would do.
+    /// The effect of the next instruction, `None` if it isn't allowed.
     pub(crate) fn exec_effect(&self, lines: u32, spe: u8) -> Option<Effect>
         requires number { CanIssue self.now.commands }
         requires lines { lines ≤ 524288 }
         ensures { (P : Spe) → ShowsSpe self.now P → result ≡ option_map (exec_effect spe P) (exec lines P) }
     {
-        if !self.is_running() {
+        if !self.may_exec() {
             return None;
         }
-        let Some(instruction) = decode(self.store.word(self.pc)) else {
-            return Some(self.bad_word_effect(spe));
-        };
-        if !self.may_make(instruction) {
-            return None;
-        }
-        Some(self.effect_by(lines, spe, instruction))
+        Some(self.allowed_effect(lines, spe))
     }
 
-    /// What the next instruction would do, which is allowed.
+    /// The effect of the next instruction, which is allowed.
+    #[inline(always)]
     pub(crate) fn allowed_effect(&self, lines: u32, spe: u8) -> Effect
         requires number { CanIssue self.now.commands }
         requires lines { lines ≤ 524288 }
         ensures { (P : Spe) → ShowsSpe self.now P → IsSome (exec lines P) → Some result ≡ option_map (exec_effect spe P) (exec lines P) }
     {
-        match decode(self.store.word(self.pc)) {
-            Some(instruction) => self.effect_by(lines, spe, instruction),
-            None => self.bad_word_effect(spe),
+        // each effect is built in its own function: inlined here, it would be copied field by field
+        let word = self.store.word(self.pc);
+        let reach = reach_of_word(word);
+        if let Reach::Registers = reach {
+            return self.effect_on_registers(spe, word);
+        }
+        if let Reach::Store = reach {
+            return self.effect_on_store(spe, word);
+        }
+        self.effect_beyond(lines, spe, word)
+    }
+
+    /// The effect of an instruction that uses registers alone, the word of which is at the PC.
+    #[inline(never)]
+    fn effect_on_registers(&self, spe: u8, word: u32) -> Effect
+        requires word { word ≡ word_at self.now.store self.now.pc }
+        requires reach { reach_of (instr_of word) ≡ Reach.Registers }
+        requires fits { (i : AnInstr) → instr_of word ≡ Some i → FitsReach Reach.Registers i.row }
+        ensures { (lines : ℕ) (P : Spe) → ShowsSpe self.now P → IsSome (exec lines P) → Some result ≡ option_map (exec_effect spe P) (exec lines P) }
+    {
+        Effect {
+            fetch: in_store(spe, self.pc, WORD_BYTES),
+            reads: nowhere(),
+            writes: nowhere(),
+            note: Note::Nothing,
+            fixed: self.fixes(),
         }
     }
 
-    /// What the word at the PC would do, which is no instruction.
+    /// The effect of a load or a store, the word of which is at the PC.
     #[inline(never)]
+    fn effect_on_store(&self, spe: u8, word: u32) -> Effect
+        requires word { word ≡ word_at self.now.store self.now.pc }
+        requires reach { reach_of (instr_of word) ≡ Reach.Store }
+        requires fits { (i : AnInstr) → instr_of word ≡ Some i → FitsReach Reach.Store i.row }
+        ensures { (lines : ℕ) (P : Spe) → ShowsSpe self.now P → IsSome (exec lines P) → Some result ≡ option_map (exec_effect spe P) (exec lines P) }
+    {
+        let Some(instruction) = decode(word) else {
+            unreachable!()
+        };
+        Effect {
+            fetch: in_store(spe, self.pc, WORD_BYTES),
+            reads: quad_in(spe, loads_at(instruction, self.pc, &self.registers)),
+            writes: quad_in(spe, stores_at(instruction, self.pc, &self.registers)),
+            note: Note::Nothing,
+            fixed: self.fixes(),
+        }
+    }
+
+    /// The effect of any instruction, which is allowed and the word of which is at the PC.
+    #[inline(never)]
+    fn effect_beyond(&self, lines: u32, spe: u8, word: u32) -> Effect
+        requires number { CanIssue self.now.commands }
+        requires lines { lines ≤ 524288 }
+        requires word { word ≡ word_at self.now.store self.now.pc }
+        ensures { (P : Spe) → ShowsSpe self.now P → IsSome (exec lines P) → Some result ≡ option_map (exec_effect spe P) (exec lines P) }
+    {
+        let Some(instruction) = decode(word) else {
+            return self.bad_word_effect(spe);
+        };
+        let flow = leads_to(instruction, self.pc, &self.registers);
+        Effect {
+            fetch: in_store(spe, self.pc, WORD_BYTES),
+            reads: quad_in(spe, loads_at(instruction, self.pc, &self.registers)),
+            writes: quad_in(spe, stores_at(instruction, self.pc, &self.registers)),
+            note: self.tells(lines, spe, flow),
+            fixed: self.fixes_by(lines, flow),
+        }
+    }
+
+    /// The effect of the word at the PC, which spells no instruction.
     fn bad_word_effect(&self, spe: u8) -> Effect
         ensures { (lines : ℕ) (P : Spe) → ShowsSpe self.now P → IsSome (exec lines P) → instr P ≡ None → Some result ≡ option_map (exec_effect spe P) (exec lines P) }
     {
@@ -109,45 +181,7 @@ impl Processor {
         }
     }
 
-    /// What the instruction at the PC would do, which is allowed.
-    #[inline(always)]
-    fn effect_by(&self, lines: u32, spe: u8, instruction: Instr) -> Effect
-        requires number { CanIssue self.now.commands }
-        requires lines { lines ≤ 524288 }
-        requires fits { FieldsFit instruction }
-        ensures { (P : Spe) → ShowsSpe self.now P → IsSome (exec lines P) → instr P ≡ Some instruction → Some result ≡ option_map (exec_effect spe P) (exec lines P) }
-    {
-        match reach_of_row(instruction.row) {
-            Reach::Registers => Effect {
-                fetch: in_store(spe, self.pc, WORD_BYTES),
-                reads: nowhere(),
-                writes: nowhere(),
-                note: Note::Nothing,
-                fixed: self.fixes(),
-            },
-            _ => self.effect_beyond(lines, spe, instruction),
-        }
-    }
-
-    /// What any instruction would do, which is allowed.
-    #[inline(never)]
-    fn effect_beyond(&self, lines: u32, spe: u8, instruction: Instr) -> Effect
-        requires number { CanIssue self.now.commands }
-        requires lines { lines ≤ 524288 }
-        requires fits { FieldsFit instruction }
-        ensures { (P : Spe) → ShowsSpe self.now P → IsSome (exec lines P) → instr P ≡ Some instruction → Some result ≡ option_map (exec_effect spe P) (exec lines P) }
-    {
-        let flow = leads_to(instruction, self.pc, &self.registers);
-        Effect {
-            fetch: in_store(spe, self.pc, WORD_BYTES),
-            reads: quad_in(spe, loads_at(instruction, self.pc, &self.registers)),
-            writes: quad_in(spe, stores_at(instruction, self.pc, &self.registers)),
-            note: self.tells(lines, spe, flow),
-            fixed: self.fixes_by(lines, flow),
-        }
-    }
-
-    /// What the next instruction uses.
+    /// The reach of the next instruction, `Other` if the processor doesn't run.
     pub(crate) fn reach(&self) -> Reach
         ensures reach { (P : Spe) → ShowsSpe self.now P → result ≡ reach P }
         ensures row { (P : Spe) (i : AnInstr) → ShowsSpe self.now P → instr P ≡ Some i → FitsReach result i.row }
@@ -155,13 +189,10 @@ impl Processor {
         if !self.is_running() {
             return Reach::Other;
         }
-        match row_spelled(self.store.word(self.pc)) {
-            Some(row) => reach_of_row(row),
-            None => Reach::Other,
-        }
+        reach_of_word(self.store.word(self.pc))
     }
 
-    /// What an instruction that leads there tells, where it is allowed.
+    /// The note of an allowed instruction with this flow.
     fn tells(&self, lines: u32, spe: u8, flow: Flow) -> Note
         requires { lines ≤ 524288 }
         ensures { (P Q : Spe) (registers : List (List ℕ)) (store : List ℕ) → ShowsSpe self.now P → is_running P.status ≡ true → followed lines (record P { registers = registers; store = store }) flow ≡ Some Q → result ≡ told spe P Q (op_of flow) }
@@ -174,7 +205,7 @@ impl Processor {
         }
     }
 
-    /// What a channel operation tells, where it is allowed.
+    /// The note of an allowed channel operation.
     fn operation_tells(&self, lines: u32, spe: u8, op: ChannelOp) -> Note
         requires { lines ≤ 524288 }
         ensures { (P Q : Spe) (registers : List (List ℕ)) (store : List ℕ) → ShowsSpe self.now P → is_running P.status ≡ true → channel lines (record P { registers = registers; store = store }) op ≡ Some Q → result ≡ told spe P Q (Some op) }
@@ -186,7 +217,7 @@ impl Processor {
         }
     }
 
-    /// What a read of a channel tells, where it is allowed.
+    /// The note of an allowed read of a channel.
     fn read_tells(&self, spe: u8, ch: u8) -> Note
         ensures { (lines : ℕ) (P Q : Spe) (registers : List (List ℕ)) (store : List ℕ) (rt : ℕ) → ShowsSpe self.now P → is_running P.status ≡ true → channel lines (record P { registers = registers; store = store }) (ChannelOp.Read rt ch) ≡ Some Q → result ≡ told spe P Q (Some (ChannelOp.Read rt ch)) }
     {
@@ -209,7 +240,7 @@ impl Processor {
         }
     }
 
-    /// What a read of the tag status tells.
+    /// The note of a read of the tag status.
     fn status_told(&self) -> Note
         ensures { result ≡ option_map_or (λ t. TagRead t.groups t.issued) self.now.tags.status Nothing }
     {
@@ -223,7 +254,7 @@ impl Processor {
         }
     }
 
-    /// What a write to a channel tells, where it is allowed.
+    /// The note of an allowed write to a channel.
     fn write_tells(&self, lines: u32, spe: u8, ch: u8, value: u32) -> Note
         requires { lines ≤ 524288 }
         ensures { (P Q : Spe) (registers : List (List ℕ)) (store : List ℕ) → ShowsSpe self.now P → is_running P.status ≡ true → channel lines (record P { registers = registers; store = store }) (ChannelOp.Write ch value) ≡ Some Q → result ≡ told spe P Q (Some (ChannelOp.Write ch value)) }
@@ -247,7 +278,7 @@ impl Processor {
         }
     }
 
-    /// What a write to MFC_Cmd tells, where it is allowed.
+    /// The note of an allowed write to MFC_Cmd.
     fn command_tells(&self, lines: u32, op: u32) -> Note
         requires { lines ≤ 524288 }
         ensures { (spe : ℕ) (P Q : Spe) (registers : List (List ℕ)) (store : List ℕ) → ShowsSpe self.now P → is_running P.status ≡ true → channel lines (record P { registers = registers; store = store }) (ChannelOp.Write 21 op) ≡ Some Q → result ≡ told spe P Q (Some (ChannelOp.Write 21 op)) }
@@ -263,7 +294,7 @@ impl Processor {
     }
 }
 
-/// What a read of a channel's count tells: nothing, where the channel is there.
+/// The note of a read of a channel's count: `Ended` if there is no such channel.
 fn count_tells(ch: u8) -> Note
     ensures { (lines spe : ℕ) (P Q : Spe) (registers : List (List ℕ)) (store : List ℕ) (rt : ℕ) → is_running P.status ≡ true → channel lines (record P { registers = registers; store = store }) (ChannelOp.Count rt ch) ≡ Some Q → result ≡ told spe P Q (Some (ChannelOp.Count rt ch)) }
 {
@@ -273,7 +304,7 @@ fn count_tells(ch: u8) -> Note
     }
 }
 
-/// What a write to another channel tells: nothing, where the channel holds a parameter.
+/// The note of a write to any other channel: `Ended` if the channel holds no parameter.
 fn param_tells(ch: u8) -> Note
     requires { (ch ≢ 1) × (ch ≢ 2) × (ch ≢ 21) × (ch ≢ 22) × (ch ≢ 23) × (ch ≢ 26) × (ch ≢ 28) × (ch ≢ 30) }
     ensures { (lines spe value : ℕ) (P Q : Spe) (registers : List (List ℕ)) (store : List ℕ) → is_running P.status ≡ true → channel lines (record P { registers = registers; store = store }) (ChannelOp.Write ch value) ≡ Some Q → result ≡ told spe P Q (Some (ChannelOp.Write ch value)) }

@@ -25,7 +25,7 @@ ghost use Rattle.cell_machine.specs.ByteRuns.{RunsOnBytes};
 ghost use Rattle.cell_machine.specs.Shows.{AllTwo, ShowsSpe};
 ghost use Rattle.cell_machine.specs.Blocked.{AreBlocked};
 
-use crate::acting::{act, act_first, act_picked};
+use crate::acting::{act, act_exec, act_first, act_picked};
 use crate::blocked::Blocked;
 use crate::choosing::{first_step, has_atomic_step, is_quiet, nth_queued, nth_step};
 use crate::effect::{Effect, Reach};
@@ -125,6 +125,13 @@ impl Machine {
         let at = self.steps.len();
         if at >= self.setup.budget() as usize {
             return Err(Refused::Spent);
+        }
+        if let Step::Exec { spe } = s {
+            if !act_exec(&mut self.processors, &self.memory, &mut self.blocked, spe) {
+                return Err(Refused::NotAllowed);
+            }
+            let _ = self.steps.push(Step::Exec { spe });
+            return Ok(at as u32);
         }
         if !act(
             &mut self.processors,
@@ -472,15 +479,12 @@ impl Machine {
         effect_of(&self.processors, &self.memory, &self.host, s)
     }
 
-    /// What a step would do, which is allowed.
+    /// The effect of a step, which is allowed.
     pub fn allowed_effect(&self, s: Step) -> Effect
         requires { IsSome (next_of self.now s) }
         ensures { effect_in self.now s ≡ Some result }
     {
-        let Some(effect) = allowed_effect(&self.processors, &self.memory, &self.host, s) else {
-            unreachable!()
-        };
-        effect
+        allowed_effect(&self.processors, &self.memory, &self.host, s)
     }
 
     /// How the run ended; None where a step is allowed under the budget.

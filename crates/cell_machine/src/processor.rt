@@ -132,7 +132,7 @@ impl Processor {
         matches!(self.status, Status::Running)
     }
 
-    /// Goes where an instruction leads, and says whether that was allowed.
+    /// Goes where an instruction leads, and returns whether that was allowed.
     fn follow(&mut self, lines: u32, flow: Flow) -> bool
         requires leads { LeadsToPlace flow }
         requires number { CanIssue self.old.commands }

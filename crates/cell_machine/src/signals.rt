@@ -1,4 +1,4 @@
-//! What a step of a processor does to other processors.
+//! The changes that a step makes in other processors.
 
 ghost use Rattle.std.specs.Prelude.{◌≡◌, ◌<◌, ◌≤◌, List, None, length, map, true};
 ghost use Rattle.std.specs.List.{enumerate_from};
@@ -16,15 +16,16 @@ pub(crate) struct Delivery {
     pub(crate) value: u32,
 }
 
-/// What a step sends to a signal register, and the processors whose reservation its store ends, as bits.
+/// The changes that a step makes in other processors: the value it sends to a signal register, and the processors that lose their
+/// reservation, as bits (processor p is bit value 2^p).
 #[derive(Clone, Copy)]
-pub(crate) struct Reach {
+pub(crate) struct RemoteChange {
     pub(crate) sent: Option<Delivery>,
     pub(crate) losers: u16,
 }
 
-impl Reach {
-    /// Whether the step does nothing to other processors.
+impl RemoteChange {
+    /// Whether no other processor changes.
     pub(crate) fn is_none(&self) -> bool
         ensures { result ≡ true → (self.now.sent ≡ None) × (self.now.losers ≡ 0) }
     {
@@ -32,7 +33,7 @@ impl Reach {
     }
 }
 
-/// Delivers what was sent, if something was; a register of a processor that isn't there takes nothing.
+/// Delivers a value, if one was sent. A value for a processor that doesn't exist is dropped.
 fn deliver(processors: &mut [Processor], sent: Option<Delivery>)
     requires { IsDelivery sent }
     ensures informed { (spes : List Spe) → AllTwo ShowsSpe processors.old spes → AllTwo ShowsSpe processors.new (informed_by spes sent) }
@@ -47,7 +48,7 @@ fn deliver(processors: &mut [Processor], sent: Option<Delivery>)
     processors[sent.spe as usize].deliver(sent.register, sent.value);
 }
 
-/// Whether the processor is one of these.
+/// Whether this processor is in the set.
 fn is_loser(losers: u16, spe: usize) -> bool
     requires { spe < 16 }
     ensures { result ≡ has_bit losers spe }
@@ -55,7 +56,7 @@ fn is_loser(losers: u16, spe: usize) -> bool
     (losers >> spe) & 1 == 1
 }
 
-/// Raises at these processors that their reservation is lost.
+/// Raises the lost-reservation event at these processors.
 pub(crate) fn lose(processors: &mut [Processor], losers: u16)
     requires { length processors.old ≤ 16 }
     ensures lost { (spes : List Spe) → AllTwo ShowsSpe processors.old spes → AllTwo ShowsSpe processors.new (map (lost_by losers) (enumerate_from 0 spes)) }
@@ -73,13 +74,13 @@ pub(crate) fn lose(processors: &mut [Processor], losers: u16)
     }
 }
 
-/// Does to the processors what a step does beyond its own one.
-pub(crate) fn spread(processors: &mut [Processor], reach: Reach)
+/// Makes a step's changes in the other processors.
+pub(crate) fn spread(processors: &mut [Processor], change: RemoteChange)
     requires many { length processors.old ≤ 16 }
-    requires sent { IsDelivery reach.sent }
-    ensures spread { (spes : List Spe) → AllTwo ShowsSpe processors.old spes → AllTwo ShowsSpe processors.new (map (lost_by reach.losers) (enumerate_from 0 (informed_by spes reach.sent))) }
-    ensures none { (reach.sent ≡ None) × (reach.losers ≡ 0) → processors.new ≡ processors.old }
+    requires sent { IsDelivery change.sent }
+    ensures spread { (spes : List Spe) → AllTwo ShowsSpe processors.old spes → AllTwo ShowsSpe processors.new (map (lost_by change.losers) (enumerate_from 0 (informed_by spes change.sent))) }
+    ensures none { (change.sent ≡ None) × (change.losers ≡ 0) → processors.new ≡ processors.old }
 {
-    deliver(processors, reach.sent);
-    lose(processors, reach.losers);
+    deliver(processors, change.sent);
+    lose(processors, change.losers);
 }

@@ -12,13 +12,13 @@ ghost use Rattle.cell_machine.specs.Moves.{parts_in};
 ghost use Rattle.cell_machine.specs.Kept.{IsKept};
 ghost use Rattle.cell_machine.specs.Transfers.{may_retire, piece, elem, retire, copied, delivery, moved, is_put, is_signal, part_in, told};
 ghost use Rattle.cell_machine.specs.Limits.{IsRegister};
-ghost use Rattle.cell_machine.specs.Shows.{ShowsMemory, Loses, Reaches, IsDelivery, IsSignal, Makes};
+ghost use Rattle.cell_machine.specs.Shows.{ShowsMemory, Loses, IsRemoteChange, IsDelivery, IsSignal, Makes};
 ghost use Rattle.cell_machine.specs.OwnEvents.{with_flow, with_fixed};
 
 use crate::events::TAG_STATUS;
 use crate::memory::SharedMemory;
 use crate::processor::Processor;
-use crate::signals::{Delivery, Reach};
+use crate::signals::{Delivery, RemoteChange};
 use crate::status::Status;
 use local_store::LocalStore;
 use main_memory::Memory;
@@ -127,7 +127,7 @@ fn move_part(
     kind: Kind,
     x: Element,
     k: u32,
-) -> Reach
+) -> RemoteChange
     requires few { x.size ≤ 16384 }
     requires store { x.ls + x.size ≤ 262144 }
     requires memory { x.ea + x.size ≤ length memory.old.bytes }
@@ -136,17 +136,17 @@ fn move_part(
     requires signal { is_signal kind ≡ true → IsSignal x }
     ensures store { (P : Spe) (m : MainMemory) (reserved : List (Option Reserved)) → ShowsMemory memory.old m reserved → P.store ≡ store.old → (moved m P kind (part_in x k)).spe ≡ record P { store = store.new } }
     ensures memory { (P : Spe) (m : MainMemory) (reserved : List (Option Reserved)) → ShowsMemory memory.old m reserved → P.store ≡ store.old → ShowsMemory memory.new (moved m P kind (part_in x k)).memory reserved }
-    ensures reach { (P : Spe) (m : MainMemory) (reserved : List (Option Reserved)) → ShowsMemory memory.old m reserved → P.store ≡ store.old → Reaches result m reserved (moved m P kind (part_in x k)) }
+    ensures change { (P : Spe) (m : MainMemory) (reserved : List (Option Reserved)) → ShowsMemory memory.old m reserved → P.store ≡ store.old → IsRemoteChange result m reserved (moved m P kind (part_in x k)) }
     ensures register { IsDelivery result.sent }
     ensures size { HasSameSize memory.old.locks memory.new.locks }
 {
     if is_signal(kind) {
-        return Reach {
+        return RemoteChange {
             sent: Some(signal(store, x)),
             losers: 0,
         };
     }
-    Reach {
+    RemoteChange {
         sent: None,
         losers: copy(store, memory, is_put(kind), x, k),
     }
@@ -173,10 +173,16 @@ impl Processor {
     }
 
     /// Copies a part, if that is allowed.
-    fn piece(&mut self, memory: &mut SharedMemory, cmd: u32, elem: u16, k: u16) -> Option<Reach>
+    fn piece(
+        &mut self,
+        memory: &mut SharedMemory,
+        cmd: u32,
+        elem: u16,
+        k: u16,
+    ) -> Option<RemoteChange>
         requires can { CanStep (line_count memory.old.locks) self.old }
         requires small { length memory.old.bytes ≤ 67108864 }
-        ensures made { (P : Spe) (m : MainMemory) (reserved : List (Option Reserved)) → ShowsSpe self.old P → ShowsMemory memory.old m reserved → Makes result (piece m P cmd elem k) (λ r x. ShowsSpe self.new x.spe × ShowsMemory memory.new x.memory reserved × Reaches r m reserved x) }
+        ensures made { (P : Spe) (m : MainMemory) (reserved : List (Option Reserved)) → ShowsSpe self.old P → ShowsMemory memory.old m reserved → Makes result (piece m P cmd elem k) (λ r x. ShowsSpe self.new x.spe × ShowsMemory memory.new x.memory reserved × IsRemoteChange r m reserved x) }
         ensures register { IfSome result (λ r. IsDelivery r.sent) }
         ensures refused { IfNone result ((self.new ≡ self.old) × (memory.new ≡ memory.old)) }
         ensures size { HasSameSize memory.old.locks memory.new.locks }
@@ -188,10 +194,10 @@ impl Processor {
             return None;
         };
         let command = self.commands.queue.command(cmd);
-        let reach = move_part(&mut self.store, memory, command.kind, x, k as u32);
+        let change = move_part(&mut self.store, memory, command.kind, x, k as u32);
         let stalls = self.commands.mark(cmd, k as u32);
         self.tell(stalls, command.tag);
-        Some(reach)
+        Some(change)
     }
 
     /// Reads the next element of a list, if that is allowed. A faulty one takes the place of any status.
@@ -250,21 +256,21 @@ impl Processor {
         cmd: u32,
         elem: u16,
         k: u16,
-    ) -> Option<Reach>
+    ) -> Option<RemoteChange>
         requires can { CanStep (line_count memory.old.locks) self.old }
         requires small { length memory.old.bytes ≤ 67108864 }
-        ensures made { (P : Spe) (m : MainMemory) (reserved : List (Option Reserved)) → ShowsSpe self.old P → ShowsMemory memory.old m reserved → Makes result (piece m P cmd elem k) (λ r x. ShowsSpe self.new (with_flow P x.spe) × ShowsMemory memory.new x.memory reserved × Reaches r m reserved x) }
+        ensures made { (P : Spe) (m : MainMemory) (reserved : List (Option Reserved)) → ShowsSpe self.old P → ShowsMemory memory.old m reserved → Makes result (piece m P cmd elem k) (λ r x. ShowsSpe self.new (with_flow P x.spe) × ShowsMemory memory.new x.memory reserved × IsRemoteChange r m reserved x) }
         ensures register { IfSome result (λ r. IsDelivery r.sent) }
         ensures refused { IfNone result ((self.new ≡ self.old) × (memory.new ≡ memory.old)) }
         ensures size { HasSameSize memory.old.locks memory.new.locks }
     {
         let before = self.load();
-        let Some(reach) = self.piece(memory, cmd, elem, k) else {
+        let Some(change) = self.piece(memory, cmd, elem, k) else {
             return None;
         };
         self.raise_since(before);
         self.settle();
-        Some(reach)
+        Some(change)
     }
 
     /// Reads an element and ends the step, or leaves all as it is where that isn't allowed.

@@ -29,7 +29,7 @@ spread-requires-clause-sent c = rw c.in-Some.is at c.piece_step.ensures.register
 
 pub returns-clause-made : goal.returns-clause-made
 returns-clause-made c = λ host M shows all.
-    (piece-acts c.piece_step.new.memory _ _ _ _ M c.args.spe c.args.cmd c.args.elem c.args.part c.in-Some.reach shows all c.requires.many (omega arith) (rw c.in-Some.is at c.piece_step.ensures.register) (λ P seen.
+    (piece-acts c.piece_step.new.memory _ _ _ _ M c.args.spe c.args.cmd c.args.elem c.args.part c.in-Some.change shows all c.requires.many (omega arith) (rw c.in-Some.is at c.piece_step.ensures.register) (λ P seen.
     rw c.in-Some.is at (c.piece_step.ensures.made P M.memory (reservations M.spes) seen shows.memory_is)) c.spread.ensures.spread)
 
 pub returns-in_default-clause-blocked : goal.returns-in_default-clause-blocked

@@ -18,7 +18,7 @@ pub returns-then-spe-processors : goal.returns-then-spe-processors
 unfolding effect_of
 returns-then-spe-processors c = λ M shows. rw c.in-Exec.is (λ some.
     effect-at _ M c.in-Exec.spe _ _ _ shows (omega arith) c.index-processors-spe.is (λ P at seen.
-    let same = sym (lines-is M.memory _ c.lines-lines.result shows.memory_is.bytes c.lines-lines.ensures.count) in
+    let same = sym (lines-is M.memory _ c.lines.result shows.memory_is.bytes c.lines.ensures.count) in
     let f : Spe → Option Effect = λ P. option_map (exec_effect c.in-Exec.spe P) (exec (lines_of M.memory) P) in
     let there : is_some (exec (lines_of M.memory) P) ≡ true = sym (some-mapped (exec_effect c.in-Exec.spe P) (exec (lines_of M.memory) P)) ∙ sym (ap (λ o. is_some (option_and_then f o)) at) ∙ some in
     c.allowed_effect.ensures P seen (ap (λ lines. is_some (exec lines P)) same ∙ there) ∙ ap (λ lines. option_map (exec_effect c.in-Exec.spe P) (exec lines P)) same))

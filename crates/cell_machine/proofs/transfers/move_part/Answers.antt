@@ -12,8 +12,8 @@ returns-then-is_signal-clause-store c = λ P m reserved shows was. sent-spe m P 
 pub returns-then-is_signal-clause-memory : goal.returns-then-is_signal-clause-memory
 returns-then-is_signal-clause-memory c = λ P m reserved shows was. sent-memory _ m reserved P c.args.kind (part_in c.args.x c.args.k) (sym c.is_signal.ensures ∙ c.if-is_signal.true) shows
 
-pub returns-then-is_signal-clause-reach : goal.returns-then-is_signal-clause-reach
-returns-then-is_signal-clause-reach c = λ P m reserved shows was.
+pub returns-then-is_signal-clause-change : goal.returns-then-is_signal-clause-change
+returns-then-is_signal-clause-change c = λ P m reserved shows was.
     sent-reaches m reserved P c.args.kind c.args.x c.args.k c.signal.result (sym c.is_signal.ensures ∙ c.if-is_signal.true) (c.requires.signal (sym c.is_signal.ensures ∙ c.if-is_signal.true)) c.requires.there (c.signal.ensures.sent P was)
 
 pub returns-clause-store : goal.returns-clause-store
@@ -22,5 +22,5 @@ returns-clause-store c = λ P m reserved shows was. copied-spe m P c.args.kind (
 pub returns-clause-memory : goal.returns-clause-memory
 returns-clause-memory c = λ P m reserved shows was. copied-memory _ m reserved P c.args.kind (part_in c.args.x c.args.k) (sym c.is_signal.ensures ∙ c.if-is_signal.false) (rw c.is_put.ensures at (c.copy.ensures.memory P m reserved shows was))
 
-pub returns-clause-reach : goal.returns-clause-reach
-returns-clause-reach c = λ P m reserved shows was. copied-reaches c.copy.result m reserved P c.args.kind (part_in c.args.x c.args.k) (sym c.is_signal.ensures ∙ c.if-is_signal.false) (rw c.is_put.ensures at (c.copy.ensures.losers P m reserved shows was))
+pub returns-clause-change : goal.returns-clause-change
+returns-clause-change c = λ P m reserved shows was. copied-reaches c.copy.result m reserved P c.args.kind (part_in c.args.x c.args.k) (sym c.is_signal.ensures ∙ c.if-is_signal.false) (rw c.is_put.ensures at (c.copy.ensures.losers P m reserved shows was))

@@ -20,8 +20,8 @@ returns-in_default-clause-made c = λ P m reserved shows memory. rw (piece-off m
 pub command-command-requires : goal.command-command-requires
 command-command-requires c = c.in-Some.ensures.there
 
-pub move_part-reach-requires-clause-few : goal.move_part-reach-requires-clause-few
-move_part-reach-requires-clause-few c =
+pub move_part-change-requires-clause-few : goal.move_part-change-requires-clause-few
+move_part-change-requires-clause-few c =
     let s = c.requires.can in
     let q = s.shows.queue in
     let at = issued-at q.calls s.spe.moves c.args.cmd c.command-command.result q.moves (c.command-command.ensures.command q.calls q.stands) in
@@ -29,8 +29,8 @@ move_part-reach-requires-clause-few c =
     (sym (c.part_left.ensures.may s.spe.moves q) ∙ ap is_some c.in-Some.is) (c.in-Some.ensures.some s.spe.moves c.command-command.result q at) in
     can.fits.size
 
-pub move_part-reach-requires-clause-store : goal.move_part-reach-requires-clause-store
-move_part-reach-requires-clause-store c =
+pub move_part-change-requires-clause-store : goal.move_part-change-requires-clause-store
+move_part-change-requires-clause-store c =
     let s = c.requires.can in
     let q = s.shows.queue in
     let at = issued-at q.calls s.spe.moves c.args.cmd c.command-command.result q.moves (c.command-command.ensures.command q.calls q.stands) in
@@ -38,8 +38,8 @@ move_part-reach-requires-clause-store c =
     (sym (c.part_left.ensures.may s.spe.moves q) ∙ ap is_some c.in-Some.is) (c.in-Some.ensures.some s.spe.moves c.command-command.result q at) in
     can.fits.store
 
-pub move_part-reach-requires-clause-memory : goal.move_part-reach-requires-clause-memory
-move_part-reach-requires-clause-memory c =
+pub move_part-change-requires-clause-memory : goal.move_part-change-requires-clause-memory
+move_part-change-requires-clause-memory c =
     let s = c.requires.can in
     let q = s.shows.queue in
     let at = issued-at q.calls s.spe.moves c.args.cmd c.command-command.result q.moves (c.command-command.ensures.command q.calls q.stands) in
@@ -49,8 +49,8 @@ move_part-reach-requires-clause-memory c =
     let long = c.args.memory.now.even in
     omega arith
 
-pub move_part-reach-requires-clause-there : goal.move_part-reach-requires-clause-there
-move_part-reach-requires-clause-there c =
+pub move_part-change-requires-clause-there : goal.move_part-change-requires-clause-there
+move_part-change-requires-clause-there c =
     let s = c.requires.can in
     let q = s.shows.queue in
     let at = issued-at q.calls s.spe.moves c.args.cmd c.command-command.result q.moves (c.command-command.ensures.command q.calls q.stands) in
@@ -58,8 +58,8 @@ move_part-reach-requires-clause-there c =
     (sym (c.part_left.ensures.may s.spe.moves q) ∙ ap is_some c.in-Some.is) (c.in-Some.ensures.some s.spe.moves c.command-command.result q at) in
     can.within
 
-pub move_part-reach-requires-clause-signal : goal.move_part-reach-requires-clause-signal
-move_part-reach-requires-clause-signal c =
+pub move_part-change-requires-clause-signal : goal.move_part-change-requires-clause-signal
+move_part-change-requires-clause-signal c =
     let s = c.requires.can in
     let q = s.shows.queue in
     let at = issued-at q.calls s.spe.moves c.args.cmd c.command-command.result q.moves (c.command-command.ensures.command q.calls q.stands) in
@@ -85,8 +85,8 @@ returns-clause-made c = λ P m reserved shows memory.
     let may = piece-may P c.args.cmd c.args.elem c.args.k (ap is_faulted shows.status ∙ sym c.is_faulted.ensures ∙ c.if-is_faulted.false) ∙ begun in
     let has = begins-has P.moves c.args.cmd d _ at begun in
     let marked = c.mark-stalls.ensures P.moves d c.args.elem q at has in
-    piece-made c.tell.new.self P c.move_part-reach.new.memory m reserved c.args.self.now.store c.move_part-reach.new.store c.args.cmd c.args.elem c.args.k c.mark-stalls.result d c.in-Some.x c.move_part-reach.result may at
+    piece-made c.tell.new.self P c.move_part-change.new.memory m reserved c.args.self.now.store c.move_part-change.new.store c.args.cmd c.args.elem c.args.k c.mark-stalls.result d c.in-Some.x c.move_part-change.result may at
     (c.in-Some.ensures.some P.moves d q at) (part-number P.moves c.args.cmd c.args.elem c.args.k d c.in-Some.x has (c.in-Some.ensures.some P.moves d q at)) shows.store marked.1
-    (λ Q was. c.move_part-reach.ensures.store Q m reserved memory was) (λ Q was. c.move_part-reach.ensures.memory Q m reserved memory was) (λ Q was. c.move_part-reach.ensures.reach Q m reserved memory was)
-    (c.tell.ensures (record P { store = c.move_part-reach.new.store; moves = with_done P.moves c.args.cmd c.args.elem c.args.k })
+    (λ Q was. c.move_part-change.ensures.store Q m reserved memory was) (λ Q was. c.move_part-change.ensures.memory Q m reserved memory was) (λ Q was. c.move_part-change.ensures.change Q m reserved memory was)
+    (c.tell.ensures (record P { store = c.move_part-change.new.store; moves = with_done P.moves c.args.cmd c.args.elem c.args.k })
     (record { status = shows.status; pc = shows.pc; registers = shows.registers; store = refl; inbound = shows.inbound; outbound = shows.outbound; interrupt = shows.interrupt; channels = shows.channels; tags = shows.tags; signals = shows.signals; events = shows.events; queue = marked.0 }))
