@@ -10,9 +10,6 @@ use crate::error::RaceError;
 use run_walk::Walk;
 use std::alloc::Global;
 
-/// How many of the last steps are searched for one that a new step can stand for.
-const FEW: usize = 16;
-
 /// Whether the step is the last one that was made, or happens before it.
 pub fn is_safe(step: u32, last: u32, walk: &Walk) -> bool
     requires { IsLast walk.now last }
@@ -39,18 +36,25 @@ fn unsafe_end(steps: &[u32], last: u32, walk: &Walk) -> usize
     0
 }
 
-/// The place of a safe step among the last few.
-fn recent_safe(steps: &[u32], last: u32, walk: &Walk) -> Option<usize>
+/// The place of a safe step, if it is found at one of two looks: at the earliest step, and at one more, whose place changes from step to step. So a
+/// look costs the same in a long list, and the safe steps stay few beside the others.
+fn some_safe(steps: &[u32], last: u32, walk: &Walk) -> Option<usize>
     requires { IsLast walk.now last }
     ensures inside { IfSome result (λ k. k < length steps.now) }
     ensures safe { IfSome result (λ k. IsSafe (IsOrdered (walked walk.now)) (slice_index steps.now k) last) }
 {
-    for k in steps.len().saturating_sub(FEW)..steps.len() {
-        if is_safe(steps[k], last, walk) {
-            return Some(k);
-        }
+    if steps.is_empty() {
+        return None;
     }
-    None
+    if is_safe(steps[0], last, walk) {
+        return Some(0);
+    }
+    let other = last as usize % steps.len();
+    if is_safe(steps[other], last, walk) {
+        Some(other)
+    } else {
+        None
+    }
 }
 
 fn is_up_to(step: u32, other: u32) -> bool
@@ -85,13 +89,13 @@ fn drop_end(steps: &mut Vec<u32>, last: u32, walk: &Walk)
     steps.truncate(end);
 }
 
-/// Drops a safe step among the last few, if there is one.
-fn drop_recent(steps: &mut Vec<u32>, last: u32, walk: &Walk)
+/// Drops a safe step, if one is found.
+fn drop_one(steps: &mut Vec<u32>, last: u32, walk: &Walk)
     requires { IsLast walk.now last }
     ensures thinned { IsThinned (IsOrdered (walked walk.now)) last steps.old.items steps.new.items }
     ensures ascending { IsNonDecreasing steps.old.items → IsNonDecreasing steps.new.items }
 {
-    if let Some(k) = recent_safe(steps.as_slice(), last, walk) {
+    if let Some(k) = some_safe(steps.as_slice(), last, walk) {
         steps.remove(k);
     }
 }
@@ -154,14 +158,13 @@ impl Stack {
         }
     }
 
-    /// Drops those from the end on that happen before the last step that was made, and one more among the last few if there is one. So each
-    /// look at a step but for a few is the last one at it, and steps of a few actors in turn stay few.
+    /// Drops those from the end on that happen before the last step that was made, and one more if one is found.
     pub fn drop_safe(&mut self, last: u32, walk: &Walk)
         requires { IsLast walk.now last }
         ensures { IsThinned (IsOrdered (walked walk.now)) last self.old.list.items self.new.list.items }
     {
         drop_end(&mut self.list, last, walk);
-        drop_recent(&mut self.list, last, walk);
+        drop_one(&mut self.list, last, walk);
     }
 
     /// Adds a step.

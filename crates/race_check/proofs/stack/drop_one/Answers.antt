@@ -4,7 +4,7 @@ use Rattle.run_walk.specs.Ordered.{IsOrdered}
 use Rattle.run_walk.specs.Walks.{walked}
 use Rattle.race_check.specs.Safe.{IsThinned}
 use Rattle.race_check.proofs.StackLaws.{ascend-remove, thinned_one}
-use Rattle.race_check.proofs.stack.drop_recent.Goals as goal
+use Rattle.race_check.proofs.stack.drop_one.Goals as goal
 
 pub returns-in-Some-clause-thinned : goal.returns-in-Some-clause-thinned
 returns-in-Some-clause-thinned c =
