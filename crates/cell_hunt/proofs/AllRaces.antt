@@ -17,7 +17,7 @@ use Rattle.cell_hunt.specs.Racings.{AreAllRaces, HasSecond, IsLeastRace, IsRacin
 use Rattle.cell_hunt.specs.Runs.{with_step}
 use Rattle.cell_hunt.proofs.Grown.{sites-left}
 
-below-or : (j n : ℕ) → j < n + 1 → (j < n) ⊎ (j ≡ n)
+pub below-or : (j n : ℕ) → j < n + 1 → (j < n) ⊎ (j ≡ n)
 below-or j n low = elim (cases_lt j n) [ inl less ↦ inl less | inr more ↦ inr (omega (arith, low, more)) ]
 
 -- ---- one more step, whatever it races with

@@ -4,7 +4,7 @@ use Rattle.std.specs.Option.{option_map_or}
 use Rattle.std.specs.Prelude.{Option, Some, None, IfSome, IsSomeAnd, is_some, Bool, true, false, ◌⊎◌, option_to_list, slice_get}
 use Rattle.std.proofs.lemmas.Bool.{cases_lt}
 use Rattle.std.proofs.lemmas.Bool.Decides.{nat_tests}
-use Rattle.std.proofs.lemmas.Option.{none-some, same_Some}
+use Rattle.std.proofs.lemmas.Option.{none-some, same_Some, slice_get_within}
 use Rattle.cell_base.specs.declared.steps.Step.{Step}
 use Rattle.cell_base.specs.declared.steps.Step.TheVariants.{Exec, Atomic, Host}
 use Rattle.cell_machine.specs.Spe.{Spe}
@@ -14,50 +14,29 @@ use Rattle.cell_hunt.specs.declared.offers.Keyed.{Keyed}
 use Rattle.cell_machine.specs.Choices.{queued_of}
 use Rattle.cell_hunt.specs.Offers.{IsGreatest, offered, offered_by, offered_by_first, offered_by_queue, offers, queue_length}
 use Rattle.cell_hunt.specs.Bests.{IsBestOf, is_beaten}
-
--- ---- places in a list with one step more
-
-within : (xs : List Step) (k : ℕ) (t : Step) → slice_get xs k ≡ Some t → k < length xs
-within [] k t h = absurd (none-some t h)
-within (x ∷ xs) zero t h = omega arith
-within (x ∷ xs) (suc k) t h = let l = within xs k t h in omega arith
-
-get-old : (xs ys : List Step) (k : ℕ) (t : Step) → slice_get xs k ≡ Some t → slice_get (xs ++ ys) k ≡ Some t
-get-old [] ys k t h = absurd (none-some t h)
-get-old (x ∷ xs) ys zero t h = h
-get-old (x ∷ xs) ys (suc k) t h = get-old xs ys k t h
-
-get-last : (xs : List Step) (s : Step) → slice_get (xs ++ s ∷ []) (length xs) ≡ Some s
-get-last [] s = refl
-get-last (x ∷ xs) s = get-last xs s
-
-get-either : (xs : List Step) (s t : Step) (k : ℕ) → slice_get (xs ++ s ∷ []) k ≡ Some t → (slice_get xs k ≡ Some t) ⊎ ((k ≡ length xs) × (t ≡ s))
-get-either [] s t zero h = inr (refl, sym (same_Some s t h))
-get-either [] s t (suc k) h = absurd (none-some t h)
-get-either (x ∷ xs) s t zero h = inl h
-get-either (x ∷ xs) s t (suc k) h = elim (get-either xs s t k h) [ inl old ↦ inl old | inr new ↦ inr (ap suc new.0, new.1) ]
+use Rattle.cell_hunt.proofs.Places.{get-front, get-last, get-more}
 
 -- ---- one step more
 
 kept : (key : Step → ℕ) (xs : List Step) (b s : Step) → IsGreatest key xs b → key s ≤ key b → IsGreatest key (xs ++ s ∷ []) b
 kept key xs b s best less =
-    let inside = within xs best.index b best.is in
+    let inside = slice_get_within xs best.index b best.is in
     record {
       index = best.index;
-      is = get-old xs (s ∷ []) best.index b best.is;
-      greatest = λ k t h. elim (get-either xs s t k h) [ inl old ↦ best.greatest k t old | inr new ↦ subst (λ x. key x ≤ key b) (sym new.1) less ];
-      first = λ k t before h. elim (get-either xs s t k h) [ inl old ↦ best.first k t before old | inr new ↦ absurd (let e = new.0 in omega (arith, e, before, inside)) ];
+      is = get-front xs (s ∷ []) best.index inside ∙ best.is;
+      greatest = λ k t h. elim (get-more xs s k t h) [ inl old ↦ best.greatest k t old | inr new ↦ subst (λ x. key x ≤ key b) new.1 less ];
+      first = λ k t before h. elim (get-more xs s k t h) [ inl old ↦ best.first k t before old | inr new ↦ absurd (let e = new.0 in omega (arith, e, before, inside)) ];
     }
 
 newest : (key : Step → ℕ) (xs : List Step) (s : Step) → ((k : ℕ) (t : Step) → slice_get xs k ≡ Some t → key t < key s) → IsGreatest key (xs ++ s ∷ []) s
 newest key xs s less = record {
   index = length xs;
   is = get-last xs s;
-  greatest = λ k t h. elim (get-either xs s t k h) [
+  greatest = λ k t h. elim (get-more xs s k t h) [
     | inl old ↦ (let l = less k t old in omega (arith, l))
-    | inr new ↦ (let e : key t ≡ key s = ap key new.1 in omega (arith, e))
+    | inr new ↦ (let e : key s ≡ key t = ap key new.1 in omega (arith, e))
   ];
-  first = λ k t before h. elim (get-either xs s t k h) [ inl old ↦ less k t old | inr new ↦ absurd (let e = new.0 in omega (arith, e, before)) ];
+  first = λ k t before h. elim (get-more xs s k t h) [ inl old ↦ less k t old | inr new ↦ absurd (let e = new.0 in omega (arith, e, before)) ];
 }
 
 -- where its key isn't greater the best stays

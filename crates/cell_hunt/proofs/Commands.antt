@@ -12,7 +12,7 @@ use Rattle.cell_machine.specs.State.{State}
 use Rattle.cell_machine.specs.Moves.{outstanding, parts_in, present}
 use Rattle.cell_machine.specs.Choices.{allowed_of_queued, picked_queued, queued_of, steps_of_queued}
 use Rattle.cell_machine.specs.Run.{Ran, pieces_of, spe_of, state_of, steps_of_number}
-use Rattle.cell_hunt.specs.declared.keys.Keys.{Keys}
+use Rattle.cell_hunt.specs.Keys.{RunKeys}
 use Rattle.cell_hunt.specs.declared.offers.Keyed.{Keyed}
 use Rattle.cell_hunt.specs.declared.strategy.Strategy.{Strategy}
 use Rattle.cell_hunt.specs.Bests.{IsBestOf, is_beaten}
@@ -28,7 +28,7 @@ IsStepOf p c (Exec q) = ⊥
 IsStepOf p c (Atomic q) = ⊥
 IsStepOf p c Host = ⊥
 
-key-same : (m : Ran) (strategy : Strategy) (keys : Keys) (p c : ℕ) (s : Step) → IsStepOf p c s → key_of m strategy keys s ≡ key_of m strategy keys (Retire p c)
+key-same : (m : Ran) (strategy : Strategy) (keys : RunKeys) (p c : ℕ) (s : Step) → IsStepOf p c s → key_of m strategy keys s ≡ key_of m strategy keys (Retire p c)
 key-same m strategy keys p c (Piece q d e k) of = ap (λ x. key_of m strategy keys (Retire x d)) of.0 ∙ ap (λ x. key_of m strategy keys (Retire p x)) of.1
 key-same m strategy keys p c (Elem q d) of = ap (λ x. key_of m strategy keys (Retire x d)) of.0 ∙ ap (λ x. key_of m strategy keys (Retire p x)) of.1
 key-same m strategy keys p c (Retire q d) of = ap (λ x. key_of m strategy keys (Retire x d)) of.0 ∙ ap (λ x. key_of m strategy keys (Retire p x)) of.1
@@ -102,14 +102,14 @@ command-none m p i word number here none = on (queued_of m p i word) refl
     on None e = refl
     on (Some s) e = let of = queued-of m p i word number s here e in absurd (none-some of.command (sym none ∙ of.is))
 
-key-of : (m : Ran) (strategy : Strategy) (keys : Keys) (p i word c : ℕ) (number : Option ℕ) (s : Step) → IsSomeAnd (spe_of m p) (λ P. number ≡ slice_get (outstanding P) i) → number ≡ Some c → queued_of m p i word ≡ Some s
+key-of : (m : Ran) (strategy : Strategy) (keys : RunKeys) (p i word c : ℕ) (number : Option ℕ) (s : Step) → IsSomeAnd (spe_of m p) (λ P. number ≡ slice_get (outstanding P) i) → number ≡ Some c → queued_of m p i word ≡ Some s
     → key_of m strategy keys (Retire p c) ≡ key_of m strategy keys s
 key-of m strategy keys p i word c number s here some picked =
     let of = queued-of m p i word number s here picked in
     let same : of.command ≡ c = same_Some of.command c (sym of.is ∙ some) in
     sym (key-same m strategy keys p c s (subst (λ n. IsStepOf p n s) same of.step))
 
-pub command-beaten : (m : Ran) (strategy : Strategy) (keys : Keys) (p i word c k : ℕ) (number : Option ℕ) (xs : List Step) (best : Option Keyed)
+pub command-beaten : (m : Ran) (strategy : Strategy) (keys : RunKeys) (p i word c k : ℕ) (number : Option ℕ) (xs : List Step) (best : Option Keyed)
     → IsSomeAnd (spe_of m p) (λ P. number ≡ slice_get (outstanding P) i) → number ≡ Some c → k ≡ key_of m strategy keys (Retire p c) → is_beaten k best ≡ true
     → IsBestOf (key_of m strategy keys) xs best → IsBestOf (key_of m strategy keys) (xs ++ option_to_list (queued_of m p i word)) best
 command-beaten m strategy keys p i word c k number xs best here some is beaten so_far = on (queued_of m p i word) refl
@@ -123,7 +123,7 @@ command-beaten m strategy keys p i word c k number xs best here some is beaten s
         best-more key xs (option_to_list (queued_of m p i word)) s best (ap option_to_list e)
         (step-beaten key xs best s k (is ∙ key-of m strategy keys p i word c number s here some e) beaten so_far)
 
-pub command-best : (m : Ran) (strategy : Strategy) (keys : Keys) (p i word c k : ℕ) (number : Option ℕ) (xs : List Step) (best : Option Keyed) (s : Step)
+pub command-best : (m : Ran) (strategy : Strategy) (keys : RunKeys) (p i word c k : ℕ) (number : Option ℕ) (xs : List Step) (best : Option Keyed) (s : Step)
     → IsSomeAnd (spe_of m p) (λ P. number ≡ slice_get (outstanding P) i) → number ≡ Some c → k ≡ key_of m strategy keys (Retire p c) → is_beaten k best ≡ false → queued_of m p i word ≡ Some s
     → IsBestOf (key_of m strategy keys) xs best → IsBestOf (key_of m strategy keys) (xs ++ option_to_list (queued_of m p i word)) (Some (record { key = k; step = s }))
 command-best m strategy keys p i word c k number xs best s here some is beaten picked so_far =
@@ -131,6 +131,6 @@ command-best m strategy keys p i word c k number xs best s here some is beaten p
     best-more key xs (option_to_list (queued_of m p i word)) s (Some (record { key = k; step = s })) (ap option_to_list picked)
     (step-best key xs best s k (is ∙ key-of m strategy keys p i word c number s here some picked) beaten so_far)
 
-pub command-kept : (m : Ran) (strategy : Strategy) (keys : Keys) (p i word : ℕ) (xs : List Step) (best : Option Keyed) → queued_of m p i word ≡ None
+pub command-kept : (m : Ran) (strategy : Strategy) (keys : RunKeys) (p i word : ℕ) (xs : List Step) (best : Option Keyed) → queued_of m p i word ≡ None
     → IsBestOf (key_of m strategy keys) xs best → IsBestOf (key_of m strategy keys) (xs ++ option_to_list (queued_of m p i word)) best
 command-kept m strategy keys p i word xs best none so_far = best-same (key_of m strategy keys) xs (option_to_list (queued_of m p i word)) best (ap option_to_list none) so_far

@@ -1,5 +1,5 @@
 -- What holds of the first steps of a run when more are made.
-use Rattle.std.proofs.Common.{◌≡◌, ℕ, zero, suc, ◌<◌, ◌≤◌, ap, refl, sym, subst, ◌∙◌, arith, List, [], ◌∷◌, ◌++◌, length}
+use Rattle.std.proofs.Common.{◌≡◌, ℕ, ◌<◌, ◌≤◌, ap, sym, subst, ◌∙◌, arith, List, [], ◌∷◌, ◌++◌, length}
 use Rattle.std.specs.Prelude.{IfSome, slice_get, count_by}
 use Rattle.std.proofs.lemmas.List.{take-append-le, take_all}
 use Rattle.std.proofs.lemmas.Option.{slice_get_within}
@@ -11,11 +11,7 @@ use Rattle.cell_hunt.specs.declared.site.Site.{Site}
 use Rattle.cell_hunt.specs.declared.site.Sites.{Sites}
 use Rattle.cell_hunt.specs.Goings.{with_steps}
 use Rattle.cell_hunt.specs.Sites.{AreSites, HasPc, IsOrigin, IsSite, Issues, actions_before, is_action, up_to}
-
-pub get-front : {A : Type 0} (xs ys : List A) (k : ℕ) → k < length xs → slice_get (xs ++ ys) k ≡ slice_get xs k
-get-front [] ys k low = absurd (omega (arith, low))
-get-front (x ∷ xs) ys zero low = refl
-get-front (x ∷ xs) ys (suc k) low = get-front xs ys k (omega (arith, low))
+use Rattle.cell_hunt.proofs.Places.{get-front}
 
 -- what a run was up to a place is left as it was
 pub up_to-left : (m n : Ran) (more : List Step) (k : ℕ) → n ≡ with_steps m more → k ≤ length m.steps → up_to n k ≡ up_to m k

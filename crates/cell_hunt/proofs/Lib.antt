@@ -12,5 +12,6 @@ mod Grown
 mod Kept
 mod Knowing
 mod AllRaces
+mod AllEndings
 mod Touching
 mod Untouched

@@ -5,7 +5,7 @@ use Rattle.std.specs.List.{range_with_len}
 use Rattle.std.specs.Option.{option_and_then, option_map_or}
 use Rattle.std.proofs.lemmas.Nat.{mod_below}
 use Rattle.std.proofs.lemmas.Bool.{cases_lt}
-use Rattle.std.proofs.lemmas.Option.{none-some, slice_get-get_or}
+use Rattle.std.proofs.lemmas.Option.{slice_get-get_or, slice_get_within}
 use Rattle.std.proofs.lemmas.Bool.Decides.{nat_tests}
 use Rattle.cell_base.specs.declared.steps.Actor.{Actor}
 use Rattle.cell_base.specs.declared.steps.Actor.TheVariants.{Spu, Mfc, Host as TheHost}
@@ -52,11 +52,6 @@ filter_both t (x ∷ xs) ys a b = on (t x) refl a (λ h. filter_both t xs ys h b
 filter_flat : (t : Step → Bool) (f : ℕ → List Step) (cs : List ℕ) → ((i c : ℕ) → slice_get cs i ≡ Some c → filter t (f c) ≡ []) → filter t (flat_map f cs) ≡ []
 filter_flat t f [] none = refl
 filter_flat t f (c ∷ cs) none = filter_both t (f c) (flat_map f cs) (none 0 c refl) (filter_flat t f cs (λ i d at. none (suc i) d at))
-
-index_within : (cs : List ℕ) (i c : ℕ) → slice_get cs i ≡ Some c → i < length cs
-index_within [] i c h = absurd (none-some c h)
-index_within (x ∷ cs) zero c h = omega arith
-index_within (x ∷ cs) (suc i) c h = let l = index_within cs i c h in omega arith
 
 -- ---- nobody has a step
 
@@ -127,7 +122,7 @@ controller_none m M word p P at spe atomic queue =
     let count : queue_length m p ≡ length (outstanding P) = ap (λ o. option_map_or (λ (Q : Spe). length (outstanding Q)) o 0) (spe_is is) in
     ap (λ o. filter (λ s. is_some (next M s)) (option_map_or (steps_of_mfc p) o [])) spe
     ∙ first_off (flat_map (steps_of_number p P) (outstanding P)) (not_next m M (Atomic p) at atomic) (filter_flat (λ t. is_some (next M t)) (steps_of_number p P) (outstanding P) (λ i c there.
-    command_none m M word p i c P at spe there (queue_none m word p (queue_length m p) i queue (let l = index_within (outstanding P) i c there in omega (arith, l, count)))))
+    command_none m M word p i c P at spe there (queue_none m word p (queue_length m p) i queue (let l = slice_get_within (outstanding P) i c there in omega (arith, l, count)))))
   where
     spe_is : state_of m ≡ Some M → spe_of m p ≡ Some P
     spe_is is = ap (λ o. option_and_then (λ (N : State). slice_get N.spes p) o) is ∙ spe

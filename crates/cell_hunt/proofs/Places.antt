@@ -1,7 +1,12 @@
 -- What stands at a place of a list that grew.
-use Rattle.std.proofs.Common.{◌≡◌, ℕ, zero, suc, ap, refl, List, [], ◌∷◌, ◌++◌, length, inl, inr}
+use Rattle.std.proofs.Common.{◌≡◌, ℕ, zero, suc, ◌<◌, ap, refl, arith, List, [], ◌∷◌, ◌++◌, length, inl, inr}
 use Rattle.std.specs.Prelude.{Some, ◌⊎◌, slice_get}
 use Rattle.std.proofs.lemmas.Option.{none-some, same_Some}
+
+pub get-front : {A : Type 0} (xs ys : List A) (k : ℕ) → k < length xs → slice_get (xs ++ ys) k ≡ slice_get xs k
+get-front [] ys k low = absurd (omega (arith, low))
+get-front (x ∷ xs) ys zero low = refl
+get-front (x ∷ xs) ys (suc k) low = get-front xs ys k (omega (arith, low))
 
 pub get-last : {A : Type 0} (xs : List A) (x : A) → slice_get (xs ++ x ∷ []) (length xs) ≡ Some x
 get-last [] x = refl

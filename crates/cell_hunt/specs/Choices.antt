@@ -4,11 +4,11 @@ use Rattle.cell_base.specs.declared.steps.Step.{Step}
 use Rattle.cell_machine.specs.Run.{Ran, picked_of}
 use Rattle.rand_pcg.specs.Lcg.{Lcg, started, increment_of}
 use Rattle.rand_pcg.specs.Pcg.{pcg32, multiplier_64}
-use Rattle.cell_hunt.specs.declared.keys.Keys.{Keys}
+use Rattle.cell_hunt.specs.declared.keys.TheConstants.{ABOVE_KEYS}
 use Rattle.cell_hunt.specs.declared.strategy.Strategy.{Strategy}
 use Rattle.cell_hunt.specs.Mixing.{with_number}
 use Rattle.cell_hunt.specs.Strategies.{actor_drawn, strategy_at}
-use Rattle.cell_hunt.specs.Keys.{key_at, opened as opened_keys, place_of, with_base, with_lowered}
+use Rattle.cell_hunt.specs.Keys.{key_at, opened as opened_keys, place_of, with_base, with_lowered, RunKeys}
 use Rattle.cell_hunt.specs.Locals.{going_on}
 use Rattle.cell_hunt.specs.Polls.{is_poll}
 use Rattle.cell_hunt.specs.Offers.{offers, IsGreatest}
@@ -21,7 +21,7 @@ pub record Choices : Type 0 where
   pub rate : ℕ
   -- the random words that are still to come, each of 32 bits
   pub words : Lcg
-  pub keys : Keys
+  pub keys : RunKeys
 
 -- run `run` of a seed: the state of its generator is made of both numbers, and the run's number is its stream
 abbrev pub words_of : ℕ → ℕ → Lcg
@@ -40,18 +40,18 @@ opened strategy g = record {
   strategy = strategy;
   rate = strategy.least_rate + word_of (after_word g) % 8;
   words = after_word (after_word g);
-  keys = opened_keys (word_of g);
+  keys = opened_keys strategy (word_of g);
 }
 
 -- ---- keys
 
--- the key of a step; polls are below all others where they come last
-abbrev pub key_of : Ran → Strategy → Keys → Step → ℕ
+-- the key of a step; polls are below all others if they come last
+abbrev pub key_of : Ran → Strategy → RunKeys → Step → ℕ
 key_of m strategy keys s =
-    if strategy.polls_last && is_poll m s then key_at strategy keys s else 2 ^ 41 + key_at strategy keys s
+    if strategy.polls_last && is_poll m s then key_at strategy keys (place_of s) else ABOVE_KEYS + key_at strategy keys (place_of s)
 
 -- of the steps among which a word lets choose, this one has the greatest key
-abbrev pub IsBest : Ran → Strategy → ℕ → Keys → Step → Type 0
+abbrev pub IsBest : Ran → Strategy → ℕ → RunKeys → Step → Type 0
 IsBest m strategy word keys s = IsGreatest (key_of m strategy keys) (offers m word) s
 
 -- the key of who would make the next step is lowered
@@ -73,10 +73,11 @@ abbrev pub IsMade : Bool → Ran → Strategy → ℕ → Choices → Step → C
 IsMade true m strategy word c s left = IsLowered m strategy word c s left
 IsMade false m strategy word c s left = IsTop m strategy word c s left
 
--- the choices after the next word, which has the chance of 2^-rate to lower the greatest key
+-- the choices after their next word is taken
 abbrev pub with_word : Choices → Choices
 with_word c = record c { words = after_word c.words }
 
+-- whether the next word lowers the greatest key, with a chance of 2^-rate
 abbrev pub lowers : Choices → Bool
 lowers c = nat_lt (word_of c.words) (2 ^ (32 - c.rate))
 

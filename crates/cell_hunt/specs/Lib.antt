@@ -13,6 +13,7 @@ pub mod Outcomes
 pub mod Sites
 pub mod Origins
 pub mod Racings
+pub mod Endings
 pub mod Kinds
 pub mod Touched
 pub mod SoFar

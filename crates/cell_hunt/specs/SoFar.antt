@@ -1,12 +1,14 @@
 -- What is kept of a run as it is made.
-use Rattle.std.specs.Prelude.{ℕ, ◌<◌, List, Option, Some, None, All}
+use Rattle.std.specs.Prelude.{ℕ, ◌<◌, List, length, Option, Some, None, All}
 use Rattle.std.specs.List.{AllPairs}
 use Rattle.cell_machine.specs.Run.{Ran}
 use Rattle.race_check.specs.Races.{IsLeast}
 use Rattle.race_check.specs.Searches.{Keeps, run_of}
 use Rattle.race_check.specs.Walks.{RaceIn}
+use Rattle.cell_hunt.specs.declared.ending.Ended.{Ended}
 use Rattle.cell_hunt.specs.declared.so_far.SoFar.{SoFar}
 use Rattle.cell_hunt.specs.declared.racing.Racing.{Racing}
+use Rattle.cell_hunt.specs.Endings.{EndsAt, HasEnding, IsEnding}
 use Rattle.cell_hunt.specs.Origins.{Knows}
 use Rattle.cell_hunt.specs.Racings.{HasSecond, IsRacing}
 use Rattle.cell_hunt.specs.Sites.{AreSites}
@@ -27,10 +29,18 @@ pub record AreRacesTo (n : ℕ) (m : Ran) (races : List Racing) : Type 0 where
   pub all : (i j : ℕ) → j < n → RaceIn m i j → HasSecond races j
   pub ascend : AllPairs (λ a b. a.second < b.second) races
 
--- the search can go on, and what is kept tells where the steps so far come from, what they touched, and the races of the first n
+-- an entry for each of the first n steps with which a processor ends, in their order
+pub record AreEndingsTo (n : ℕ) (m : Ran) (endings : List Ended) : Type 0 where
+  pub each : All (IsEnding m) endings
+  pub below : All (λ e. e.step < n) endings
+  pub all : (place : ℕ) → place < n → EndsAt m place → HasEnding endings place
+  pub ascend : AllPairs (λ a b. a.step < b.step) endings
+
+-- the search can go on, and what is kept has where the steps so far come from, what they touched, with which of them processors end, and the races of the first n
 pub record IsSearchedTo (n : ℕ) (so_far : SoFar) : Type 0 where
   pub keeps : Keeps so_far.search
   pub knows : Knows (made_by so_far) so_far.origins
   pub least : IsLeastTo n (made_by so_far) so_far.least
   pub all : AreRacesTo n (made_by so_far) so_far.races.items
   pub touched : HasTouched (made_by so_far) so_far.touched
+  pub endings : AreEndingsTo (length (made_by so_far).steps) (made_by so_far) so_far.endings.items

@@ -1,10 +1,10 @@
 //! Which step a run makes next.
 
 ghost use Rattle.std.specs.Prelude.{◌≡◌, ◌+◌, ◌-◌, ◌^◌, ◌<◌, nat_lt, length, IfSome, IfNone, IsSome};
-ghost use Rattle.cell_machine.specs.Run.{next_of};
-ghost use Rattle.cell_hunt.specs.Choices.{IsChosen, IsDrawn, IsMade, IsWalked, lowers, opened, walked, with_word, words_of};
+ghost use Rattle.cell_machine.specs.Run.{next_of, picked_of};
+ghost use Rattle.cell_hunt.specs.Choices.{IsChosen, IsDrawn, IsMade, IsWalked, after_word, lowers, opened, walked, with_word, word_of, words_of};
 ghost use Rattle.cell_hunt.specs.Ends.{IsOver};
-ghost use Rattle.cell_hunt.specs.Strategies.{strategy_of};
+ghost use Rattle.cell_hunt.specs.Strategies.{actor_drawn, strategy_of};
 
 use crate::keys::Keys;
 use crate::locals::going_on;
@@ -47,14 +47,23 @@ fn is_lowering(word: u32, rate: u32) -> bool
     u64::from(word) < 1u64 << 32u32.saturating_sub(rate)
 }
 
+/// The step of the actor that the next word draws, if it has one; `word` picks among its steps.
+fn drawn(words: &mut Pcg32, machine: &Machine, strategy: Strategy, word: u32) -> Option<Step>
+    ensures step { result ≡ picked_of machine.now (actor_drawn strategy (length machine.now.setup.entries) (word_of words.old)) word }
+    ensures words { words.new ≡ after_word words.old }
+    ensures allowed { IfSome result (λ s. IsSome (next_of machine.now s)) }
+{
+    let actor = strategy.actor(machine.setup().spes(), words.next_word());
+    machine.pick(actor, u64::from(word))
+}
+
 /// The step of the first actor drawn that has one. A word draws each actor, and `word` picks among the steps of one.
 fn first_drawn(words: &mut Pcg32, machine: &Machine, strategy: Strategy, word: u32) -> Option<Step>
     ensures drawn { (result ≡ (walked machine.now strategy word 8 words.old).step) × (words.new ≡ (walked machine.now strategy word 8 words.old).words) }
     ensures allowed { IfSome result (λ s. IsSome (next_of machine.now s)) }
 {
     for _ in 0..TRIES {
-        let actor = strategy.actor(machine.setup().spes(), words.next_word());
-        let step = machine.pick(actor, u64::from(word));
+        let step = drawn(words, machine, strategy, word);
         if step.is_some() {
             return step;
         }
@@ -75,7 +84,7 @@ impl Chooser {
             strategy,
             rate,
             words,
-            keys: Keys::new(u64::from(base)),
+            keys: Keys::new(strategy, u64::from(base)),
         }
     }
 

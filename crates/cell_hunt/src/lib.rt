@@ -8,6 +8,7 @@
 
 mod alone;
 mod chooser;
+mod ending;
 mod error;
 mod keys;
 mod locals;
@@ -26,6 +27,7 @@ mod touched;
 mod touches;
 
 pub use alone::machine_of_seed;
+pub use ending::Ended;
 pub use error::HuntError;
 pub use outcome::{Outcome, outcome_of};
 pub use racing::Racing;

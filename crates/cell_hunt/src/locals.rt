@@ -11,7 +11,7 @@ use cell_base::{ChannelOp, Step};
 use cell_machine::{Effect, Machine, Note, Reach};
 
 /// Whether a processor ceases to run.
-fn is_ended(note: Note) -> bool
+pub fn is_ended(note: Note) -> bool
     ensures { result ≡ is_ended note }
 {
     matches!(note, Note::Ended)

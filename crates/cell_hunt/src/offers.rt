@@ -10,14 +10,12 @@ ghost use Rattle.cell_hunt.specs.Ends.{IsOver};
 ghost use Rattle.cell_machine.specs.Choices.{queued_of};
 ghost use Rattle.cell_hunt.specs.Offers.{offered, offered_by, offered_by_queue, queue_length};
 
-use crate::keys::Keys;
+use crate::keys::{ABOVE_KEYS, Keys};
+use crate::owners::place_of;
 use crate::polls::is_poll;
 use crate::strategy::Strategy;
 use cell_base::{Actor, Step};
 use cell_machine::Machine;
-
-/// How much the key of a step is above that of a poll, if polls come last.
-const ABOVE_POLLS: u64 = 1 << 41;
 
 /// A step and its key.
 #[derive(Clone, Copy)]
@@ -30,11 +28,11 @@ pub struct Keyed {
 fn key_of(machine: &Machine, strategy: Strategy, keys: &Keys, step: Step) -> u64
     ensures { result ≡ key_of machine.now strategy keys.now step }
 {
-    let key = keys.key(strategy, step);
+    let key = keys.key(strategy, place_of(step));
     if strategy.polls_last && is_poll(machine, step) {
         key
     } else {
-        ABOVE_POLLS + key
+        ABOVE_KEYS + key
     }
 }
 

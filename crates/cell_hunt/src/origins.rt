@@ -190,7 +190,7 @@ impl Origins {
     }
 
     /// The site of the step at a place.
-    fn site(&self, machine: &Machine, place: u32) -> Site
+    pub fn site(&self, machine: &Machine, place: u32) -> Site
         requires knows { Knows machine.now self.now }
         requires inside { place < length machine.now.steps }
         ensures { IsSite machine.now place result }

@@ -4,6 +4,7 @@ ghost use Rattle.std.specs.Prelude.{◌≡◌, ◌<◌, [], length, Some, IfOk, 
 ghost use Rattle.cell_machine.specs.Run.{Ran, EndsAs};
 ghost use Rattle.race_check.specs.declared.check.Verdict.{Verdict as AVerdict};
 ghost use Rattle.race_check.specs.Races.{IsVerdict};
+ghost use Rattle.cell_hunt.specs.Endings.{AreAllEndings};
 ghost use Rattle.cell_hunt.specs.Ends.{IsOver};
 ghost use Rattle.cell_hunt.specs.Outcomes.{TellsRace};
 ghost use Rattle.cell_hunt.specs.SoFar.{IsSearchedTo, made_by};
@@ -13,6 +14,7 @@ ghost use Rattle.cell_hunt.specs.Goings.{Goes};
 ghost use Rattle.cell_hunt.specs.Kinds.{kind_of};
 
 use crate::chooser::Chooser;
+use crate::ending::Ended;
 use crate::error::HuntError;
 use crate::racing::Racing;
 use crate::site::Sites;
@@ -27,6 +29,7 @@ pub struct SeedRun {
     machine: Machine,
     least: Option<Racing>,
     races: Vec<Racing>,
+    endings: Vec<Ended>,
     kind: u64,
 }
 
@@ -39,9 +42,10 @@ impl Model for SeedRun {
     ghost view = { λ r. r.machine };
 
     ghost use Rattle.std.specs.Prelude.{◌≡◌};
+    ghost use Rattle.cell_hunt.specs.Endings.{AreAllEndings};
     ghost use Rattle.cell_hunt.specs.Kinds.{kind_of};
 
-    ghost invariant = { λ r. IsSearched r.machine r.least r.races.items × (r.kind ≡ kind_of r.machine) };
+    ghost invariant = { λ r. IsSearched r.machine r.least r.races.items × (r.kind ≡ kind_of r.machine) × AreAllEndings r.machine r.endings.items };
 }
 
 impl SeedRun {
@@ -75,6 +79,13 @@ impl SeedRun {
         ensures { AreAllRaces self.now result.now }
     {
         self.races.as_slice()
+    }
+
+    /// The steps with which its processors end, in their order.
+    pub fn endings(&self) -> &[Ended]
+        ensures { AreAllEndings self.now result.now }
+    {
+        self.endings.as_slice()
     }
 
     /// The digest of its kind.
@@ -120,6 +131,7 @@ pub fn run_of_seed(alloc: Global, setup: &Setup, seed: u64, run: u32) -> Result<
         machine: so_far.search.into_machine(),
         least: so_far.least,
         races: so_far.races,
+        endings: so_far.endings,
         kind,
     })
 }

@@ -5,14 +5,18 @@ ghost use Rattle.cell_machine.specs.Effects.{effect_in};
 ghost use Rattle.cell_machine.specs.Run.{next_of};
 ghost use Rattle.race_check.specs.Races.{IsLatest};
 ghost use Rattle.race_check.specs.Walks.{RaceIn};
+ghost use Rattle.cell_hunt.specs.Endings.{HasNote};
+ghost use Rattle.cell_hunt.specs.Origins.{Knows};
 ghost use Rattle.cell_hunt.specs.Runs.{with_step};
 
+use crate::ending::Ended;
 use crate::error::HuntError;
+use crate::locals::is_ended;
 use crate::origins::Origins;
 use crate::racing::Racing;
 use crate::touched::Touched;
 use cell_base::Step;
-use cell_machine::{Effect, Setup};
+use cell_machine::{Effect, Note, Setup};
 use race_check::Search;
 use std::alloc::Global;
 
@@ -24,10 +28,11 @@ pub struct SoFar {
     pub least: Option<Racing>,
     pub races: Vec<Racing>,
     pub touched: Touched,
+    pub endings: Vec<Ended>,
 }
 
 impl SoFar {
-    ghost use Rattle.cell_hunt.specs.SoFar.{IsLeastTo, IsSearchedTo, made_by};
+    ghost use Rattle.cell_hunt.specs.SoFar.{AreEndingsTo, IsLeastTo, IsSearchedTo, made_by};
 
     /// Before the first step of a run.
     pub fn new(alloc: Global, setup: &Setup) -> Result<SoFar, HuntError>
@@ -42,6 +47,7 @@ impl SoFar {
             least: None,
             races: Vec::new(alloc),
             touched: Touched::new(alloc, setup.lines()),
+            endings: Vec::new(alloc),
         })
     }
 
@@ -83,6 +89,22 @@ impl SoFar {
         Ok(())
     }
 
+    /// Takes in the last step, which is at this place and has this note, if a processor ends with it.
+    fn add_ending(&mut self, note: Note, place: u32) -> Result<(), HuntError>
+        requires knows { Knows (made_by self.old) self.old.origins }
+        requires last { place + 1 ≡ length (made_by self.old).steps }
+        requires note { HasNote (made_by self.old) place note }
+        requires endings { AreEndingsTo place (made_by self.old) self.old.endings.items }
+        ensures rest { OnOk result (self.new ≡ record self.old { endings = self.new.endings }) }
+        ensures endings { OnOk result (AreEndingsTo (place + 1) (made_by self.old) self.new.endings.items) }
+    {
+        if is_ended(note) {
+            let site = self.origins.site(self.search.machine(), place);
+            self.endings.push(Ended { step: place, site })?;
+        }
+        Ok(())
+    }
+
     /// Makes the next step of the run, which is the one at this place and has this effect.
     pub fn advance(&mut self, step: Step, effect: &Effect, place: u32) -> Result<(), HuntError>
         requires allowed { IsSome (next_of (made_by self.old) step) }
@@ -96,7 +118,9 @@ impl SoFar {
         self.origins
             .add(self.search.machine(), step, effect, place)?;
         self.touched.add(step, effect)?;
-        let Some(latest) = self.search.go_on(step, effect)? else {
+        let latest = self.search.go_on(step, effect)?;
+        self.add_ending(effect.note, place)?;
+        let Some(latest) = latest else {
             return Ok(());
         };
         self.add_race(latest, place)?;

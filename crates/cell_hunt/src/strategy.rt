@@ -4,8 +4,8 @@ ghost use Rattle.std.specs.Prelude.{◌≡◌, ◌*◌, ◌<◌, ◌≤◌, nat_
 ghost use Rattle.cell_hunt.specs.Keys.{key_weight};
 ghost use Rattle.cell_hunt.specs.Strategies.{actor_drawn, strategy_at, strategy_of, weight_of};
 
-use crate::owners::is_queued;
-use cell_base::{Actor, Step};
+use crate::owners::FIRST_QUEUED;
+use cell_base::Actor;
 
 /// How the order of a run is chosen.
 #[derive(Clone, Copy)]
@@ -87,15 +87,15 @@ impl Strategy {
         if self.late { 16 } else { 1 }
     }
 
-    /// The weight of a step's key: a queued command has 1, and the others have as much as in a walk.
-    pub fn key_weight(self, step: Step) -> u64
-        ensures weight { result ≡ key_weight self step }
+    /// The weight of the key at a place: a queued command has 1, and the others have as much as in a walk.
+    pub fn key_weight(self, place: u16) -> u64
+        ensures weight { result ≡ key_weight self place }
         ensures small { result < 17 }
     {
-        if is_queued(step) {
-            1
-        } else {
+        if place < FIRST_QUEUED {
             u64::from(self.weight())
+        } else {
+            1
         }
     }
 

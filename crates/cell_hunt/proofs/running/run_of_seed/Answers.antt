@@ -1,9 +1,11 @@
 use Rattle.std.proofs.Common.{◌≡◌, rules, sym, subst, ◌∙◌}
+use Rattle.cell_hunt.specs.Endings.{AreAllEndings}
 use Rattle.cell_hunt.specs.Ends.{IsOver}
 use Rattle.cell_hunt.specs.Kinds.{kind_of}
 use Rattle.cell_hunt.specs.Racings.{IsSearched}
 use Rattle.cell_hunt.specs.SoFar.{made_by}
 use Rattle.race_check.proofs.Accepted.{search-told}
+use Rattle.cell_hunt.proofs.AllEndings.{all-endings}
 use Rattle.cell_hunt.proofs.AllRaces.{all-races, least-race}
 use Rattle.cell_hunt.proofs.Determined.{run-one}
 use Rattle.cell_hunt.proofs.Touching.{kind_is}
@@ -15,9 +17,10 @@ invariant_of-result c =
     let m = made_by so_far in
     let searched = c.in_ok-make_all.ensures.searched in
     let is = search-told so_far.search searched.keeps in
-    subst (λ r. IsSearched r so_far.least so_far.races.items × (c.kind-kind.result ≡ kind_of r)) (sym c.into_machine.ensures) (
+    subst (λ r. IsSearched r so_far.least so_far.races.items × (c.kind-kind.result ≡ kind_of r) × AreAllEndings r so_far.endings.items) (sym c.into_machine.ensures) (
       record { over = c.in_ok-make_all.ensures.over; is_least = least-race m is so_far.least searched.least; are_all = all-races m is so_far.races.items searched.all },
       c.kind-kind.ensures ∙ kind_is m so_far.touched searched.touched,
+      all-endings m so_far.endings.items searched.endings,
     )
 
 pub returns-clause-only : goal.returns-clause-only

@@ -1,4 +1,4 @@
-use Rattle.std.proofs.Common.{refl, sym, subst}
+use Rattle.std.proofs.Common.{length, refl, sym, subst}
 use Rattle.race_check.specs.Races.{IsLatest}
 use Rattle.race_check.specs.Searches.{Keeps}
 use Rattle.race_check.specs.Walks.{RaceIn}
@@ -6,7 +6,7 @@ use Rattle.cell_hunt.specs.declared.racing.Racing.{Racing}
 use Rattle.cell_hunt.specs.declared.so_far.SoFar.{SoFar}
 use Rattle.cell_hunt.specs.Origins.{Knows}
 use Rattle.cell_hunt.specs.Sites.{AreSites}
-use Rattle.cell_hunt.specs.SoFar.{AreRacesTo, made_by}
+use Rattle.cell_hunt.specs.SoFar.{AreEndingsTo, AreRacesTo, made_by}
 use Rattle.cell_hunt.specs.Touched.{HasTouched}
 use Rattle.cell_hunt.proofs.AllRaces.{races-more}
 use Rattle.cell_hunt.proofs.so_far.SoFar.add_race.Goals as goal
@@ -26,4 +26,5 @@ returns-clause-searched c =
       least = c.add_least.ensures.least;
       all = subst (AreRacesTo _ m) (sym c.in_ok-push.ensures.items) (races-more m c.args.second old.races.items r refl record { latest = latest; sites = sites } races);
       touched = subst (λ (s : SoFar). HasTouched (made_by s) s.touched) same c.requires.searched.touched;
+      endings = subst (λ (s : SoFar). AreEndingsTo (length (made_by s).steps) (made_by s) s.endings.items) same c.requires.searched.endings;
     }

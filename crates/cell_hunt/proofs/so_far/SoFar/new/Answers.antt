@@ -1,8 +1,10 @@
-use Rattle.std.proofs.Common.{ap, sym, subst, ◌∙◌, rules}
+use Rattle.std.proofs.Common.{ap, length, sym, subst, ◌∙◌, rules}
 use Rattle.cell_machine.specs.Run.{Ran}
 use Rattle.race_check.specs.Searches.{run_of}
 use Rattle.cell_hunt.specs.Kinds.{touchable, touches_in}
+use Rattle.cell_hunt.specs.SoFar.{AreEndingsTo}
 use Rattle.cell_hunt.specs.Touched.{AreDigests, HasTouched}
+use Rattle.cell_hunt.proofs.AllEndings.{endings-begun}
 use Rattle.cell_hunt.proofs.Touching.{none_touched}
 use Rattle.cell_hunt.proofs.so_far.SoFar.new.Goals as goal
 
@@ -13,4 +15,5 @@ returns-clause-searched c =
       long = c.new-4.ensures.long ∙ ap touchable c.lines.ensures ∙ ap (λ (r : Ran). touchable r.setup.lines) (sym made);
       are = subst (λ all. AreDigests all c.new-4.result.digests) (sym (ap touches_in made ∙ none_touched c.args.setup.now)) c.new-4.ensures.none;
     } in
-    record { keeps = search rules; knows = search rules; least = search rules; all = search rules; touched = touched }
+    let endings = subst (AreEndingsTo (length (run_of c.in_ok-search.search).steps) (run_of c.in_ok-search.search)) (sym c.new-5.ensures.items) (endings-begun (run_of c.in_ok-search.search) (ap (λ (r : Ran). r.steps) made)) in
+    record { keeps = search rules; knows = search rules; least = search rules; all = search rules; touched = touched; endings = endings }
