@@ -167,14 +167,25 @@ class Race:
 
 
 @dataclasses.dataclass(frozen=True)
+class Finding:
+    """A failure that `runs` runs have, and the number of the first of them. `kind` is race, halt, fault, deadlock, budget or missed; `lines` are those that a
+    report prints of it: source lines for most kinds, and for a race the suppression too."""
+    kind: str
+    runs: int
+    first: int
+    lines: Tuple[str, ...]
+
+
+@dataclasses.dataclass(frozen=True)
 class Hunt:
-    """What many runs tell. `flaws` has how many have a race, are stuck, spent the budget, have a fault or a halt, or miss an expected line; `endings` how they
-    end, and `results` what those of an ending leave, by both, each with how many. `text` is what `hunt --json` prints."""
+    """The report on many runs. `flaws` has how many have a race, are stuck, spent the budget, have a fault or a halt, or miss an expected line, and `findings`
+    each failure; `endings` how they end, and `results` what those of an ending leave, by both, each with how many. `text` is what `hunt --json` prints."""
     text: str
     runs: int
     seed: int
     flaws: Dict[str, Count]
     races: Tuple[Race, ...]
+    findings: Tuple[Finding, ...]
     endings: Dict[str, Count]
     results: Dict[Tuple[str, str], Count]
 
@@ -198,13 +209,19 @@ def race_of(line: Json) -> Race:
     return Race(first, second, count_of(line))
 
 
+def finding_of(line: Json) -> Finding:
+    shown = line["shown"].encode("latin-1").decode("utf-8", "surrogateescape")  # it has a character a byte
+    return Finding(line["finding"], line["runs"], line["first"], tuple(text[2:] for text in shown.split("\n")[:-1]))
+
+
 def hunt_of(text: str) -> Hunt:
     head, *told = map(json.loads, text.splitlines())
     flaws = {name: count_of(members) for name, members in head.items() if isinstance(members, dict) and "runs" in members}
     races = tuple(race_of(line) for line in told if "race" in line)
     endings = {line["end"]: count_of(line) for line in told if "end" in line and "result" not in line}
     results = {(line["end"], line["result"]): count_of(line) for line in told if "result" in line}
-    return Hunt(text, head["runs"], head["seed"], flaws, races, endings, results)
+    findings = tuple(finding_of(line) for line in told if "finding" in line)
+    return Hunt(text, head["runs"], head["seed"], flaws, races, findings, endings, results)
 
 
 # ---- traces

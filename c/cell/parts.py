@@ -4,7 +4,8 @@ import re
 from typing import Any, Dict, Iterator, List, Tuple
 
 COUNTED = re.compile(r'(.*),"runs":(\d+),"first":(\d+|null)\}')
-ORDER = ("race", "end", "result", "missed")  # of the lines between the first and the last
+ORDER = ("race", "end", "result", "missed", "finding")  # of the lines between the first and the last
+KEYED = ("race", "finding")  # lines with a member `key`, by which two of them are the same
 SUMS = ("runs", "all_stopped", "left_out", "steps")  # numbers of the first line that are added; others are the same in each part
 
 Json = Dict[str, Any]
@@ -20,7 +21,7 @@ def together(first: Json, second: Json) -> Json:
 
 
 class Line:
-    """A line of a race, an ending, a result or a missed line, with its count."""
+    """A line between the first and the last, with its count."""
 
     def __init__(self, front: str, runs: int, first: int) -> None:
         self.front, self.runs, self.first = front, runs, first
@@ -79,10 +80,8 @@ def parts_of(text: str) -> Tuple[str, str, str]:
 
 
 def told_by(front: str) -> Tuple[str, str]:
-    """Which kind of line this is, and by what two of that kind are the same: a race by its key, others by all that is before their counts."""
-    if front.startswith('{"race"'):
-        return "race", json.loads(f"{front}}}")["key"]
-    names: List[str] = [kind for kind in ("result", "end", "missed") if front.startswith(f'{{"{kind}"')]
+    """Which kind of line this is, and by what two of that kind are the same: those that have a key by that, others by all that is before their counts."""
+    names: List[str] = [kind for kind in ORDER if front.startswith(f'{{"{kind}"')]
     if not names:
         raise ValueError(f"an unknown line of a hunt: {front}")
-    return names[0], front
+    return names[0], json.loads(f"{front}}}")["key"] if names[0] in KEYED else front

@@ -15,6 +15,7 @@ use Rattle.cell_hunt.specs.Outcomes.{IsOutcome}
 use Rattle.cell_hunt.specs.declared.site.Sites.{Sites}
 use Rattle.reorder_laws.specs.Settled.{IsSettled}
 use Rattle.hunt_tally.specs.Reports.{Reported, Sums, steps_of, hunted, is_flawed}
+use Rattle.hunt_texts.specs.About.{Facts}
 use Rattle.hunt_texts.specs.Texts.{hunt_text}
 use Rattle.hunt_texts.specs.Jsons.{hunt_json}
 use Rattle.hunt_reports.specs.declared.asked.Asked.{Asked as Question}
@@ -70,9 +71,21 @@ pub record AreMade (stopped : Bool) (asked : Option ℕ) (reports : List Reporte
 abbrev pub is_by_steps : Option ℕ → Sums → Bool
 is_by_steps asked h = is_none asked && nat_lt h.runs (most_made asked) && ends_at asked h.runs h.steps
 
+-- what the text says of the hunt besides the sums of its runs
+abbrev pub facts_of : Asked → Sums → Facts
+facts_of a h = record {
+  machine = a.machine;
+  tools = a.tools;
+  seed = a.seed;
+  from = a.from;
+  expects = is_some a.expect;
+  by_steps = is_by_steps a.runs h;
+  all = a.all;
+}
+
 -- the text of what was found, in the form that is asked for
 abbrev pub text_by : Asked → Sums → List ℕ
-text_by a h = if a.json then hunt_json h a.seed a.from (is_some a.expect) else hunt_text h a.seed a.from (is_some a.expect) (is_by_steps a.runs h)
+text_by a h = if a.json then hunt_json h a.seed a.from (is_some a.expect) else hunt_text h (facts_of a h)
 
 -- The text tells the reports of the runs that are asked for, of the first ones alone where somebody ended the hunt, and the status whether one of
 -- them has a flaw.

@@ -23,7 +23,7 @@ use cell_hunt::machine_of_seed;
 use cell_io::{Sink, SinkFault, Store};
 use cell_machine::Setup;
 use hunt_tally::Hunted;
-use hunt_texts::{hunt_json, hunt_text};
+use hunt_texts::{About, hunt_json, hunt_text};
 use std::alloc::{AllocError, Global};
 use std::thread::Threads;
 
@@ -56,11 +56,18 @@ fn text_of(alloc: Global, hunted: &Hunted, hunt: &Hunt) -> Result<Vec<u8>, Alloc
 {
     let expects = hunt.expect.is_some();
     if hunt.json {
-        hunt_json(alloc, hunted, hunt.seed, hunt.from, expects)
-    } else {
-        let by_steps = is_by_steps(hunt.runs, hunted);
-        hunt_text(alloc, hunted, hunt.seed, hunt.from, expects, by_steps)
+        return hunt_json(alloc, hunted, hunt.seed, hunt.from, expects);
     }
+    let about = About {
+        machine: hunt.machine.as_bytes(),
+        tools: hunt.tools.as_bytes(),
+        seed: hunt.seed,
+        from: hunt.from,
+        expects,
+        by_steps: is_by_steps(hunt.runs, hunted),
+        all: hunt.all,
+    };
+    hunt_text(alloc, hunted, &about)
 }
 
 /// Makes the runs of a hunt, and takes their reports in: its text, and whether something was found.

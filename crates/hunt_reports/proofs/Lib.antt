@@ -1,4 +1,6 @@
 mod OriginLaws
+mod Running
 pub mod Told
 pub mod Ends
 pub mod Lists
+mod ReportParts

@@ -111,6 +111,7 @@ pub more : (reports : List Reported) (r : Reported) → hunted (reports ++ r ∷
   results = tallied (map result_told reports ++ result_told r ∷ []);
   races = tallied (map (λ (x : Reported). x.races) reports ++ r.races ∷ []);
   missed = tallied (map missed_told reports ++ missed_told r ∷ []);
+  findings = tallied (map (λ (x : Reported). x.findings) reports ++ r.findings ∷ []);
 }
 unfolding hunted flaws_of
 more reports r = λ i. record {
@@ -131,6 +132,7 @@ more reports r = λ i. record {
   results = tallied (map_push result_told reports r i);
   races = tallied (map_push (λ (x : Reported). x.races) reports r i);
   missed = tallied (map_push missed_told reports r i);
+  findings = tallied (map_push (λ (x : Reported). x.findings) reports r i);
 }
 
 -- the sums after a report is taken in, by those before
@@ -150,6 +152,7 @@ pub record IsMore (r : Reported) (old new : Sums) : Type 0 where
   pub results : Took (result_told r) old.results new.results
   pub races : Took r.races old.races new.races
   pub lines : Took (missed_told r) old.missed new.missed
+  pub findings : Took r.findings old.findings new.findings
 
 pub took_report : (r : Reported) (old new : Sums) → IsMore r old new → (reports : List Reported) → old ≡ hunted reports → new ≡ hunted (reports ++ r ∷ [])
 unfolding hunted
@@ -171,6 +174,7 @@ took_report r old new is reports e = (λ i. record {
   results = is.results (map result_told reports) (ap (λ (s : Sums). s.results) e) i;
   races = is.races (map (λ (x : Reported). x.races) reports) (ap (λ (s : Sums). s.races) e) i;
   missed = is.lines (map missed_told reports) (ap (λ (s : Sums). s.missed) e) i;
+  findings = is.findings (map (λ (x : Reported). x.findings) reports) (ap (λ (s : Sums). s.findings) e) i;
 }) ∙ sym (more reports r)
 
 -- before the first report
@@ -178,7 +182,7 @@ pub no_flaws : record { race = record { runs = 0; first = 0 }; stuck = record { 
 unfolding flaws_of count_of
 no_flaws = refl
 
-pub no_runs : record { runs = 0; all_stopped = 0; left_out = 0; steps = 0; flaws = flaws_of []; kinds = []; endings = tallied []; results = tallied []; races = tallied []; missed = tallied [] } ≡ hunted []
+pub no_runs : record { runs = 0; all_stopped = 0; left_out = 0; steps = 0; flaws = flaws_of []; kinds = []; endings = tallied []; results = tallied []; races = tallied []; missed = tallied []; findings = tallied [] } ≡ hunted []
 unfolding hunted
 no_runs = refl
 

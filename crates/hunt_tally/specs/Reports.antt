@@ -16,6 +16,7 @@ pub record Reported : Type 0 where
   pub result : List ℕ
   pub races : List Tells
   pub missed : List (List ℕ)
+  pub findings : List Tells  -- a key begins with the word of the finding's kind
   pub leaves_out : Bool
   pub kind : ℕ  -- its digest
   pub steps : ℕ  -- how many
@@ -76,6 +77,7 @@ pub record Sums : Type 0 where
   pub results : Tallied
   pub races : Tallied
   pub missed : Tallied
+  pub findings : Tallied
 
 -- what the runs of these reports tell together
 unfoldable pub hunted : List Reported → Sums
@@ -90,6 +92,7 @@ hunted reports = record {
   results = tallied (map result_told reports);
   races = tallied (map (λ (r : Reported). r.races) reports);
   missed = tallied (map missed_told reports);
+  findings = tallied (map (λ (r : Reported). r.findings) reports);
 }
 
 -- whether a flaw was counted

@@ -25,11 +25,12 @@ pub struct Hunted {
     steps: u64,
     flaws: FlawCounts,
     kinds: Kinds,
-    /// The different endings, results within an ending, races, and expected lines that aren't there.
+    /// The different endings, results within an ending, races, expected lines that aren't there, and findings.
     endings: Tally,
     results: Tally,
     races: Tally,
     missed: Tally,
+    findings: Tally,
 }
 
 impl Model for Hunted {
@@ -38,9 +39,9 @@ impl Model for Hunted {
 
     ghost Value = { Sums };
 
-    ghost view = { λ h. record { runs = h.runs; all_stopped = h.all_stopped; left_out = h.left_out; steps = h.steps; flaws = h.flaws; kinds = h.kinds; endings = h.endings; results = h.results; races = h.races; missed = h.missed } };
+    ghost view = { λ h. record { runs = h.runs; all_stopped = h.all_stopped; left_out = h.left_out; steps = h.steps; flaws = h.flaws; kinds = h.kinds; endings = h.endings; results = h.results; races = h.races; missed = h.missed; findings = h.findings } };
 
-    ghost invariant = { λ h. IsWithin (record { runs = h.runs; all_stopped = h.all_stopped; left_out = h.left_out; steps = h.steps; flaws = h.flaws; kinds = h.kinds; endings = h.endings; results = h.results; races = h.races; missed = h.missed }) };
+    ghost invariant = { λ h. IsWithin (record { runs = h.runs; all_stopped = h.all_stopped; left_out = h.left_out; steps = h.steps; flaws = h.flaws; kinds = h.kinds; endings = h.endings; results = h.results; races = h.races; missed = h.missed; findings = h.findings }) };
 }
 
 /// One more, where it is so.
@@ -95,6 +96,7 @@ impl Hunted {
             results: Tally::new(alloc),
             races: Tally::new(alloc),
             missed: Tally::new(alloc),
+            findings: Tally::new(alloc),
         }
     }
 
@@ -109,6 +111,7 @@ impl Hunted {
             result,
             races,
             missed,
+            findings,
             leaves_out,
             kind,
             steps,
@@ -122,7 +125,8 @@ impl Hunted {
         self.kinds.take(kind)?;
         take_ending(&mut self.endings, &mut self.results, alloc, ending, result)?;
         self.races.take(races)?;
-        take_missed(&mut self.missed, alloc, missed)
+        take_missed(&mut self.missed, alloc, missed)?;
+        self.findings.take(findings)
     }
 
     /// Takes in what the runs behind these told. After want of memory nothing is known of what was taken in.
@@ -142,6 +146,7 @@ impl Hunted {
             results,
             races,
             missed,
+            findings,
         } = other;
         self.flaws.join(self.runs, flaws);
         self.runs += runs;
@@ -152,7 +157,8 @@ impl Hunted {
         self.endings.join(alloc, endings)?;
         self.results.join(alloc, results)?;
         self.races.join(alloc, races)?;
-        self.missed.join(alloc, missed)
+        self.missed.join(alloc, missed)?;
+        self.findings.join(alloc, findings)
     }
 
     /// How many were taken in.
@@ -230,5 +236,12 @@ impl Hunted {
         ensures { result.now ≡ self.now.missed }
     {
         &self.missed
+    }
+
+    /// The different findings.
+    pub fn findings(&self) -> &Tally
+        ensures { result.now ≡ self.now.findings }
+    {
+        &self.findings
     }
 }

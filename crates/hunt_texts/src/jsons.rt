@@ -111,7 +111,7 @@ fn put_head(
     out.extend_from_slice(b"}\n")
 }
 
-/// What runs of a seed tell together, as JSON, one object a line: of the hunt, of each race, ending, result and missed line, and of all kinds.
+/// What runs of a seed tell together, as JSON, one object a line: of the hunt, of each race, ending, result, missed line and finding, and of all kinds.
 /// `from` is the number of the first run, and `expects` whether lines were expected.
 pub fn hunt_json(
     alloc: Global,
@@ -124,10 +124,11 @@ pub fn hunt_json(
 {
     let mut out = Vec::new(alloc);
     put_head(&mut out, hunted, seed, from, expects)?;
-    put_rows(&mut out, Row::RaceJson, from, hunted.races())?;
-    put_rows(&mut out, Row::EndingJson, from, hunted.endings())?;
-    put_rows(&mut out, Row::ResultJson, from, hunted.results())?;
-    put_rows(&mut out, Row::MissedJson, from, hunted.missed())?;
+    put_rows(&mut out, Row::Race, from, hunted.races())?;
+    put_rows(&mut out, Row::Ending, from, hunted.endings())?;
+    put_rows(&mut out, Row::Result, from, hunted.results())?;
+    put_rows(&mut out, Row::Missed, from, hunted.missed())?;
+    put_rows(&mut out, Row::Finding, from, hunted.findings())?;
     put_kinds_json(&mut out, hunted.kinds())?;
     Ok(out)
 }
