@@ -49,7 +49,7 @@ def deletions_module() -> ModuleType:
 
 def finds_of(hunt: pathlib.Path, machine: pathlib.Path, asked: argparse.Namespace) -> int:
     """How many runs have what most runs have of the flaws."""
-    words = [hunt, machine, "--runs", str(asked.runs), "--seed", str(asked.seed), "--jobs", "1", "--json"]
+    words = [str(hunt), str(machine), "--runs", str(asked.runs), "--seed", str(asked.seed), "--jobs", "1", "--json"]
     head = json.loads(subprocess.run(words, cwd=ROOT, capture_output=True, check=False).stdout.split(b"\n", 1)[0])
     return int(max(head[flaw]["runs"] for flaw in FLAWS))
 

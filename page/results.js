@@ -2,7 +2,7 @@
 // The results, under tabs: the end of a run, its race, its steps, its picture, both orders of the race, and the findings of a hunt.
 import { asTabs, byId, make, markTab, say } from './dom.js';
 import { outcomeOf, outcomeOfHunt } from './outcome.js';
-import { coverageLine, endLines, findingLines, headOf } from './report.js';
+import { coverageLine, endLines, findingLines, headOf, unexecutedLines } from './report.js';
 import { itemOf, linked, placesIn } from './words.js';
 
 /**
@@ -295,6 +295,7 @@ export class Results {
       ...(why ? [paragraph(`Ended after ${count(sum.runs)} of ${count(asked)} runs: ${why}.`, 'cautioned')] : []),
       ...outcome.warnings.map(words => paragraph(`Warning: ${words}.`, 'cautioned')), list(zeros.lines.map(line => ({ kind: 'deeper', ...line })), 'hunted'),
       list(findingLines(sum), 'hunted'), list(endLines(sum), 'hunted'), paragraph(coverageLine(sum), ''),
+      ...unexecutedLines(sum).map(text => make('p', {}, ...linked(text, { files: Object.keys(project.files), toLine: this.page.show, toStep: null }))),
       paragraph('Another run may do what none of these did.', 'dim'));
     this.drawHead();
     say(`${outcome.text}. ${why}`);

@@ -7,7 +7,11 @@
  * @typedef {object} Part what `hunt --json` prints of some runs
  * @property {Record<string, any>} head
  * @property {Entry[]} entries
+ * @property {Source[]} sources
  * @property {Record<string, number>} kinds how many runs are of each class of equivalent runs
+ *
+ * @typedef {{ source: string, lines: [number, number][] }} Source
+ *   the lines of a source with an instruction, in their order: the number of each, and 1 if a run executed it, else 0. The name has a character a byte
  */
 
 const FLAWS = ['race', 'stuck', 'budget', 'fault', 'halt', 'missed'];
@@ -21,7 +25,7 @@ const nameOf = line => Object.keys(KEYS).find(name => name in line) || '';
 export function partOf(text) {
   const lines = text.trimEnd().split('\n').map(line => JSON.parse(line)), head = lines.find(line => 'hunt' in line);
   const { kinds } = lines.find(line => 'kinds' in line && !('hunt' in line));
-  return { head, kinds, entries: lines.filter(line => 'runs' in line && 'first' in line) };
+  return { head, kinds, sources: lines.filter(line => 'source' in line), entries: lines.filter(line => 'runs' in line && 'first' in line) };
 }
 
 export class Sum {
@@ -33,15 +37,18 @@ export class Sum {
     this.found = new Map();
     /** @type {Map<string, number>} */
     this.kinds = new Map();
+    /** The sources, in the order of the machine file. @type {Source[]} */
+    this.sources = [];
   }
 
   /** @param {Part} part */
-  add({ head, entries, kinds }) {
+  add({ head, entries, sources, kinds }) {
     this.runs += head.runs;
     this.allStopped += head.all_stopped;
     for (const name of FLAWS) addCount(this.flaws[name], head[name]);
     entries.forEach((entry, place) => this.addEntry(entry, place));
     for (const [digest, runs] of Object.entries(kinds)) this.kinds.set(digest, (this.kinds.get(digest) || 0) + runs);
+    this.sources = sources.map((one, k) => joined(one, this.sources[k] || one));
   }
   /** @param {Entry} entry @param {number} place */
   addEntry(entry, place) {
@@ -60,7 +67,15 @@ export class Sum {
   get coverage() {
     return { classes: this.kinds.size, once: [...this.kinds.values()].filter(runs => runs === 1).length };
   }
+  /** How many lines of the sources have an instruction, and how many of them no run executed. */
+  get lineCounts() {
+    const lines = this.sources.flatMap(source => source.lines);
+    return { lines: lines.length, unexecuted: lines.filter(([, executed]) => !executed).length };
+  }
 }
+
+/** A source with the lines that either of two parts executed. @param {Source} one @param {Source} other @returns {Source} */
+const joined = (one, other) => ({ source: one.source, lines: one.lines.map(([number, executed], k) => [number, executed | other.lines[k][1]]) });
 
 /** @param {Count} one @param {Count} other which is added to it */
 function addCount(one, other) {

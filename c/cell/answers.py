@@ -176,10 +176,17 @@ class Finding:
     lines: Tuple[str, ...]
 
 
+class Lines(NamedTuple):
+    """The numbers of the lines of a source that have an instruction, in their order: those that a run executed, and those that no run did."""
+    executed: Tuple[int, ...]
+    unexecuted: Tuple[int, ...]
+
+
 @dataclasses.dataclass(frozen=True)
 class Hunt:
     """The report on many runs. `flaws` has how many have a race, are stuck, spent the budget, have a fault or a halt, or miss an expected line, and `findings`
-    each failure; `endings` how they end, and `results` what those of an ending leave, by both, each with how many. `text` is what `hunt --json` prints."""
+    each failure; `endings` how they end, and `results` what those of an ending leave, by both, each with how many. `coverage` has the lines of each source by its
+    name; a line counts as executed if one SPU executed it. `text` is what `hunt --json` prints."""
     text: str
     runs: int
     seed: int
@@ -188,6 +195,7 @@ class Hunt:
     findings: Tuple[Finding, ...]
     endings: Dict[str, Count]
     results: Dict[Tuple[str, str], Count]
+    coverage: Dict[str, Lines]
 
     @property
     def is_clean(self) -> bool:
@@ -210,8 +218,18 @@ def race_of(line: Json) -> Race:
 
 
 def finding_of(line: Json) -> Finding:
-    shown = line["shown"].encode("latin-1").decode("utf-8", "surrogateescape")  # it has a character a byte
-    return Finding(line["finding"], line["runs"], line["first"], tuple(text[2:] for text in shown.split("\n")[:-1]))
+    return Finding(line["finding"], line["runs"], line["first"], tuple(text[2:] for text in decoded(line["shown"]).split("\n")[:-1]))
+
+
+def decoded(text: str) -> str:
+    """A text that has a character a byte."""
+    return text.encode("latin-1").decode("utf-8", "surrogateescape")
+
+
+def coverage_of(sources: List[Json]) -> Dict[str, Lines]:
+    """The lines of each source, by its name."""
+    return {decoded(source["source"]): Lines(*(tuple(number for number, executed in source["lines"] if executed == wanted) for wanted in (1, 0)))
+            for source in sources}
 
 
 def hunt_of(text: str) -> Hunt:
@@ -221,7 +239,7 @@ def hunt_of(text: str) -> Hunt:
     endings = {line["end"]: count_of(line) for line in told if "end" in line and "result" not in line}
     results = {(line["end"], line["result"]): count_of(line) for line in told if "result" in line}
     findings = tuple(finding_of(line) for line in told if "finding" in line)
-    return Hunt(text, head["runs"], head["seed"], flaws, races, findings, endings, results)
+    return Hunt(text, head["runs"], head["seed"], flaws, races, findings, endings, results, coverage_of([line for line in told if "source" in line]))
 
 
 # ---- traces

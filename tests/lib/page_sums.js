@@ -28,11 +28,11 @@ function sumOf(parts) {
 /** The lines of the page's report on a sum. */
 function reportOf(sum, machine) {
   const report = vm.runInThisContext('$report'), lines = [...report.findingLines(sum), ...report.endLines(sum)].map(({ text }) => text);
-  return [report.headOf(sum, machine), ...lines, report.coverageLine(sum)];
+  return [report.headOf(sum, machine), ...lines, report.coverageLine(sum), ...report.unexecutedLines(sum)];
 }
 /** All that a sum has; of the classes of runs the order doesn't matter. */
 const told = sum => JSON.stringify([sum.runs, sum.allStopped, sum.flaws, ...['race', 'end', 'result', 'finding'].map(name => sum.of(name)), sum.coverage,
-  [...sum.kinds].sort()]);
+  [...sum.kinds].sort(), sum.sources]);
 
 for (const { machine, files, runs, cuts } of JSON.parse(fs.readFileSync(0, 'utf8'))) {
   const project = { machine, files }, all = [0, ...cuts, runs].sort((one, other) => one - other);

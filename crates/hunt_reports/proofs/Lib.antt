@@ -1,4 +1,5 @@
 mod OriginLaws
+mod CoverageLemmas
 mod Running
 pub mod Told
 pub mod Ends

@@ -6,6 +6,7 @@ use Rattle.cell_machine.specs.Run.{Ran, state_of, IsEnd, EndsAs}
 use Rattle.cell_report.specs.States.{result_of}
 use Rattle.cell_hunt.specs.declared.racing.Racing.{Racing}
 use Rattle.cell_hunt.specs.declared.ending.Ended.{Ended}
+use Rattle.cell_hunt.specs.Executed.{executed_in}
 use Rattle.cell_hunt.specs.Kinds.{kind_of}
 use Rattle.cell_hunt.specs.Racings.{AreAllRaces}
 use Rattle.cell_hunt.specs.Endings.{AreAllEndings}
@@ -15,6 +16,7 @@ use Rattle.hunt_reports.specs.declared.asked.Asked.{Asked}
 use Rattle.hunt_reports.specs.declared.ended.AtEnd.{AtEnd}
 use Rattle.hunt_reports.specs.Endings.{ended_in}
 use Rattle.hunt_reports.specs.Lists.{bytes_in}
+use Rattle.hunt_reports.specs.Coverage.{number_of}
 use Rattle.hunt_reports.specs.Races.{races_told, race_findings, leaves_out}
 use Rattle.hunt_reports.specs.Findings.{others_told}
 use Rattle.hunt_reports.specs.Reports.{report_by, report_in, missed_of, findings_in, IsReport}
@@ -30,18 +32,18 @@ pub record AreParts (m : Ran) (asked : Asked) (end : End) (races : List Racing) 
   pub findings_are : findings ≡ race_findings asked.places (bytes_in asked.passed.items) races ++ others_told asked.places M.spes endings spes end missed
   pub leaves_is : leaves ≡ leaves_out asked.places (bytes_in asked.passed.items) races
 
-module _ (m : Ran) (asked : Asked) (end : End) (races : List Racing) (endings : List Ended) (spes : List AtEnd) (left : List ℕ) (told findings : List Tells) (leaves : Bool) (missed : List (List ℕ)) (kind steps : ℕ) where
+module _ (m : Ran) (asked : Asked) (end : End) (races : List Racing) (endings : List Ended) (spes : List AtEnd) (left : List ℕ) (told findings : List Tells) (leaves : Bool) (missed : List (List ℕ)) (kind steps : ℕ) (executed : List ℕ) where
   by_parts : (M : State) → AreParts m asked end races endings M spes left told findings leaves missed
-      → report_by spes end left told findings leaves missed kind steps ≡ report_in M m.setup.shows end races endings kind steps asked
+      → report_by spes end left told findings leaves missed kind steps executed ≡ report_in M m.setup.shows end races endings kind steps executed asked
   by_parts M are =
       let all : findings ≡ findings_in M end (missed_of M m.setup.shows end asked) races endings asked
       = are.findings_are ∙ (λ i. race_findings asked.places (bytes_in asked.passed.items) races ++ others_told asked.places M.spes endings (are.spes_are i) end (are.missed_are i)) in
-      λ i. report_by (are.spes_are i) end (are.left_is i) (are.told_are i) (all i) (are.leaves_is i) (are.missed_are i) kind steps
+      λ i. report_by (are.spes_are i) end (are.left_is i) (are.told_are i) (all i) (are.leaves_is i) (are.missed_are i) kind steps executed
 
   pub reported : (r : Reported) → EndsAs m (Some end) → AreAllRaces m races → AreAllEndings m endings
       → ((M : State) → state_of m ≡ Some M → IsEnd M m.setup.budget (Some end) → AreParts m asked end races endings M spes left told findings leaves missed)
-      → kind ≡ kind_of m → steps ≡ length m.steps → r ≡ report_by spes end left told findings leaves missed kind steps → IsReport m asked r
-  reported r ends all all_endings are kind_is steps_is made =
+      → kind ≡ kind_of m → steps ≡ length m.steps → executed ≡ map number_of (executed_in m) → r ≡ report_by spes end left told findings leaves missed kind steps executed → IsReport m asked r
+  reported r ends all all_endings are kind_is steps_is executed_is made =
       let there = state_there (state_of m) (λ M. IsEnd M m.setup.budget (Some end)) ends in
       record {
         state = there.0;
@@ -52,5 +54,5 @@ module _ (m : Ran) (asked : Asked) (end : End) (races : List Racing) (endings : 
         all = all;
         endings = endings;
         all_endings = all_endings;
-        told = made ∙ by_parts there.0 (are there.0 there.1 there.2) ∙ (λ i. report_in there.0 m.setup.shows end races endings (kind_is i) (steps_is i) asked);
+        told = made ∙ by_parts there.0 (are there.0 there.1 there.2) ∙ (λ i. report_in there.0 m.setup.shows end races endings (kind_is i) (steps_is i) (executed_is i) asked);
       }

@@ -3,6 +3,7 @@ pub mod Endings
 pub mod Missing
 pub mod Origins
 pub mod Places
+pub mod Coverage
 pub mod Locations
 pub mod RaceLines
 pub mod Races

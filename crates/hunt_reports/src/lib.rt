@@ -3,6 +3,7 @@
 
 mod asked;
 mod compared;
+mod coverage;
 mod ended;
 mod findings;
 mod locations;
@@ -16,6 +17,7 @@ mod stops;
 mod waits;
 
 pub use asked::Asked;
+pub use coverage::coverage_of;
 pub use origins::{Placed, Places, Placing, Source, SourceLine};
 pub use places::{put_key, put_sites};
 pub use reporting::report_of;

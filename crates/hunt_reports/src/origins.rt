@@ -64,7 +64,7 @@ fn line_at(lines: &[ListedLine], at: u32) -> Option<u32>
 }
 
 /// The statement of a line; empty if the source has no such line.
-fn statement_of(source: &Source, line: u32) -> &[u8]
+pub fn statement_of(source: &Source, line: u32) -> &[u8]
     ensures { result.now ≡ statement_of source.now line }
 {
     match source.statements.get((line as usize).saturating_sub(1)) {

@@ -11,6 +11,7 @@ ghost use Rattle.hunt_reports.specs.Endings.{ending_text};
 ghost use Rattle.hunt_reports.specs.Reports.{report_by, IsReport};
 
 use crate::asked::Asked;
+use crate::coverage::numbers_of;
 use crate::ended::{AtEnd, ended_of, ending_text, has_fault, has_halt, is_budget, is_stuck};
 use crate::findings::take_others;
 use crate::missing::missed_in;
@@ -65,9 +66,10 @@ fn report_by(
     missed: Vec<Vec<u8>>,
     kind: u64,
     steps: u32,
+    executed: Vec<usize>,
 ) -> Report
     requires { ending.items ≡ ending_text end spes.now }
-    ensures { result ≡ report_by spes.now end left.items found.races.items found.findings.items found.leaves_out (bytes_in missed.items) kind steps }
+    ensures { result ≡ report_by spes.now end left.items found.races.items found.findings.items found.leaves_out (bytes_in missed.items) kind steps executed.items }
 {
     let flaws = Flaws {
         race: !found.races.is_empty(),
@@ -92,6 +94,7 @@ fn report_by(
         leaves_out,
         kind,
         steps,
+        executed,
     }
 }
 
@@ -116,6 +119,7 @@ pub fn report_of(alloc: Global, run: &SeedRun, asked: &Asked) -> Result<Report, 
         end,
         missed.as_slice(),
     )?;
+    let executed = numbers_of(alloc, run.executed())?;
     Ok(report_by(
         spes.as_slice(),
         end,
@@ -125,5 +129,6 @@ pub fn report_of(alloc: Global, run: &SeedRun, asked: &Asked) -> Result<Report, 
         missed,
         run.kind(),
         steps_of(machine),
+        executed,
     ))
 }

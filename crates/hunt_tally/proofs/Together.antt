@@ -2,14 +2,18 @@
 use Rattle.std.proofs.Common.{◌≡◌, ℕ, ◌+◌, ◌≤◌, Bool, true, false, cond, ◌&&◌, eqb, eqb-true, List, [], ◌∷◌, ◌++◌, length, map, length-append, append_assoc, append-nil, refl, sym, ap, subst, ◌∙◌, arith}
 use Rattle.std.specs.Prelude.{nat_lt}
 use Rattle.std.proofs.lemmas.List.{map-append}
+use Rattle.std.specs.List.{flat_map}
+use Rattle.std.proofs.lemmas.List.Concat.{flat_map-append}
 use Rattle.std.proofs.lemmas.List.Sums.{sum_by-append}
 use Rattle.hunt_tally.specs.declared.count.Count.{Count}
 use Rattle.hunt_tally.specs.Tallies.{tallied}
 use Rattle.hunt_tally.specs.Joins.{Joined}
 use Rattle.hunt_tally.specs.Counting.{count_of, noted, with_count}
+use Rattle.hunt_tally.specs.Executed.{set_of}
 use Rattle.hunt_tally.specs.Kinds.{runs_of, kinds_of, with_kinds}
-use Rattle.hunt_tally.specs.Reports.{Reported, all_stopped, ending_told, result_told, missed_told, flaws_of, Sums, hunted}
+use Rattle.hunt_tally.specs.Reports.{Reported, all_stopped, ending_told, result_told, missed_told, flaws_of, Sums, executed_in, hunted}
 use Rattle.hunt_tally.specs.Bounds.{AreWithin, IsWithin}
+use Rattle.hunt_tally.proofs.ExecutedLemmas.{set_both}
 use Rattle.hunt_tally.proofs.Hunting.{noted_is}
 use Rattle.hunt_tally.proofs.KindLemmas.{kinds_joined}
 
@@ -96,6 +100,11 @@ pub record AreBoth (here behind new : Sums) : Type 0 where
   pub races : Joined here.races behind.races new.races
   pub lines : Joined here.missed behind.missed new.missed
   pub findings : Joined here.findings behind.findings new.findings
+  pub executed : new.executed ≡ set_of (here.executed ++ behind.executed)
+
+executed_both : (xs ys : List Reported) → set_of (executed_in xs ++ executed_in ys) ≡ executed_in (xs ++ ys)
+executed_both xs ys =
+    set_both (flat_map (λ (r : Reported). r.executed) xs) (flat_map (λ (r : Reported). r.executed) ys) ∙ ap set_of (sym (flat_map-append (λ (r : Reported). r.executed) xs ys))
 
 pub hunted_both : (here behind new : Sums) → AreBoth here behind new → (xs ys : List Reported) → here ≡ hunted xs → behind ≡ hunted ys → new ≡ hunted (xs ++ ys)
 unfolding hunted flaws_of
@@ -118,6 +127,7 @@ hunted_both here behind new is xs ys a b = λ i. record {
   races = (is.races (map (λ (r : Reported). r.races) xs) (map (λ (r : Reported). r.races) ys) (ap (λ (s : Sums). s.races) a) (ap (λ (s : Sums). s.races) b) ∙ ap tallied (sym (map-append (λ (r : Reported). r.races) xs ys))) i;
   missed = (is.lines (map missed_told xs) (map missed_told ys) (ap (λ (s : Sums). s.missed) a) (ap (λ (s : Sums). s.missed) b) ∙ ap tallied (sym (map-append missed_told xs ys))) i;
   findings = (is.findings (map (λ (r : Reported). r.findings) xs) (map (λ (r : Reported). r.findings) ys) (ap (λ (s : Sums). s.findings) a) (ap (λ (s : Sums). s.findings) b) ∙ ap tallied (sym (map-append (λ (r : Reported). r.findings) xs ys))) i;
+  executed = (is.executed ∙ (λ j. set_of ((a j).executed ++ (b j).executed)) ∙ executed_both xs ys) i;
 }
 
 -- and none of them is more than all runs, also where not all was taken in

@@ -6,6 +6,7 @@ ghost use Rattle.cell_base.specs.Records.{line_feed};
 ghost use Rattle.hunt_tally.specs.Tallies.{Took};
 ghost use Rattle.hunt_tally.specs.Reports.{Reported, is_flawed, line_told, hunted};
 
+use crate::executed::Executed;
 use crate::flaws::FlawCounts;
 use crate::kinds::Kinds;
 use crate::report::Report;
@@ -31,6 +32,8 @@ pub struct Hunted {
     races: Tally,
     missed: Tally,
     findings: Tally,
+    /// The instructions that at least one of them executed.
+    executed: Executed,
 }
 
 impl Model for Hunted {
@@ -39,9 +42,9 @@ impl Model for Hunted {
 
     ghost Value = { Sums };
 
-    ghost view = { λ h. record { runs = h.runs; all_stopped = h.all_stopped; left_out = h.left_out; steps = h.steps; flaws = h.flaws; kinds = h.kinds; endings = h.endings; results = h.results; races = h.races; missed = h.missed; findings = h.findings } };
+    ghost view = { λ h. record { runs = h.runs; all_stopped = h.all_stopped; left_out = h.left_out; steps = h.steps; flaws = h.flaws; kinds = h.kinds; endings = h.endings; results = h.results; races = h.races; missed = h.missed; findings = h.findings; executed = h.executed } };
 
-    ghost invariant = { λ h. IsWithin (record { runs = h.runs; all_stopped = h.all_stopped; left_out = h.left_out; steps = h.steps; flaws = h.flaws; kinds = h.kinds; endings = h.endings; results = h.results; races = h.races; missed = h.missed; findings = h.findings }) };
+    ghost invariant = { λ h. IsWithin (record { runs = h.runs; all_stopped = h.all_stopped; left_out = h.left_out; steps = h.steps; flaws = h.flaws; kinds = h.kinds; endings = h.endings; results = h.results; races = h.races; missed = h.missed; findings = h.findings; executed = h.executed }) };
 }
 
 /// One more, where it is so.
@@ -97,6 +100,7 @@ impl Hunted {
             races: Tally::new(alloc),
             missed: Tally::new(alloc),
             findings: Tally::new(alloc),
+            executed: Executed::new(alloc),
         }
     }
 
@@ -115,6 +119,7 @@ impl Hunted {
             leaves_out,
             kind,
             steps,
+            executed,
         } = report;
         let run = self.runs;
         self.runs = run + 1;
@@ -126,7 +131,8 @@ impl Hunted {
         take_ending(&mut self.endings, &mut self.results, alloc, ending, result)?;
         self.races.take(races)?;
         take_missed(&mut self.missed, alloc, missed)?;
-        self.findings.take(findings)
+        self.findings.take(findings)?;
+        self.executed.take(executed.as_slice())
     }
 
     /// Takes in what the runs behind these told. After want of memory nothing is known of what was taken in.
@@ -147,6 +153,7 @@ impl Hunted {
             races,
             missed,
             findings,
+            executed,
         } = other;
         self.flaws.join(self.runs, flaws);
         self.runs += runs;
@@ -158,7 +165,8 @@ impl Hunted {
         self.results.join(alloc, results)?;
         self.races.join(alloc, races)?;
         self.missed.join(alloc, missed)?;
-        self.findings.join(alloc, findings)
+        self.findings.join(alloc, findings)?;
+        self.executed.join(executed)
     }
 
     /// How many were taken in.
@@ -243,5 +251,12 @@ impl Hunted {
         ensures { result.now ≡ self.now.findings }
     {
         &self.findings
+    }
+
+    /// The instructions that at least one of them executed.
+    pub fn executed(&self) -> &Executed
+        ensures { result.now ≡ self.now.executed }
+    {
+        &self.executed
     }
 }

@@ -4,3 +4,4 @@ pub mod GroupLemmas
 pub mod LineLemmas
 pub mod FoundLemmas
 pub mod SameLemmas
+mod SpanLemmas

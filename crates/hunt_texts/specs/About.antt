@@ -1,5 +1,6 @@
 -- What the text of a hunt says besides the sums of its runs.
 use Rattle.std.specs.Prelude.{ℕ, Bool, List}
+use Rattle.hunt_tally.specs.Coverage.{SourceLines}
 use Rattle.hunt_texts.specs.declared.about.About.{About}
 
 pub record Facts : Type 0 where
@@ -15,6 +16,8 @@ pub record Facts : Type 0 where
   pub by_steps : Bool
   -- whether all findings are printed
   pub all : Bool
+  -- which lines of the sources the runs executed
+  pub coverage : List SourceLines
 
 abbrev pub facts : About → Facts
-facts a = record { machine = a.machine.now; tools = a.tools.now; seed = a.seed; from = a.from; expects = a.expects; by_steps = a.by_steps; all = a.all }
+facts a = record { machine = a.machine.now; tools = a.tools.now; seed = a.seed; from = a.from; expects = a.expects; by_steps = a.by_steps; all = a.all; coverage = a.coverage.now }

@@ -1,5 +1,5 @@
 -- The first lines of the text: which runs were made, and how many of them have a failure.
-use Rattle.std.specs.Prelude.{ℕ, ◌==◌, Bool, true, false, List, [], ◌∷◌, ◌++◌, codes, if◌then◌else◌}
+use Rattle.std.specs.Prelude.{ℕ, ◌==◌, Bool, true, false, List, [], ◌∷◌, ◌++◌, length, codes, if◌then◌else◌}
 use Rattle.std.specs.Fmt.{decimal}
 use Rattle.cell_base.specs.Records.{line_feed}
 use Rattle.hunt_tally.specs.declared.count.Count.{Count}
@@ -8,6 +8,7 @@ use Rattle.hunt_tally.specs.Reports.{Sums, has_flaw}
 use Rattle.hunt_texts.specs.Numbers.{word_text, runs_text}
 use Rattle.hunt_texts.specs.Lists.{Item, items_text}
 use Rattle.hunt_texts.specs.About.{Facts}
+use Rattle.hunt_texts.specs.Unexecuted.{lines_in, missed_in}
 
 unfoldable pub from_text : ℕ → List ℕ
 from_text from = if from == 0 then [] else codes " from run " ++ decimal from
@@ -37,8 +38,15 @@ none_text false = codes "no data race, halt, fault, deadlock or spent budget"
 abbrev pub found_text : FlawCounts → Bool → List ℕ
 found_text c expects = if has_flaw c then items_text false (outcomes c) else none_text expects
 
+unfoldable pub missed_text : ℕ → ℕ → List ℕ
+missed_text lines missed = codes "; " ++ word_text missed (codes " of ") ++ word_text lines (codes " lines with instructions never executed")
+
+-- how many lines no run executed, if there are any
+abbrev pub missed_note : ℕ → ℕ → List ℕ
+missed_note lines missed = if missed == 0 then [] else missed_text lines missed
+
 unfoldable pub head_line : Facts → Sums → List ℕ
-head_line a sums = runs_made a sums.runs ++ found_text sums.flaws a.expects ++ line_feed
+head_line a sums = runs_made a sums.runs ++ found_text sums.flaws a.expects ++ missed_note (length (lines_in a.coverage)) (length (missed_in a.coverage)) ++ line_feed
 
 unfoldable pub steps_line : ℕ → List ℕ
 steps_line steps = codes "ended after " ++ word_text steps (codes " steps, the limit of a hunt without --runs\n")

@@ -6,7 +6,9 @@ use Rattle.cell_base.specs.Hex.{hex}
 use Rattle.cell_base.specs.Records.{line_feed}
 use Rattle.hunt_tally.specs.declared.count.Count.{Count}
 use Rattle.hunt_tally.specs.declared.flaws.FlawCounts.{FlawCounts}
+use Rattle.hunt_tally.specs.declared.coverage.LineCoverage.{LineCoverage}
 use Rattle.hunt_tally.specs.declared.kinds.Kind.{Kind}
+use Rattle.hunt_tally.specs.Coverage.{SourceLines}
 use Rattle.hunt_tally.specs.Tallies.{Told, told_in}
 use Rattle.hunt_tally.specs.Reports.{Sums, result_in}
 use Rattle.hunt_texts.specs.Numbers.{word_text}
@@ -88,8 +90,22 @@ kind_at i k = comma_json i ++ kind_json k
 unfoldable pub kinds_json : List Kind → List ℕ
 kinds_json kinds = codes "{\"kinds\":{" ++ from_place kind_at 0 kinds ++ codes "}}" ++ line_feed
 
-abbrev pub hunt_json : Sums → ℕ → ℕ → Bool → List ℕ
-hunt_json sums seed from expects =
+abbrev pub executed_json : Bool → List ℕ
+executed_json b = if b then codes ",1]" else codes ",0]"
+
+-- a line of a source by its number, and 1 if a run executed it
+unfoldable pub line_json : LineCoverage → List ℕ
+line_json l = codes "[" ++ decimal l.number ++ executed_json l.executed
+
+abbrev pub line_at : ℕ → LineCoverage → List ℕ
+line_at i l = comma_json i ++ line_json l
+
+-- a source by its name, with its lines that have an instruction
+unfoldable pub source_json : SourceLines → List ℕ
+source_json s = codes "{\"source\":" ++ string_json s.name ++ codes ",\"lines\":[" ++ from_place line_at 0 s.lines ++ codes "]}" ++ line_feed
+
+abbrev pub hunt_json : Sums → ℕ → ℕ → Bool → List SourceLines → List ℕ
+hunt_json sums seed from expects coverage =
     head_json sums seed from expects ++ flat_map (race_json from) (told_in sums.races) ++ flat_map (ending_json from) (told_in sums.endings)
     ++ flat_map (result_json from) (told_in sums.results) ++ flat_map (missed_json from) (told_in sums.missed)
-    ++ flat_map (finding_json from) (told_in sums.findings) ++ kinds_json sums.kinds
+    ++ flat_map (finding_json from) (told_in sums.findings) ++ flat_map source_json coverage ++ kinds_json sums.kinds

@@ -2,6 +2,7 @@ pub mod Numbers
 pub mod Lists
 pub mod About
 pub mod Commands
+pub mod Unexecuted
 pub mod Heads
 pub mod Findings
 pub mod Founds

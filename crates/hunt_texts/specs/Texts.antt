@@ -10,6 +10,7 @@ use Rattle.hunt_texts.specs.Findings.{findings_lines}
 use Rattle.hunt_texts.specs.Ends.{ends_lines}
 use Rattle.hunt_texts.specs.Results.{all_results}
 use Rattle.hunt_texts.specs.Coverage.{coverage_line}
+use Rattle.hunt_texts.specs.Unexecuted.{unexecuted_lines}
 
 unfoldable pub suppressed_text : ℕ → List ℕ
 suppressed_text n = codes "suppressed: " ++ units_text n (codes "1 run has") (codes " runs have") ++ codes " a data race that --pass names\n"
@@ -26,4 +27,4 @@ caution_line c = if has_flaw c then [] else codes "other runs may still fail: do
 abbrev pub hunt_text : Sums → Facts → List ℕ
 hunt_text sums a =
     head_line a sums ++ limit_line sums.steps a.by_steps ++ findings_lines a sums ++ ends_lines a.from sums ++ all_results a (told_in sums.endings) (told_in sums.results)
-    ++ coverage_line sums.kinds sums.runs ++ suppressed_line sums.left_out ++ caution_line sums.flaws
+    ++ coverage_line sums.kinds sums.runs ++ unexecuted_lines a.coverage ++ suppressed_line sums.left_out ++ caution_line sums.flaws

@@ -1,5 +1,7 @@
 //! What the text of a hunt says besides the sums of its runs.
 
+use hunt_tally::SourceCoverage;
+
 /// A hunt, as its text names it.
 #[derive(Clone, Copy)]
 pub struct About<'a> {
@@ -16,4 +18,6 @@ pub struct About<'a> {
     pub by_steps: bool,
     /// Whether all findings are printed.
     pub all: bool,
+    /// Which lines of the sources the runs executed.
+    pub coverage: &'a [SourceCoverage],
 }

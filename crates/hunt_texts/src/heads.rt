@@ -3,13 +3,14 @@
 ghost use Rattle.std.specs.Prelude.{◌≡◌, ◌++◌, ◌||◌, nat_lt, false, IfOk, OnOk};
 ghost use Rattle.hunt_texts.specs.Lists.{item_text, items_text};
 ghost use Rattle.hunt_texts.specs.About.{facts};
-ghost use Rattle.hunt_texts.specs.Heads.{from_text, seed_text, runs_made, outcome_text, outcome, outcomes, none_text, found_text, head_line, steps_line, limit_line};
+ghost use Rattle.hunt_texts.specs.Heads.{from_text, seed_text, runs_made, outcome_text, outcome, outcomes, none_text, found_text, head_line, missed_note, missed_text, steps_line, limit_line};
 
 use crate::about::About;
 use crate::lists::put_gap;
 use crate::numbers::{put_number, put_runs, put_word};
+use crate::unexecuted::{lines_in, missed_among};
 use hunt_tally::{Count, FlawCounts, Hunted};
-use std::alloc::AllocError;
+use std::alloc::{AllocError, Global};
 
 #[tactic(auto, unfolding(crate::specs::Heads::from_text))]
 fn put_from(out: &mut Vec<u8>, from: u32) -> Result<(), AllocError>
@@ -103,13 +104,41 @@ fn put_found(out: &mut Vec<u8>, c: FlawCounts, expects: bool) -> Result<(), Allo
     put_none(out, expects)
 }
 
+#[tactic(auto, unfolding(crate::specs::Heads::missed_text))]
+fn put_missed_text(out: &mut Vec<u8>, lines: u64, missed: u64) -> Result<(), AllocError>
+    ensures { OnOk result (out.new.items ≡ out.old.items ++ missed_text lines missed) }
+{
+    out.extend_from_slice(b"; ")?;
+    put_word(out, missed, b" of ")?;
+    put_word(out, lines, b" lines with instructions never executed")?;
+    Ok(())
+}
+
+/// Writes how many lines no run executed, if there are any.
+fn put_missed(out: &mut Vec<u8>, lines: u64, missed: u64) -> Result<(), AllocError>
+    ensures { OnOk result (out.new.items ≡ out.old.items ++ missed_note lines missed) }
+{
+    if missed == 0 {
+        return Ok(());
+    }
+    put_missed_text(out, lines, missed)
+}
+
 /// Writes the first line.
 #[tactic(auto, unfolding(crate::specs::Heads::head_line))]
-pub fn put_head(out: &mut Vec<u8>, about: &About, hunted: &Hunted) -> Result<(), AllocError>
+pub fn put_head(
+    out: &mut Vec<u8>,
+    alloc: Global,
+    about: &About,
+    hunted: &Hunted,
+) -> Result<(), AllocError>
     ensures { OnOk result (out.new.items ≡ out.old.items ++ head_line (facts about.now) hunted.now) }
 {
+    let lines = lines_in(alloc, about.coverage)?;
+    let missed = missed_among(alloc, lines.as_slice())?;
     put_made(out, about, hunted.runs())?;
     put_found(out, hunted.flaws(), about.expects)?;
+    put_missed(out, lines.len() as u64, missed.len() as u64)?;
     out.push(b'\n')?;
     Ok(())
 }

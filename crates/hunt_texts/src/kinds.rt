@@ -8,7 +8,8 @@ use crate::numbers::{put_number, put_word};
 use hunt_tally::{Kind, Kinds};
 use std::alloc::AllocError;
 
-fn put_comma_json(out: &mut Vec<u8>, place: usize) -> Result<(), AllocError>
+/// Writes a comma before each element but the first.
+pub fn put_comma_json(out: &mut Vec<u8>, place: usize) -> Result<(), AllocError>
     ensures { OnOk result (out.new.items ≡ out.old.items ++ comma_json place) }
 {
     if place == 0 {

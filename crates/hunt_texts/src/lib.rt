@@ -17,7 +17,9 @@ mod lists;
 mod numbers;
 mod results;
 mod rows;
+mod sources;
 mod texts;
+mod unexecuted;
 mod watches;
 
 pub use about::About;

@@ -49,7 +49,7 @@ fn put_byte_json(out: &mut Vec<u8>, b: u8) -> Result<(), AllocError>
 
 /// Writes a string.
 #[tactic(auto, unfolding(crate::specs::Jsons::string_json))]
-fn put_string_json(out: &mut Vec<u8>, bytes: &[u8]) -> Result<(), AllocError>
+pub fn put_string_json(out: &mut Vec<u8>, bytes: &[u8]) -> Result<(), AllocError>
     ensures { OnOk result (out.new.items ≡ out.old.items ++ string_json bytes.now) }
 {
     out.push(b'"')?;

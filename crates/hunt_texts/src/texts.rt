@@ -11,6 +11,7 @@ use crate::ends::put_ends;
 use crate::findings::put_findings;
 use crate::heads::{put_head, put_limit};
 use crate::numbers::put_units;
+use crate::unexecuted::put_unexecuted;
 use hunt_tally::{FlawCounts, Hunted};
 use std::alloc::{AllocError, Global};
 
@@ -50,12 +51,13 @@ pub fn hunt_text(alloc: Global, hunted: &Hunted, about: &About) -> Result<Vec<u8
     ensures { IfOk result (λ text. text.items ≡ hunt_text hunted.now (facts about.now)) }
 {
     let mut out = Vec::new(alloc);
-    put_head(&mut out, about, hunted)?;
+    put_head(&mut out, alloc, about, hunted)?;
     put_limit(&mut out, hunted.steps(), about.by_steps)?;
     put_findings(&mut out, alloc, about, hunted)?;
     put_ends(&mut out, alloc, about.from, hunted)?;
     put_all_results(&mut out, alloc, about, hunted.endings(), hunted.results())?;
     put_coverage(&mut out, hunted.kinds(), hunted.runs())?;
+    put_unexecuted(&mut out, alloc, about.coverage)?;
     put_suppressed(&mut out, hunted.left_out())?;
     put_caution(&mut out, hunted.flaws())?;
     Ok(out)

@@ -1,8 +1,8 @@
 """The lines of a part, as `./hunt MACHINE --json` prints it: docs/guide/cluster.md has the form. Each line has one way to be written.
 
 Line 1 names the form, the version and the sources of the program, the machine file, and a checksum of it and its sources. Line 2 is the hunt's head. Then come
-races, endings with their numbers, results, expected lines that runs miss, findings, and the classes of runs. The last line has the number of lines before it
-and their SHA-256.
+races, endings with their numbers, results, expected lines that runs miss, findings, the lines of the sources with an instruction, and the classes of runs. The
+last line has the number of lines before it and their SHA-256.
 
 A line of results has columns. The texts of a hunt's results have the same `show` lines, so they differ in hexadecimal digits alone: the line has the first text, the
 ranges of places at which the texts differ, and the digits at these places.
@@ -20,9 +20,10 @@ from typing import Iterable, Iterator, List, NamedTuple, Sequence, Tuple
 
 
 FORM = 3
-PART, TEXT, KINDS = "part", "text", "kinds"  # the first members of a part's first line, of a line of results, and of a line of classes
+PART, TEXT, SOURCE, KINDS = "part", "text", "source", "kinds"  # the first members of a part's first line, and of a line of results, of a source, of classes
 LAST = "lines"  # and of the last line
 OF_RESULTS = (TEXT, "spans", "digits", "endings", "runs", "first")  # the members of a line of results
+OF_SOURCE = (SOURCE, "lines")  # and of a source
 MOST_ROWS = 100  # in a line: more would take longer to read for one text
 MOST_TEXT = 1 << 22  # bytes of the texts of a line that has several
 MOST_KINDS = 3000  # in a line: a multiple of 3, so that base64 has no padding between lines
@@ -124,6 +125,13 @@ def packed_digits(digits: bytes) -> str:
 def unpacked_digits(text: str) -> bytes:
     """Digits of base64, with the 0 that may follow them; ValueError for a text that is none."""
     return binascii.hexlify(base64.b64decode(text.encode("ascii"), validate=True))
+
+
+# ---- sources
+
+def source_line(name: str, numbers: Sequence[int], executed: Sequence[int]) -> bytes:
+    """The line of a source: the number of each line with an instruction, and 1 if a run executed it, else 0."""
+    return line_of(dict(zip(OF_SOURCE, (name, [list(pair) for pair in zip(numbers, executed)]))))
 
 
 # ---- classes

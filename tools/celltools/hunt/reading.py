@@ -25,6 +25,7 @@ HEAD = ("hunt", "seed", "from", "runs", "expects", "all_stopped", "left_out", "s
 MOST_RUN, MOST_SEED = 0xFFFF_FFFE, 0xFFFF_FFFF_FFFF_FFFF
 MOST_STEPS = 1_000_000  # of a run: the greatest budget
 MOST_LINE = 1 << 28  # bytes
+MOST_SOURCE_LINE = 1 << 22  # of a source: it has at most so many bytes
 CHECKSUM = re.compile(r"[0-9a-f]{64}")
 VERSION = re.compile(r"[0-9]+\.[0-9]+\.[0-9]+")
 BYTES = re.compile(r"[\0-\xff]*")
@@ -95,8 +96,14 @@ class Hearer:
     def take_result(self, result: Result) -> None:
         """A result of an ending."""
 
+    def take_source(self, name: str, numbers: List[int], executed: List[int]) -> None:
+        """A source: the numbers of its lines with an instruction, and for each 1 if a run executed it, else 0. Wrong if another part has other sources."""
+
     def take_kinds(self, digests: List[int], runs: List[int]) -> None:
         """Classes of runs."""
+
+    def end(self) -> None:
+        """The part has nothing more. Wrong if another part has more sources."""
 
 
 # ---- members
@@ -201,6 +208,18 @@ def rows_of(members: Json) -> List[written.Row]:
     return list(map(written.Row, endings, runs, first, map(texts.of, range(len(endings)))))
 
 
+# ---- sources
+
+def lines_of_source(members: Json) -> Tuple[List[int], List[int]]:
+    """The numbers of the lines of a source, in ascending order, and for each 1 if a run executed it, else 0."""
+    value = members["lines"]
+    are_pairs = isinstance(value, list) and all(isinstance(pair, list) and len(pair) == 2 for pair in value)
+    numbers, executed = ([pair[place] for pair in value] if are_pairs else [] for place in (0, 1))
+    is_right = are_pairs and are_numbers(numbers, 1, MOST_SOURCE_LINE) and are_numbers(executed, 0, 1) and all(map(operator.lt, numbers, numbers[1:]))
+    refuse_other("lines", value, is_right, "a list of pairs of a line number and 0 or 1, in the order of the numbers")
+    return numbers, executed
+
+
 # ---- lines
 
 def opening_of(line: bytes) -> Json:
@@ -254,14 +273,14 @@ class Body:
         # How the lines begin, in their order, and what takes them.
         self.taking: List[Tuple[bytes, Callable[[bytes, int], None]]] = [
             (b'{"race":', self.take_race), (b'{"number":', self.take_ending), (b'{"text":', self.take_results), (b'{"missed":', self.take_missed),
-            (b'{"finding":', self.take_finding), (b'{"kinds":', self.take_kinds),
+            (b'{"finding":', self.take_finding), (b'{"source":', self.take_source), (b'{"kinds":', self.take_kinds),
         ]  # fmt: skip
         self.stage = 0
         self.endings: List[Tuple[str, Count]] = []
         self.left: List[int] = []  # of each ending, how many runs have no result yet
         self.findings: Dict[str, Dict[str, Count]] = {kind: {} for kind in FINDING_KINDS}  # by their kinds and keys
         self.listed: Dict[str, Dict[str, Count]] = {"race": {}, "missed": {}}  # of races and missed lines, which are findings too, the same
-        self.seen: Dict[str, Dict[str, None]] = {"race": {}, "end": {}, "missed": {}, "finding": {}}
+        self.seen: Dict[str, Dict[str, None]] = {"race": {}, "end": {}, "missed": {}, "finding": {}, "source": {}}
         self.kinds = 0
         self.last_first = -1
 
@@ -281,7 +300,7 @@ class Body:
         if stage is None:
             raise Wrong("this is not a line of a part")
         if stage < self.stage:
-            raise Wrong("this line is out of order: races come first, then endings, results, missed lines, findings and classes of runs")
+            raise Wrong("this line is out of order: races come first, then endings, results, missed lines, findings, sources and classes of runs")
         self.stage = stage
         self.taking[stage][1](line, offset)
 
@@ -346,6 +365,16 @@ class Body:
         count = self.counted(members, self.head.flaws[FINDING_KINDS[kind].flaw].runs)
         self.take_once("finding", key, members, line, count)
         self.findings[kind][key] = count
+
+    def take_source(self, line: bytes, _: int) -> None:
+        members = object_of(line)
+        refuse_names(members, written.OF_SOURCE)
+        name, (numbers, executed) = text_in(members, written.SOURCE, BYTES, "a string of bytes"), lines_of_source(members)
+        refuse_other_writing(members, line)
+        if name in self.seen["source"]:
+            raise Wrong("an earlier line of this part has the same source")
+        self.seen["source"][name] = None
+        self.hearer.take_source(name, numbers, executed)
 
     def take_kinds(self, line: bytes, _: int) -> None:
         members = object_of(line)
@@ -484,6 +513,7 @@ class Reader:
             checksum.update(line)
         self.refuse_last(line, self.number - start, checksum.hexdigest())
         body.refuse_sums()
+        body.hearer.end()
         return part
 
     def cut(self, start: int) -> bytes:

@@ -4,6 +4,7 @@ import array
 import dataclasses
 import hashlib
 import itertools
+import operator
 from typing import IO, Dict, Iterator, List, Optional, Sequence, Tuple
 
 from celltools.hunt import lines as written
@@ -90,12 +91,25 @@ class Results:
         return Count(self.runs[place], self.first[place])
 
 
+@dataclasses.dataclass
+class SourceLines:
+    """The lines of a source with an instruction: their numbers, and for each 1 if a run executed it, else 0. The name has a character a byte."""
+    name: str
+    numbers: "array.array[int]"
+    executed: bytearray
+
+    def add(self, executed: Sequence[int]) -> None:
+        """Adds what other runs executed."""
+        self.executed = bytearray(map(operator.or_, self.executed, executed))
+
+
 class Listener(Hearer):
     """Takes what a part has into the sum."""
 
     def __init__(self, hunt: "Hunt", file: int, part: Part) -> None:
         self.hunt, self.file = hunt, file
         self.kinds = hunt.kinds_of_part(part)
+        self.sources = 0
 
     def take_told(self, what: str, key: str, members: Json, count: Count) -> None:
         self.hunt.tallies[what].take(key, {name: value for name, value in members.items() if name not in COUNTED}, count)
@@ -103,9 +117,16 @@ class Listener(Hearer):
     def take_result(self, result: Result) -> None:
         self.hunt.results.take(result, self.file)
 
+    def take_source(self, name: str, numbers: List[int], executed: List[int]) -> None:
+        self.hunt.take_source(self.sources, SourceLines(name, array.array("I", numbers), bytearray(executed)))
+        self.sources += 1
+
     def take_kinds(self, digests: List[int], runs: List[int]) -> None:
         self.kinds[0].extend(digests)
         self.kinds[1].extend(runs)
+
+    def end(self) -> None:
+        self.hunt.refuse_fewer_sources(self.sources)
 
 
 Kinds = Tuple["array.array[int]", "array.array[int]"]
@@ -119,6 +140,7 @@ class Hunt:
         self.files: List[Optional[IO[bytes]]] = []
         self.tallies = {what: Tally() for what in ("race", "end", "missed", "finding")}
         self.results = Results()
+        self.sources: List[SourceLines] = []  # in the order of the machine file, each once
         self.kinds_of_parts: List[Tuple[int, Kinds]] = []
         self.parts: List[Part] = []
         for number, name in enumerate(files):
@@ -151,6 +173,21 @@ class Hunt:
         kinds = array.array("Q"), array.array("I")
         self.kinds_of_parts.append((part.head.start, kinds))
         return kinds
+
+    def take_source(self, place: int, source: SourceLines) -> None:
+        """Takes the source of a place among those of a part. Wrong if the parts before have another one."""
+        if not self.parts:
+            self.sources.append(source)
+            return
+        known = self.sources[place] if place < len(self.sources) else None
+        if not known or (known.name, known.numbers) != (source.name, source.numbers):
+            raise Wrong(f"the name or the line numbers of this source differ from those in {place_of(self.parts[0])}")
+        known.add(source.executed)
+
+    def refuse_fewer_sources(self, sources: int) -> None:
+        """Refuses a part with so many sources, if the parts before have more."""
+        if sources < len(self.sources):
+            raise Wrong(f"the part has {sources} of the {len(self.sources)} sources of {place_of(self.parts[0])}")
 
     # ---- what it has
 
@@ -277,6 +314,7 @@ def json_lines(hunt: Hunt) -> Iterator[bytes]:
     yield from written.result_lines(result_rows(hunt, numbers))
     for what in ("missed", "finding"):
         yield from map(told_line, hunt.tallies[what].in_order())
+    yield from (written.source_line(source.name, source.numbers, source.executed) for source in hunt.sources)
     kinds = hunt.kinds()
     yield from written.kinds_lines(list(kinds), list(kinds.values()))
 

@@ -1,16 +1,19 @@
 """The text of a hunt, as `./hunt MACHINE` prints it, of the sum of its parts."""
+import itertools
+import operator
 import re
 from typing import Dict, Iterable, Iterator, List, Optional
 
-from celltools.common.texts import lines_in, quoted
+from celltools.common.texts import decoded, lines_in, quoted
 from celltools.hunt.endings import STOPPED, end_word
 from celltools.hunt.findings import FINDING_KINDS
 from celltools.hunt.reading import Count
-from celltools.hunt.sums import Hunt, Told
+from celltools.hunt.sums import Hunt, SourceLines, Told
 
 FEW_FINDINGS = 4  # that are printed unless all are asked for
 MOST_ENDINGS = 8  # that begin with AllStopped, and are printed
 MOST_RESULTS = 8  # of an ending, of which the counts are printed
+MOST_SPANS = 8  # of lines of a source that no run executed
 COMPARED = 2  # results of an ending: the first line in which they differ is printed
 ONE_PERCENT = 100
 NOTHING = "nothing more"
@@ -50,10 +53,16 @@ def outcome(hunt: Hunt) -> str:
     return "no data race, halt, fault, deadlock" + (", spent budget or missing line" if hunt.head.expects else " or spent budget")
 
 
+def unexecuted_note(hunt: Hunt) -> str:
+    """How many lines no run executed, if there are any."""
+    lines, executed = sum(len(source.numbers) for source in hunt.sources), sum(sum(source.executed) for source in hunt.sources)
+    return f"; {lines - executed} of {lines} lines with instructions never executed" if executed < lines else ""
+
+
 def first_line(hunt: Hunt) -> str:
     head = hunt.head
     start = f" from run {head.start}" if head.start else ""
-    return f"{hunt.machine}: {counted(head.runs, 'run')}{start}, seed {head.seed}: {outcome(hunt)}"
+    return f"{hunt.machine}: {counted(head.runs, 'run')}{start}, seed {head.seed}: {outcome(hunt)}{unexecuted_note(hunt)}"
 
 
 # ---- findings
@@ -155,6 +164,24 @@ def coverage_line(hunt: Hunt) -> str:
     return f"{known}, {once} seen only once; {some} of further runs would be new"
 
 
+def spans_of(source: SourceLines) -> Iterator[str]:
+    """The spans of lines of a source that no run executed. Lines without an instruction don't end a span."""
+    name = decoded(source.name.encode("latin-1"))
+    for is_executed, lines in itertools.groupby(zip(source.numbers, source.executed), operator.itemgetter(1)):
+        numbers = [number for number, _ in lines]
+        if not is_executed:
+            yield f"{name}:{numbers[0]}" + (f"-{numbers[-1]}" if len(numbers) > 1 else "")
+
+
+def unexecuted_lines(hunt: Hunt) -> Iterator[str]:
+    """For each source the first spans of lines that no run executed, and how many more there are."""
+    for source in hunt.sources:
+        spans = list(spans_of(source))
+        more = f" and {len(spans) - MOST_SPANS} more" if len(spans) > MOST_SPANS else ""
+        if spans:
+            yield f"never executed: {' '.join(spans[:MOST_SPANS])}{more}"
+
+
 # ---- all
 
 def lines_of_hunt(hunt: Hunt, tools: str, are_all: bool) -> Iterator[str]:
@@ -170,6 +197,7 @@ def lines_of_hunt(hunt: Hunt, tools: str, are_all: bool) -> Iterator[str]:
     for told in endings:
         yield from result_lines(hunt, told.members["end"], results.get(told.members["end"], []), texts, commands)
     yield coverage_line(hunt)
+    yield from unexecuted_lines(hunt)
     if hunt.head.left_out:
         yield f"suppressed: {counted(hunt.head.left_out, 'run has', 'runs have')} a data race that --pass names"
     if not any(count.runs for count in hunt.head.flaws.values()):

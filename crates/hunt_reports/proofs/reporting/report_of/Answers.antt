@@ -1,10 +1,12 @@
-use Rattle.std.proofs.Common.{Some, ◌++◌, sym, ap, subst, ◌∙◌}
+use Rattle.std.proofs.Common.{Some, ◌++◌, map, sym, ap, subst, ◌∙◌}
 use Rattle.cell_machine.specs.Run.{EndsAs}
 use Rattle.cell_report.specs.States.{states_of}
 use Rattle.cell_hunt.specs.Racings.{AreAllRaces}
 use Rattle.cell_hunt.specs.Endings.{AreAllEndings}
+use Rattle.cell_hunt.specs.Executed.{executed_in}
 use Rattle.cell_hunt.specs.Kinds.{kind_of}
 use Rattle.hunt_reports.specs.Lists.{bytes_in}
+use Rattle.hunt_reports.specs.Coverage.{number_of}
 use Rattle.hunt_reports.specs.Missing.{missed_in}
 use Rattle.hunt_reports.specs.Races.{races_told, race_findings, leaves_out}
 use Rattle.hunt_reports.specs.Findings.{others_told}
@@ -18,7 +20,7 @@ returns c =
     let passed = c.as_slice-3.ensures.value in
     subst (λ m. IsReport m c.args.asked.now c.report_by.result) run
     (reported c.machine-machine.result.now c.args.asked.now c.end-end.result c.races.result.now c.endings.result.now c.as_slice-6.result.now c.in_ok-left.left.items
-    c.in_ok-found.found.races.items c.take_others.new.findings.items c.in_ok-found.found.leaves_out (bytes_in c.in_ok-missed.missed.items) c.kind.result c.steps_of.result
+    c.in_ok-found.found.races.items c.take_others.new.findings.items c.in_ok-found.found.leaves_out (bytes_in c.in_ok-missed.missed.items) c.kind.result c.steps_of.result c.in_ok-executed.executed.items
     c.report_by.result
     (subst (λ m. EndsAs m (Some c.end-end.result)) (sym run) c.end-end.ensures)
     (subst (λ m. AreAllRaces m c.races.result.now) (sym run) c.races.ensures)
@@ -36,4 +38,5 @@ returns c =
     })
     (c.kind.ensures ∙ ap kind_of (sym run))
     c.steps_of.ensures
+    (c.in_ok-executed.ensures ∙ ap (map number_of) (c.executed.ensures ∙ ap executed_in (sym run)))
     c.report_by.ensures)
