@@ -2,8 +2,10 @@
 
 ghost use Rattle.std.specs.Prelude.{All, ◌≡◌, ◌+◌, ◌*◌, ◌%◌, ◌^◌, ◌<◌, ◌≤◌, ◌↔◌, bit_or, [], ◌∷◌, ◌++◌, length, slice_set, Err, IfOk, IsTrue, OnErr, OnOk};
 ghost use Rattle.spu_exec.specs.Places.{IsPlace};
+ghost use Rattle.cell_base.specs.Bits.{has_bit};
 ghost use Rattle.cell_signals.specs.Registers.{number_of};
 ghost use Rattle.cell_machine.specs.Limits.{AreMachineLimits, FitsShow, MayShow, FitsAction, MayAct, IsRegister, shown, shown_memory};
+ghost use Rattle.cell_machine.specs.Opening.{is_or as is_or_register};
 ghost use Rattle.cell_machine.specs.declared.setup.SetupError.TheVariants as setup_error;
 
 use cell_host::{HostAction, MAX_ACTIONS};
@@ -139,6 +141,17 @@ fn is_register(register: u8) -> bool
     ensures { IsTrue result ↔ IsRegister register }
 {
     register == 1 || register == 2
+}
+
+/// Whether a signal register is in OR mode.
+pub(crate) fn is_or(or_modes: u32, spe: u8, register: u8) -> bool
+    requires { IsRegister register }
+    ensures { result ≡ has_bit or_modes (number_of spe register) }
+{
+    if spe >= 16 {
+        return false;
+    }
+    (or_modes >> (2 * spe + register - 1)) & 1 == 1
 }
 
 impl Setup {
@@ -334,6 +347,14 @@ impl Setup {
         }
         self.or_modes |= 1 << (2 * spe + register - 1);
         Ok(())
+    }
+
+    /// Whether signal register 1 or 2 of a processor is in OR mode.
+    pub fn has_or_mode(&self, spe: u8, register: u8) -> bool
+        requires { IsRegister register }
+        ensures { result ≡ is_or_register self.now spe register }
+    {
+        is_or(self.or_modes, spe, register)
     }
 
     /// Adds a range that the states show. `Limit` where 64 are there, it has no byte or more than 4,096, it doesn't fit,
