@@ -4,7 +4,7 @@ ghost use Rattle.std.specs.Prelude.{All, ◌≡◌, ◌+◌, ◌*◌, ◌%◌, �
 ghost use Rattle.spu_exec.specs.Places.{IsPlace};
 ghost use Rattle.cell_base.specs.Bits.{has_bit};
 ghost use Rattle.cell_signals.specs.Registers.{number_of};
-ghost use Rattle.cell_machine.specs.Limits.{AreMachineLimits, FitsShow, MayShow, FitsAction, MayAct, IsRegister, shown, shown_memory};
+ghost use Rattle.cell_machine.specs.Limits.{AreMachineLimits, FitsShow, MayShow, FitsAction, MayAct, IsRegister, shown, shown_memory, IsOpening};
 ghost use Rattle.cell_machine.specs.Opening.{is_or as is_or_register};
 ghost use Rattle.cell_machine.specs.declared.setup.SetupError.TheVariants as setup_error;
 
@@ -36,12 +36,12 @@ pub enum Show {
     Local { spe: u8, at: u32, len: u32 },
 }
 
-/// Bytes for a processor's store.
+/// Bytes placed in a processor's local store, from an address on.
 #[derive(Drop)]
-pub(crate) struct PlacedBytes {
-    pub(crate) spe: u8,
-    pub(crate) at: u32,
-    pub(crate) bytes: Vec<u8>,
+pub struct PlacedBytes {
+    pub spe: u8,
+    pub at: u32,
+    pub bytes: Vec<u8>,
 }
 
 /// Bytes for main memory.
@@ -241,6 +241,14 @@ impl Setup {
             return Err(SetupError::Memory);
         }
         Ok(())
+    }
+
+    /// The bytes placed in local stores, in the order in which they were placed; each fits its store.
+    pub fn placed(&self) -> &[PlacedBytes]
+        ensures placed { shown result.now ≡ self.now.placed }
+        ensures opening { IsOpening self.now }
+    {
+        self.placed.as_slice()
     }
 
     /// Places bytes in main memory from an address on; later bytes replace earlier ones. `Limit` where they don't fit it.
