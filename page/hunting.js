@@ -1,16 +1,14 @@
 // @ts-check
 // A hunt in parts, over as many workers as the machine has cores. What was found so far is there at any time, also if the hunt is stopped.
 import { Unanswered } from './asking.js';
-import { Sum, huntLine } from './sums.js';
+import { NO_ZEROS } from './outcome.js';
+import { Sum } from './sums.js';
 
 /** @typedef {import('./asking.js').Asker} Asker @typedef {import('./telling.js').Project} Project */
 
 const PART = 250, LEAST = 50; // milliseconds that a part should take, so that little is lost at a stop, and at least, so that there are few
 const FIRST_PART = 2, GROWTH = 4, MOST_RUNS = 20_000; // runs of a part: the first, how much more the next may have, and the most
 const ALONE = 300; // milliseconds before the other workers begin, if so much is left then: a short hunt is over sooner without them
-
-/** The lines of a sum without places and reasons. @param {Sum} sum @returns {{ lines: import('./sums.js').Line[], zeros: number }} */
-export const plainLines = sum => ({ lines: sum.lines.map(huntLine), zeros: 0 });
 
 export class Hunting {
   /**
@@ -22,7 +20,7 @@ export class Hunting {
     this.cores = Math.max(1, cores);
     /** @type {Asker[]} */
     this.askers = [];
-    this.isMaking = this.isTelling = false; // whether runs are made, and whether words are found for what they did
+    this.isMaking = this.isLooking = false; // whether runs are made, and whether some are looked at again
     this.why = ''; // why the runs are stopped
     this.refusal = ''; // of a part
     this.next = this.asked = this.working = 0;
@@ -38,7 +36,7 @@ export class Hunting {
   /** Makes runs whose answer nobody needs, so that the browser makes the code fast. @param {Project} project @param {number} runs */
   warmUp(project, runs) {
     this.asker(0).ask('huntPart', project, 0, runs).catch(() => {});
-    this.asker(0).ask('huntWords', project, []).catch(() => {});
+    this.asker(0).ask('zerosOf', project, []).catch(() => {});
   }
 
   /**
@@ -87,29 +85,28 @@ export class Hunting {
     const left = this.asked - this.next, share = Math.max(Math.ceil(left / this.working), Math.round(LEAST / this.perRun));
     return Math.max(1, Math.min(left, this.size, share));
   }
-  /** The lines of a sum for the page; without places and reasons if these take too long. @param {Project} project @param {Sum} sum @param {number} seconds */
-  async words(project, sum, seconds) {
-    const { lines } = sum;
-    this.isTelling = true;
+  /** The runs of a sum in which an SPU ran into zeros; none if it takes too long to find them. @param {Project} project @param {Sum} sum @param {number} seconds */
+  async zeros(project, sum, seconds) {
+    this.isLooking = true;
     const timer = this.limit(seconds);
     try {
-      return /** @type {{ lines: import('./sums.js').Line[], zeros: number }} */ (await this.asker(0).ask('huntWords', project, lines));
+      return /** @type {import('./outcome.js').Zeros} */ (await this.asker(0).ask('zerosOf', project, sum.of('end')));
     } catch (why) {
       if (!(why instanceof Unanswered)) throw why;
-      return plainLines(sum);
+      return NO_ZEROS;
     } finally {
       clearTimeout(timer);
-      this.isTelling = false;
+      this.isLooking = false;
     }
   }
   /** Stops it when the seconds are over. @param {number} seconds */
   limit(seconds) {
     return setTimeout(() => this.stop(`it took more than ${seconds} seconds`), seconds * 1000);
   }
-  get isBusy() { return this.isMaking || this.isTelling; }
+  get isBusy() { return this.isMaking || this.isLooking; }
   /** Ends what is under way. @param {string} why in words for the user */
   stop(why) {
-    if (!this.isTelling && (!this.isMaking || this.why)) return;
+    if (!this.isLooking && (!this.isMaking || this.why)) return;
     if (this.isMaking) this.why = why;
     const [first, ...others] = this.askers.splice(0);
     for (const asker of others) asker.end(why);

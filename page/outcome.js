@@ -16,7 +16,12 @@
  * @property {string} text a few words, for the head of the tabs
  * @property {string[]} failures what ended badly, a sentence each
  * @property {string[]} warnings
+ * @typedef {{ runs: number, lines: { text: string, run: number }[] }} Zeros
+ *   in how many runs of a hunt an SPU ran into zeros, and a line for each such SPU with the first of the runs
  */
+
+/** @type {Zeros} */
+export const NO_ZEROS = { runs: 0, lines: [] };
 
 const ZEROS = 'stopped 0x0000';
 /** FILE:LINE with the name of the file alone. @param {string} place */

@@ -3,7 +3,8 @@
 import { Asker, Unanswered } from './asking.js';
 import { asOneStop, byId, make, say, takeStop, wireStops, withCode } from './dom.js';
 import { Editor } from './editor.js';
-import { Hunting, plainLines } from './hunting.js';
+import { Hunting } from './hunting.js';
+import { NO_ZEROS } from './outcome.js';
 import { LinkError, bytesOf, linkOf, programIn, tooLarge, unpacked } from './packing.js';
 import { Results } from './results.js';
 import { LINK, Work, sourcesOf } from './work.js';
@@ -252,9 +253,9 @@ async function hunt() {
     const seconds = Number(document.body.dataset.seconds), making = hunting.hunt(project, asked, seconds, progress);
     showBusy();
     const { sum, why } = await making, isOpen = () => results.hunt?.project === project;
-    if (why && isOpen()) results.hunted({ project, sum, asked, why, ...plainLines(sum) }); // at once
-    const told = isOpen() ? await hunting.words(project, sum, seconds) : null;
-    if (told && isOpen()) results.hunted({ project, sum, asked, why, ...told });
+    if (why && isOpen()) results.hunted({ project, sum, asked, why, zeros: NO_ZEROS }); // at once
+    const zeros = isOpen() ? await hunting.zeros(project, sum, seconds) : null;
+    if (zeros && isOpen()) results.hunted({ project, sum, asked, why, zeros });
   } catch (why) {
     if (!(why instanceof Unanswered)) throw why;
     if (results.hunt?.project !== project) return; // another program is open

@@ -2,19 +2,19 @@
 // The results, under tabs: the end of a run, its race, its steps, its picture, both orders of the race, and the findings of a hunt.
 import { asTabs, byId, make, markTab, say } from './dom.js';
 import { outcomeOf, outcomeOfHunt } from './outcome.js';
+import { coverageLine, endLines, findingLines, headOf, unexecutedLines } from './report.js';
 import { itemOf, linked, placesIn } from './words.js';
 
 /**
  * @typedef {import('./telling.js').Made} Made @typedef {import('./telling.js').Project} Project @typedef {import('./words.js').Ways} Ways
  * @typedef {import('./outcome.js').Ending} Ending @typedef {import('./outcome.js').Outcome} Outcome
  * @typedef {{ file: string, line: number, kind: string }} Mark
- * @typedef {object} HuntResult a hunt that has ended, with its lines for the page
+ * @typedef {object} HuntResult a hunt that has ended
  * @property {Project} project
  * @property {import('./sums.js').Sum} sum
  * @property {number} asked how many runs were asked for
  * @property {string} why there are fewer, or ''
- * @property {import('./sums.js').Line[]} lines
- * @property {number} zeros in how many runs an SPU ran into zeros
+ * @property {import('./outcome.js').Zeros} zeros
  */
 
 /**
@@ -25,7 +25,7 @@ import { itemOf, linked, placesIn } from './words.js';
  */
 
 const statesOf = (text, label = 'the states') => make('pre', { tabindex: '0', 'aria-label': label }, text);
-const count = new Intl.NumberFormat('en').format, percent = new Intl.NumberFormat('en', { style: 'percent', maximumSignificantDigits: 2 }).format;
+const count = new Intl.NumberFormat('en').format;
 
 /** The panels. All but `hunt` are drawn for the open run, by the method of the same name. */
 const PANELS = ['result', 'race', 'steps', 'picture', 'orders', 'hunt'];
@@ -286,29 +286,24 @@ export class Results {
     byId('tab-hunt').disabled = true;
     byId('hunt').replaceChildren();
   }
-  /** Shows the findings of a hunt. @param {HuntResult} result */
-  hunted({ project, sum, asked, why, lines, zeros }) {
-    const outcome = outcomeOfHunt({ made: sum.runs, asked, flaws: sum.flaws, zeros }), { classes, once } = sum.coverage;
+  /** Shows the report on a hunt. @param {HuntResult} result */
+  hunted({ project, sum, asked, why, zeros }) {
+    const outcome = outcomeOfHunt({ made: sum.runs, asked, flaws: sum.flaws, zeros: zeros.runs }), paragraph = (text, name) => make('p', { class: name }, text);
     this.hunt = { project, outcome };
-    const ends = `${count(sum.allStopped)} AllStopped, ${count(sum.flaws.stuck.runs)} Stuck, ${count(sum.flaws.budget.runs)} Budget`;
-    const stopped = why ? [make('p', { class: 'cautioned' }, `Ended after ${count(sum.runs)} of ${count(asked)} runs: ${why}.`)] : [];
-    const found = outcome.failures.join('; ') || 'No run has a race, a deadlock, a fault, a halt or a spent budget.';
-    const coverage = `Coverage: ${count(classes)} ${classes === 1 ? 'class' : 'classes'} of equivalent runs, ${count(once)} seen only once: about `
-      + `${percent(once / Math.max(1, sum.runs))} of further runs would be new.`;
-    const head = `${count(sum.runs)} ${sum.runs === 1 ? 'run' : 'runs'}: ${ends}.`;
-    byId('hunt').replaceChildren(make('p', {}, head), ...stopped, make('p', { class: 'found' }, found),
-      ...outcome.warnings.map(words => make('p', { class: 'cautioned' }, `Warning: ${words}.`)), make('p', {}, coverage),
-      make('ul', { class: 'hunted' }, ...lines.map(line => this.huntLine(line))), make('p', { class: 'dim' }, 'Another run may do what none of these did.'));
+    const list = (lines, name) => make('ul', { class: name }, ...lines.map(line => this.huntLine(line)));
+    byId('hunt').replaceChildren(paragraph(headOf(sum, project.machine), 'found'),
+      ...(why ? [paragraph(`Ended after ${count(sum.runs)} of ${count(asked)} runs: ${why}.`, 'cautioned')] : []),
+      ...outcome.warnings.map(words => paragraph(`Warning: ${words}.`, 'cautioned')), list(zeros.lines.map(line => ({ kind: 'deeper', ...line })), 'hunted'),
+      list(findingLines(sum), 'hunted'), list(endLines(sum), 'hunted'), paragraph(coverageLine(sum), ''),
+      ...unexecutedLines(sum).map(text => make('p', {}, ...linked(text, { files: Object.keys(project.files), toLine: this.page.show, toStep: null }))),
+      paragraph('Another run may do what none of these did.', 'dim'));
     this.drawHead();
     say(`${outcome.text}. ${why}`);
   }
-  /** A line of a hunt. One that counts runs has a button for the first of them. @param {import('./sums.js').Line} line */
-  huntLine({ kind, runs, first, text }) {
+  /** A line of the report, with a button for its run. @param {import('./report.js').Line} line */
+  huntLine({ kind, text, run }) {
     const ways = { files: this.hunt ? Object.keys(this.hunt.project.files) : [], toLine: this.page.show, toStep: null };
-    if (kind === 'more') return make('li', { class: 'deeper' }, ...linked(text, ways));
-    const is_one = runs === 1, some = `${count(runs)} ${is_one ? 'run' : 'runs'}`;
-    const words = { race: `race in ${some}: `, end: `end of ${some}: `, result: `result of ${some}` }[kind];
-    const show = make('button', { class: 'show-run', onclick: () => this.page.openRun(first, kind === 'race' ? 'race' : 'result') }, `Show run ${first}`);
-    return make('li', { class: kind === 'result' ? 'deeper' : kind }, show, ` ${words || ''}`, ...linked(text, ways));
+    const open = () => this.page.openRun(Number(run), kind === 'race' ? 'race' : 'result');
+    return make('li', { class: kind }, ...(run === null ? [] : [make('button', { class: 'show-run', onclick: open }, `Show run ${run}`), ' ']), ...linked(text.trim(), ways));
   }
 }

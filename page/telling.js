@@ -4,7 +4,7 @@ import { $, files, importOf, keep, printedBy } from './python/runtime.js';
 import { programs } from './python/files.js';
 import { decodedText } from './python/text.js';
 import { incidentText } from './outcome.js';
-import { huntLine, partOf } from './sums.js';
+import { partOf } from './sums.js';
 
 /**
  * @typedef {object} Project a machine file with its sources
@@ -87,36 +87,20 @@ export function huntPart(project, from, runs) {
   if (status > 1) throw refusalOf(project, text);
   return attempt(() => partOf(text));
 }
+const ZEROS = 'stopped 0x0000', MOST_ZEROS = 8; // endings that are looked at: each costs a run
 /**
- * The lines of a hunt with the places of their instructions, with the reasons of endings, and with what became of SPUs that halted or ran into zeros.
- * @param {Project} project @param {string[]} lines
+ * In how many runs of a hunt an SPU ran into zeros, and a line for each such SPU with the first of the runs.
+ * @param {Project} project @param {import('./sums.js').Entry[]} endings @returns {import('./outcome.js').Zeros}
  */
-export function huntWords(project, lines) {
+export function zerosOf(project, endings) {
   load(project);
   return attempt(() => {
-    const { explained, Explainer } = importOf('celltools.hunt.words'), { Sites } = importOf('celltools.source.sites');
-    const told = /** @type {string[]} */ ([...explained(lines, Sites(project.machine), Explainer(snapshotOf(project.machine), 1))]);
-    const { all, zeros } = withIncidents(project, told);
-    return { lines: importOf('celltools.hunt.spent').folded(all).map(huntLine), zeros };
+    const found = endings.filter(({ end }) => end.includes(ZEROS)).slice(0, MOST_ZEROS).map(({ first, runs }) => {
+      const incidents = incidentsOf(project.machine, recordOfHunt(project, Number(first))).filter(({ status }) => status === ZEROS);
+      return { runs: incidents.length ? runs : 0, lines: incidents.map(incident => ({ text: incidentText(incident), run: Number(first) })) };
+    });
+    return { runs: found.reduce((sum, { runs }) => sum + runs, 0), lines: found.flatMap(({ lines }) => lines) };
   });
-}
-const ODD_END = /^end (\d+) (\d+) .*(?:\bhalted\b|\bstopped 0x0000\b)/, MOST_ODD = 8; // such ends cost a run each
-/**
- * The lines with a line after each ending in which an SPU halted or ran into zeros, and in how many runs one ran into zeros.
- * @param {Project} project @param {string[]} lines
- */
-function withIncidents(project, lines) {
-  const all = /** @type {string[]} */ ([]);
-  let zeros = 0, left = MOST_ODD;
-  for (const line of lines) {
-    const odd = ODD_END.exec(line);
-    all.push(line);
-    if (!odd || left-- <= 0) continue;
-    const found = incidentsOf(project.machine, recordOfHunt(project, +odd[2])).filter(({ status }) => /^(?:halted|stopped 0x0000)$/.test(status));
-    if (found.some(({ status }) => status === 'stopped 0x0000')) zeros += +odd[1];
-    all.push(...found.map(incident => `    ${incidentText(incident)}`));
-  }
-  return { all, zeros };
 }
 /** A file as a tool names it that reads a copy of it. @param {string} name */
 const snapshotOf = name => importOf('celltools.run.snapshots').Snapshot(name, name);

@@ -2,10 +2,10 @@
 // The worker: takes the engine first, then answers one question after the other.
 import { ModuleEngine } from './engine.js';
 import { programs } from './python/files.js';
-import { Refusal, ask, check, ending, faults, huntPart, huntWords, orders, picture, run, runOfHunt, step, tool } from './telling.js';
+import { Refusal, ask, check, ending, faults, huntPart, orders, picture, run, runOfHunt, step, tool, zerosOf } from './telling.js';
 
 /** @type {Record<string, (...given: any[]) => any>} */
-const ANSWERS = { faults, run, huntPart, huntWords, runOfHunt, ending, check, picture, orders, step, ask, tool };
+const ANSWERS = { faults, run, huntPart, zerosOf, runOfHunt, ending, check, picture, orders, step, ask, tool };
 
 /** @param {{ data: { engine?: WebAssembly.Module, id: number, asked: string, given: any[] } }} message */
 onmessage = ({ data }) => {

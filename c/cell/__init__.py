@@ -9,12 +9,12 @@
 Each call takes the files by their names, as texts or bytes, and reads none of the disk; `files_of` reads a machine file and its sources. A call may be made on
 any thread, also while others are. A refusal is an exception, with the file and the line where it has them: all are a `CellError`.
 """
-from .answers import Count, Hunt, Image, Processor, Race, Run, Segment, Shown, Site, States, Step, Trace, Verdict
+from .answers import Count, Finding, Hunt, Image, Lines, Processor, Race, Run, Segment, Shown, Site, States, Step, Trace, Verdict
 from .calls import assemble, check, files_of, hunt, run, trace
 from .errors import CellError, Faulty, LibraryMissing, Misused, NoMemory, NoRun, NotRead
 from .library import Answer, ask
 
 __all__ = [
-    "Answer", "CellError", "Count", "Faulty", "Hunt", "Image", "LibraryMissing", "Misused", "NoMemory", "NoRun", "NotRead", "Processor", "Race", "Run",
-    "Segment", "Shown", "Site", "States", "Step", "Trace", "Verdict", "ask", "assemble", "check", "files_of", "hunt", "run", "trace",
+    "Answer", "CellError", "Count", "Faulty", "Finding", "Hunt", "Image", "LibraryMissing", "Lines", "Misused", "NoMemory", "NoRun", "NotRead", "Processor", "Race",
+    "Run", "Segment", "Shown", "Site", "States", "Step", "Trace", "Verdict", "ask", "assemble", "check", "files_of", "hunt", "run", "trace",
 ]

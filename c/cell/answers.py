@@ -167,16 +167,35 @@ class Race:
 
 
 @dataclasses.dataclass(frozen=True)
+class Finding:
+    """A failure that `runs` runs have, and the number of the first of them. `kind` is race, halt, fault, deadlock, budget or missed; `lines` are those that a
+    report prints of it: source lines for most kinds, and for a race the suppression too."""
+    kind: str
+    runs: int
+    first: int
+    lines: Tuple[str, ...]
+
+
+class Lines(NamedTuple):
+    """The numbers of the lines of a source that have an instruction, in their order: those that a run executed, and those that no run did."""
+    executed: Tuple[int, ...]
+    unexecuted: Tuple[int, ...]
+
+
+@dataclasses.dataclass(frozen=True)
 class Hunt:
-    """What many runs tell. `flaws` has how many have a race, are stuck, spent the budget, have a fault or a halt, or miss an expected line; `endings` how they
-    end, and `results` what those of an ending leave, by both, each with how many. `text` is what `hunt --json` prints."""
+    """The report on many runs. `flaws` has how many have a race, are stuck, spent the budget, have a fault or a halt, or miss an expected line, and `findings`
+    each failure; `endings` how they end, and `results` what those of an ending leave, by both, each with how many. `coverage` has the lines of each source by its
+    name; a line counts as executed if one SPU executed it. `text` is what `hunt --json` prints."""
     text: str
     runs: int
     seed: int
     flaws: Dict[str, Count]
     races: Tuple[Race, ...]
+    findings: Tuple[Finding, ...]
     endings: Dict[str, Count]
     results: Dict[Tuple[str, str], Count]
+    coverage: Dict[str, Lines]
 
     @property
     def is_clean(self) -> bool:
@@ -198,13 +217,29 @@ def race_of(line: Json) -> Race:
     return Race(first, second, count_of(line))
 
 
+def finding_of(line: Json) -> Finding:
+    return Finding(line["finding"], line["runs"], line["first"], tuple(text[2:] for text in decoded(line["shown"]).split("\n")[:-1]))
+
+
+def decoded(text: str) -> str:
+    """A text that has a character a byte."""
+    return text.encode("latin-1").decode("utf-8", "surrogateescape")
+
+
+def coverage_of(sources: List[Json]) -> Dict[str, Lines]:
+    """The lines of each source, by its name."""
+    return {decoded(source["source"]): Lines(*(tuple(number for number, executed in source["lines"] if executed == wanted) for wanted in (1, 0)))
+            for source in sources}
+
+
 def hunt_of(text: str) -> Hunt:
     head, *told = map(json.loads, text.splitlines())
     flaws = {name: count_of(members) for name, members in head.items() if isinstance(members, dict) and "runs" in members}
     races = tuple(race_of(line) for line in told if "race" in line)
     endings = {line["end"]: count_of(line) for line in told if "end" in line and "result" not in line}
     results = {(line["end"], line["result"]): count_of(line) for line in told if "result" in line}
-    return Hunt(text, head["runs"], head["seed"], flaws, races, endings, results)
+    findings = tuple(finding_of(line) for line in told if "finding" in line)
+    return Hunt(text, head["runs"], head["seed"], flaws, races, findings, endings, results, coverage_of([line for line in told if "source" in line]))
 
 
 # ---- traces

@@ -1,4 +1,4 @@
-"""What ./hunt prints, asked of what it asks itself: the program, and the tool that completes its lines. Its own start takes ten times as long as a short hunt."""
+"""What ./hunt prints, asked of what it asks itself: the program, and with --json the tool that makes a part. Its own start takes ten times as long as a short hunt."""
 import subprocess
 from typing import Sequence, Tuple
 
@@ -18,7 +18,9 @@ def tool(words: Sequence[str], given: bytes) -> forking.Answer:
 
 
 def hunted(machine: str, *words: str) -> Tuple[int, bytes]:
-    """The status of a hunt, and what it prints: what the tool says, where it can't complete the lines."""
+    """The status of a hunt, and what it prints; for a part that can't be made, what the tool says."""
     found = subprocess.run([HUNT, machine, *words], cwd=ROOT, stdin=subprocess.DEVNULL, capture_output=True, timeout=SECONDS)
-    status, printed, said = tool(["tools/site_lines", *(word for word in words if word == "--json"), machine], found.stdout)
+    if "--json" not in words:
+        return found.returncode, found.stdout
+    status, printed, said = tool(["tools/site_lines", "--json", machine], found.stdout)
     return found.returncode, printed if status == 0 else said

@@ -45,6 +45,10 @@ class Block:
     def is_commands(self) -> bool:
         return bool(IN_BLOCK.match(self.lines[0]))
 
+    def is_text(self) -> bool:
+        """Whether it is what a command prints, or a file. Such a text goes on in the next block if that is one too."""
+        return not self.is_commands() and not self.is_session()
+
     def file(self) -> str:
         """The name of the file that it shows, where the paragraph before it names one."""
         named = NAMED.findall(self.before)
@@ -73,7 +77,11 @@ class Section:
             self.parts.append(Paragraph(line, " ".join(lines)))
             return
         last = self.parts[-1] if self.parts else Paragraph(line, "")
-        self.parts.append(Block(line, [text.removeprefix(INDENT) for text in lines], last.text if isinstance(last, Paragraph) else ""))
+        block = Block(line, [text.removeprefix(INDENT) for text in lines], last.text if isinstance(last, Paragraph) else "")
+        if isinstance(last, Block) and last.is_text() and block.is_text():
+            last.lines.extend(["", *block.lines])
+        else:
+            self.parts.append(block)
 
     def commands(self) -> List[str]:
         """All commands that it shows."""

@@ -19,7 +19,7 @@ use Rattle.reorder_laws.specs.Theorem.{IsSameSpe, IsSameEnd}
 use Rattle.state_lines.specs.Lines.{end_line, spe_line, local_bytes, memory_line, local_line, show_line}
 use Rattle.cell_report.specs.States.{register_lines, spe_text, spes_text, host_text, states_of}
 use Rattle.cell_forms.specs.Checks.{TellsEnd}
-use Rattle.reorder.specs.Nth.{EndsAlike}
+use Rattle.run_permute.specs.Nth.{EndsAlike}
 
 -- ---- the text
 

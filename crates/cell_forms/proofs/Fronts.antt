@@ -12,9 +12,9 @@ use Rattle.race_check.specs.Races.{IsVerdict}
 use Rattle.race_check.proofs.Accepted.{first_steps, raced-whole}
 use Rattle.race_check.proofs.Prefixes.{first_of, first-all, run-told}
 use Rattle.reorder_laws.specs.Places.{until}
-use Rattle.settled.specs.Settlings.{IsSettledSoFar}
-use Rattle.settled.proofs.Alike.{alike-first, flipped, settled-on}
-use Rattle.settled.proofs.Walking.{until-long}
+use Rattle.run_permute.specs.Settlings.{IsSettledSoFar}
+use Rattle.run_permute.proofs.Alike.{alike-first, flipped, settled-on}
+use Rattle.run_permute.proofs.Walking.{until-long}
 use Rattle.run_record.specs.Replayed.{IsRefusedAt}
 use Rattle.run_record.proofs.Runs.{refused_at}
 

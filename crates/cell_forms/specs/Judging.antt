@@ -10,8 +10,8 @@ use Rattle.race_check.specs.Races.{IsVerdict}
 use Rattle.race_check.specs.Reorderings.{EveryReorderingAgrees}
 use Rattle.race_check.specs.Searches.{IsClear, run_of}
 use Rattle.run_record.specs.Replayed.{IsRefusedAt}
-use Rattle.settled.specs.Settlings.{Follows, IsSettledSoFar}
-use Rattle.reorder.specs.Gathered.{Gathers}
+use Rattle.run_permute.specs.Settlings.{Follows, IsSettledSoFar}
+use Rattle.run_permute.specs.Gathered.{Gathers}
 use Rattle.cell_forms.specs.declared.looks.Looks.{Looks}
 use Rattle.cell_forms.specs.declared.judging.Judged.{Judged}
 use Rattle.cell_forms.specs.declared.fault.Fault.{Fault}

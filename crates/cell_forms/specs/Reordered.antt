@@ -4,7 +4,7 @@ use Rattle.cell_machine.specs.Run.{Ran}
 use Rattle.race_check.specs.declared.check.Verdict.TheVariants.{Accepted}
 use Rattle.race_check.specs.Races.{IsVerdict}
 use Rattle.reorder_laws.specs.Settled.{IsSettled}
-use Rattle.reorder.specs.Nth.{EndsAlike, IsReordered}
+use Rattle.run_permute.specs.Nth.{EndsAlike, IsReordered}
 use Rattle.cell_forms.specs.declared.fault.Fault.{Fault}
 use Rattle.cell_forms.specs.declared.fault.Fault.TheVariants.{NotSettled, Memory}
 use Rattle.cell_forms.specs.Checks.{TellsEnd}

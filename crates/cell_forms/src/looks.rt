@@ -6,15 +6,14 @@ ghost use Rattle.race_check.specs.Races.{IsVerdict};
 ghost use Rattle.race_check.specs.Searches.{HasMadeAtMost, IsClear, run_of};
 ghost use Rattle.reorder_laws.specs.Places.{until};
 ghost use Rattle.run_walk.specs.Walks.{IsLast, walked};
-ghost use Rattle.settled.specs.Walks.{IsMadeFrom};
+ghost use Rattle.run_permute.specs.Walks.{IsMadeFrom};
 ghost use Rattle.cell_forms.specs.Judging.{LooksAt};
 
 use cell_base::Step;
 use cell_machine::{Effect, Setup};
 use race_check::{Search, Verdict};
-use reorder::Needs;
+use run_permute::{Made, Needs, Settling};
 use run_walk::Walk;
-use settled::{Made, Settling};
 use std::alloc::{AllocError, Global};
 
 /// Whether the run is settled, and where it is so far, what its steps need.

@@ -4,7 +4,7 @@ ghost use Rattle.std.specs.Prelude.{◌≡◌, ◌≢◌, ◌≤◌, IfErr, IfOk
 ghost use Rattle.std.specs.Option.{ForSome};
 ghost use Rattle.cell_io.specs.Store.{NoneFell};
 ghost use Rattle.race_check.specs.Races.{IsVerdict};
-ghost use Rattle.reorder.specs.Nth.{EndsAlike, IsReordered};
+ghost use Rattle.run_permute.specs.Nth.{EndsAlike, IsReordered};
 ghost use Rattle.reorder_laws.specs.Settled.{IsSettled};
 ghost use Rattle.cell_forms.specs.Task.{reordering_of};
 ghost use Rattle.cell_forms.specs.Forms.{permute_task};
@@ -20,7 +20,7 @@ use crate::run::write_run;
 use cell_io::{Sink, Store};
 use cell_machine::Machine;
 use race_check::Verdict;
-use reorder::permute_by_needs;
+use run_permute::permute_by_needs;
 use std::alloc::Global;
 
 /// The machine that makes the run in the order of the number, where the run is settled.

@@ -15,6 +15,8 @@ use Rattle.race_order.proofs.OrderedRuns.{follows, trace-snoc}
 use Rattle.race_order.specs.Told.{trace_in}
 use Rattle.cell_hunt.specs.declared.touches.Touch.{Touch}
 use Rattle.cell_hunt.specs.declared.touched.Touched.{Touched}
+use Rattle.cell_hunt.specs.declared.executed.Executed.{Executed}
+use Rattle.cell_hunt.specs.Executed.{executed_by, executed_in}
 use Rattle.cell_hunt.specs.Kinds.{digest, kind_of, touchable, touched, touchers, touches, touches_in}
 use Rattle.cell_hunt.specs.Runs.{with_step}
 use Rattle.cell_hunt.specs.Touched.{AreDigests, HasTouched, touched_from}
@@ -42,6 +44,23 @@ touches_more m s e is effect =
     let more = trace-snoc (opening m.setup) f.state m.steps (trace_in m) s e is f.at f.effect in
     ap (λ o. option_map_or F o []) more ∙ flat_map-append (λ (y : Event). touches y.step y.effect) (trace_in m) (x ∷ [])
     ∙ ap (λ ts. F (trace_in m) ++ ts) (append-nil (touches s e)) ∙ ap (λ o. option_map_or F o [] ++ touches s e) (sym is)
+
+-- ---- executed instructions
+
+pub none_executed : (S : Opening) → executed_in (record { setup = S; steps = [] }) ≡ []
+unfolding executed_in
+none_executed S = refl
+
+-- a step more
+pub executed_more : (m : Ran) (s : Step) (e : Effect) → trace_of m ≡ Some (trace_in m) → effect_in m s ≡ Some e → executed_in (with_step m s) ≡ executed_in m ++ executed_by s e
+unfolding executed_in
+executed_more m s e is effect =
+    let f = follows m s e effect in
+    let x : Event = record { step = s; effect = e } in
+    let F : List Event → List Executed = flat_map (λ (y : Event). executed_by y.step y.effect) in
+    let more = trace-snoc (opening m.setup) f.state m.steps (trace_in m) s e is f.at f.effect in
+    ap (λ o. option_map_or F o []) more ∙ flat_map-append (λ (y : Event). executed_by y.step y.effect) (trace_in m) (x ∷ [])
+    ∙ ap (λ ts. F (trace_in m) ++ ts) (append-nil (executed_by s e)) ∙ ap (λ o. option_map_or F o [] ++ executed_by s e) (sym is)
 
 -- what is kept of a run tells its kind
 told_from : (f : ℕ → ℕ) (a n : ℕ) → touched_from a (map f (range_with_len a n)) ≡ flat_map (λ what. touched what (f what)) (range_with_len a n)

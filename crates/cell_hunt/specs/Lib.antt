@@ -15,5 +15,6 @@ pub mod Origins
 pub mod Racings
 pub mod Endings
 pub mod Kinds
+pub mod Executed
 pub mod Touched
 pub mod SoFar

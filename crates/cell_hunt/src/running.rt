@@ -6,6 +6,7 @@ ghost use Rattle.race_check.specs.declared.check.Verdict.{Verdict as AVerdict};
 ghost use Rattle.race_check.specs.Races.{IsVerdict};
 ghost use Rattle.cell_hunt.specs.Endings.{AreAllEndings};
 ghost use Rattle.cell_hunt.specs.Ends.{IsOver};
+ghost use Rattle.cell_hunt.specs.Executed.{executed_in};
 ghost use Rattle.cell_hunt.specs.Outcomes.{TellsRace};
 ghost use Rattle.cell_hunt.specs.SoFar.{IsSearchedTo, made_by};
 ghost use Rattle.cell_hunt.specs.Racings.{AreAllRaces};
@@ -16,6 +17,7 @@ ghost use Rattle.cell_hunt.specs.Kinds.{kind_of};
 use crate::chooser::Chooser;
 use crate::ending::Ended;
 use crate::error::HuntError;
+use crate::executed::Executed;
 use crate::racing::Racing;
 use crate::site::Sites;
 use crate::so_far::SoFar;
@@ -30,6 +32,7 @@ pub struct SeedRun {
     least: Option<Racing>,
     races: Vec<Racing>,
     endings: Vec<Ended>,
+    executed: Vec<Executed>,
     kind: u64,
 }
 
@@ -43,9 +46,10 @@ impl Model for SeedRun {
 
     ghost use Rattle.std.specs.Prelude.{◌≡◌};
     ghost use Rattle.cell_hunt.specs.Endings.{AreAllEndings};
+    ghost use Rattle.cell_hunt.specs.Executed.{executed_in};
     ghost use Rattle.cell_hunt.specs.Kinds.{kind_of};
 
-    ghost invariant = { λ r. IsSearched r.machine r.least r.races.items × (r.kind ≡ kind_of r.machine) × AreAllEndings r.machine r.endings.items };
+    ghost invariant = { λ r. IsSearched r.machine r.least r.races.items × (r.kind ≡ kind_of r.machine) × AreAllEndings r.machine r.endings.items × (r.executed.items ≡ executed_in r.machine) };
 }
 
 impl SeedRun {
@@ -88,6 +92,13 @@ impl SeedRun {
         self.endings.as_slice()
     }
 
+    /// The instructions that its processors executed, one for each step that executes one, in the order of the steps.
+    pub fn executed(&self) -> &[Executed]
+        ensures { result.now ≡ executed_in self.now }
+    {
+        self.executed.as_slice()
+    }
+
     /// The digest of its kind.
     pub fn kind(&self) -> u64
         ensures { result ≡ kind_of self.now }
@@ -127,11 +138,13 @@ pub fn run_of_seed(alloc: Global, setup: &Setup, seed: u64, run: u32) -> Result<
     let mut so_far = SoFar::new(alloc, setup)?;
     make_all(&mut so_far, &mut chooser)?;
     let kind = so_far.touched.kind();
+    let executed = so_far.touched.into_executed();
     Ok(SeedRun {
         machine: so_far.search.into_machine(),
         least: so_far.least,
         races: so_far.races,
         endings: so_far.endings,
+        executed,
         kind,
     })
 }

@@ -2,11 +2,13 @@
 
 ghost use Rattle.std.specs.Prelude.{◌≡◌, ◌++◌, ◌∷◌, [], fold, length, option_to_list, List, OnOk};
 ghost use Rattle.cell_hunt.specs.declared.touches.Touch.{Touch as ATouch};
+ghost use Rattle.cell_hunt.specs.Executed.{executed_by};
 ghost use Rattle.cell_hunt.specs.Kinds.{digest, touchable, touched, touches};
 ghost use Rattle.cell_hunt.specs.Mixing.{with_number};
 ghost use Rattle.cell_hunt.specs.Touched.{AreDigests, touched_from};
 
 use crate::error::HuntError;
+use crate::executed::Executed;
 use crate::mixing::with_number;
 use crate::touches::{BEFORE_LINES, Touch, actor_number, line_touch, program_touch, value_touch};
 use cell_base::Step;
@@ -24,10 +26,11 @@ fn with_touched(digest: u64, what: u64, who: u64) -> u64
     with_number(with_number(digest, what), who)
 }
 
-/// Of each that can be touched the digest of who touched it so far.
+/// Of each that can be touched the digest of who touched it so far, and the instructions that were executed, in their order.
 #[derive(Drop)]
 pub struct Touched {
     pub digests: DigestPages,
+    pub executed: Vec<Executed>,
 }
 
 impl Touched {
@@ -35,9 +38,11 @@ impl Touched {
     pub fn new(alloc: Global, lines: u32) -> Touched
         ensures long { length result.digests ≡ touchable lines }
         ensures none { AreDigests [] result.digests }
+        ensures executed { result.executed.items ≡ [] }
     {
         Touched {
             digests: DigestPages::new(alloc, BEFORE_LINES as usize + lines as usize),
+            executed: Vec::new(alloc),
         }
     }
 
@@ -46,6 +51,7 @@ impl Touched {
     fn touch(&mut self, touch: Touch) -> Result<(), HuntError>
         ensures long { OnOk result (length self.new.digests ≡ length self.old.digests) }
         ensures more { OnOk result ((all : List ATouch) → AreDigests all self.old.digests → AreDigests (all ++ touch ∷ []) self.new.digests) }
+        ensures executed { self.new.executed ≡ self.old.executed }
     {
         let what = touch.what as usize;
         if what < self.digests.len() {
@@ -60,6 +66,7 @@ impl Touched {
     fn touch_some(&mut self, touch: Option<Touch>) -> Result<(), HuntError>
         ensures long { OnOk result (length self.new.digests ≡ length self.old.digests) }
         ensures more { OnOk result ((all : List ATouch) → AreDigests all self.old.digests → AreDigests (all ++ option_to_list touch) self.new.digests) }
+        ensures executed { self.new.executed ≡ self.old.executed }
     {
         if let Some(touch) = touch {
             self.touch(touch)?;
@@ -67,17 +74,41 @@ impl Touched {
         Ok(())
     }
 
-    /// Takes in what a step with this effect touches.
+    /// Takes in the instruction that a step with this effect executes, if it executes one.
+    #[inline(always)]
+    fn execute(&mut self, step: Step, effect: &Effect) -> Result<(), HuntError>
+        ensures digests { self.new.digests ≡ self.old.digests }
+        ensures executed { OnOk result (self.new.executed.items ≡ self.old.executed.items ++ executed_by step effect.now) }
+    {
+        if let Step::Exec { spe } = step {
+            self.executed.push(Executed {
+                spe,
+                at: effect.fetch.at,
+            })?;
+        }
+        Ok(())
+    }
+
+    /// Takes in what a step with this effect touches, and the instruction that it executes.
     pub fn add(&mut self, step: Step, effect: &Effect) -> Result<(), HuntError>
         ensures long { OnOk result (length self.new.digests ≡ length self.old.digests) }
         ensures more { OnOk result ((all : List ATouch) → AreDigests all self.old.digests → AreDigests (all ++ touches step effect.now) self.new.digests) }
+        ensures executed { OnOk result (self.new.executed.items ≡ self.old.executed.items ++ executed_by step effect.now) }
     {
+        self.execute(step, effect)?;
         let who = actor_number(step);
         self.touch_some(program_touch(step, effect))?;
         self.touch_some(line_touch(who, effect.reads))?;
         self.touch_some(line_touch(who, effect.writes))?;
         self.touch_some(value_touch(who, effect.note))?;
         Ok(())
+    }
+
+    /// The instructions that were executed.
+    pub fn into_executed(self) -> Vec<Executed>
+        ensures { result ≡ self.executed }
+    {
+        self.executed
     }
 
     /// The digest of all that was touched. It costs by what was touched: a number that nobody touched adds nothing.

@@ -154,6 +154,7 @@ impl Processor {
     ghost use Rattle.cell_machine.specs.Shows.{ShowsSpe, CanStep};
 
     /// The effect of a piece, in a machine with `spes` processors.
+    #[inline(never)]
     fn piece_effect(&self, spes: usize, spe: u8, cmd: u32, elem: u16, k: u16) -> Option<Effect>
         requires { (lines : ℕ) × CanStep lines self.now × (lines ≤ 524288) }
         ensures { (P : Spe) (m : MainMemory) → ShowsSpe self.now P → result ≡ option_and_then (λ x. of_command P cmd (piece_effect spes spe cmd k P x)) (piece m P cmd elem k) }
@@ -175,6 +176,7 @@ impl Processor {
     }
 
     /// The effect of reading the next element of a list command.
+    #[inline(never)]
     fn elem_effect(&self, lines: u32, spe: u8, cmd: u32) -> Option<Effect>
         requires can { CanStep lines self.now }
         requires lines { lines ≤ 524288 }
@@ -211,6 +213,7 @@ impl Processor {
     }
 
     /// The effect of retiring a command.
+    #[inline(never)]
     fn retire_effect(&self, cmd: u32) -> Option<Effect>
         requires { IsKept self.now.commands.queue }
         ensures { (P : Spe) → ShowsSpe self.now P → result ≡ option_map plain_effect (retire P cmd) }
@@ -223,6 +226,7 @@ impl Processor {
     }
 
     /// The effect of the atomic command in the slot.
+    #[inline(never)]
     fn atomic_effect(&self, memory: &SharedMemory, spe: u8) -> Option<Effect>
         requires can { CanStep (line_count memory.now.locks) self.now }
         requires spe { spe < memory.now.locks.spes }
@@ -288,6 +292,7 @@ fn host_tells(action: HostAction) -> Note
 }
 
 /// The effect of the script's next action, `None` if it isn't allowed.
+#[inline(never)]
 fn host_effect(processors: &[Processor], script: &Host) -> Option<Effect>
     ensures { (memory : SharedMemory) (M : State) → Shows processors.now memory script.now M → result ≡ effect_of M Step.Host }
 {

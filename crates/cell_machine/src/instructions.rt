@@ -80,6 +80,7 @@ impl Processor {
     ghost use Rattle.cell_machine.specs.Shows.{ShowsSpe, CanIssue};
 
     /// The effect of the next instruction, `None` if it isn't allowed.
+    #[inline(never)]
     pub(crate) fn exec_effect(&self, lines: u32, spe: u8) -> Option<Effect>
         requires number { CanIssue self.now.commands }
         requires lines { lines ≤ 524288 }

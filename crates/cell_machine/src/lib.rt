@@ -31,5 +31,5 @@ pub use error::MachineError;
 pub use machine::Machine;
 pub use mfc_command::DmaFault;
 pub use outstanding::Outstanding;
-pub use setup::{Setup, SetupError, Show};
+pub use setup::{PlacedBytes, Setup, SetupError, Show};
 pub use status::{End, Refused, Status};

@@ -14,16 +14,14 @@ ghost use Rattle.cell_machine.specs.Exec.{exec, followed, op_of, asks};
 ghost use Rattle.cell_machine.specs.Kept.{IsKept};
 ghost use Rattle.cell_machine.specs.Shown.{shown_from};
 ghost use Rattle.cell_machine.specs.Opening.{placed_in};
-ghost use Rattle.cell_machine.specs.Limits.{shown, IsRegister};
+ghost use Rattle.cell_machine.specs.Limits.{shown};
 ghost use Rattle.cell_machine.specs.OwnEvents.{with_freed, with_fixed};
-ghost use Rattle.cell_signals.specs.Registers.{number_of};
-ghost use Rattle.cell_base.specs.Bits.{has_bit};
 
 use crate::channels::operation;
 use crate::commands::Commands;
 use crate::error::MachineError;
 use crate::outstanding::Outstanding;
-use crate::setup::PlacedBytes;
+use crate::setup::{PlacedBytes, is_or};
 use crate::status::Status;
 use cell_base::ChannelOp;
 use cell_channels::Channels;
@@ -68,15 +66,6 @@ fn place_bytes(store: &mut LocalStore, spe: u8, placed: &[PlacedBytes])
         }
         store.copy_in(piece.at, &piece.bytes);
     }
-}
-
-/// Whether a signal register is in OR mode.
-fn is_or(or_modes: u32, spe: u8, register: u8) -> bool
-    requires spe { spe < 16 }
-    requires register { IsRegister register }
-    ensures { result ≡ has_bit or_modes (number_of spe register) }
-{
-    (or_modes >> (2 * spe + register - 1)) & 1 == 1
 }
 
 /// Whether an instruction of this row may be a channel instruction.

@@ -2,8 +2,10 @@
 
 ghost use Rattle.std.specs.Prelude.{All, ◌≡◌, ◌+◌, ◌*◌, ◌%◌, ◌^◌, ◌<◌, ◌≤◌, ◌↔◌, bit_or, [], ◌∷◌, ◌++◌, length, slice_set, Err, IfOk, IsTrue, OnErr, OnOk};
 ghost use Rattle.spu_exec.specs.Places.{IsPlace};
+ghost use Rattle.cell_base.specs.Bits.{has_bit};
 ghost use Rattle.cell_signals.specs.Registers.{number_of};
-ghost use Rattle.cell_machine.specs.Limits.{AreMachineLimits, FitsShow, MayShow, FitsAction, MayAct, IsRegister, shown, shown_memory};
+ghost use Rattle.cell_machine.specs.Limits.{AreMachineLimits, FitsShow, MayShow, FitsAction, MayAct, IsRegister, shown, shown_memory, IsOpening};
+ghost use Rattle.cell_machine.specs.Opening.{is_or as is_or_register};
 ghost use Rattle.cell_machine.specs.declared.setup.SetupError.TheVariants as setup_error;
 
 use cell_host::{HostAction, MAX_ACTIONS};
@@ -34,12 +36,12 @@ pub enum Show {
     Local { spe: u8, at: u32, len: u32 },
 }
 
-/// Bytes for a processor's store.
+/// Bytes placed in a processor's local store, from an address on.
 #[derive(Drop)]
-pub(crate) struct PlacedBytes {
-    pub(crate) spe: u8,
-    pub(crate) at: u32,
-    pub(crate) bytes: Vec<u8>,
+pub struct PlacedBytes {
+    pub spe: u8,
+    pub at: u32,
+    pub bytes: Vec<u8>,
 }
 
 /// Bytes for main memory.
@@ -141,6 +143,17 @@ fn is_register(register: u8) -> bool
     register == 1 || register == 2
 }
 
+/// Whether a signal register is in OR mode.
+pub(crate) fn is_or(or_modes: u32, spe: u8, register: u8) -> bool
+    requires { IsRegister register }
+    ensures { result ≡ has_bit or_modes (number_of spe register) }
+{
+    if spe >= 16 {
+        return false;
+    }
+    (or_modes >> (2 * spe + register - 1)) & 1 == 1
+}
+
 impl Setup {
     /// A setup with no processor, of 1 to 524,288 lines and with a budget of 1 to 1,000,000 steps; `Limit` exactly outside of these.
     /// It takes no memory.
@@ -228,6 +241,14 @@ impl Setup {
             return Err(SetupError::Memory);
         }
         Ok(())
+    }
+
+    /// The bytes placed in local stores, in the order in which they were placed; each fits its store.
+    pub fn placed(&self) -> &[PlacedBytes]
+        ensures placed { shown result.now ≡ self.now.placed }
+        ensures opening { IsOpening self.now }
+    {
+        self.placed.as_slice()
     }
 
     /// Places bytes in main memory from an address on; later bytes replace earlier ones. `Limit` where they don't fit it.
@@ -334,6 +355,14 @@ impl Setup {
         }
         self.or_modes |= 1 << (2 * spe + register - 1);
         Ok(())
+    }
+
+    /// Whether signal register 1 or 2 of a processor is in OR mode.
+    pub fn has_or_mode(&self, spe: u8, register: u8) -> bool
+        requires { IsRegister register }
+        ensures { result ≡ is_or_register self.now spe register }
+    {
+        is_or(self.or_modes, spe, register)
     }
 
     /// Adds a range that the states show. `Limit` where 64 are there, it has no byte or more than 4,096, it doesn't fit,

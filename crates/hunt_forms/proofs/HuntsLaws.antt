@@ -173,11 +173,11 @@ has_all q seed from made asked stopped h taken none some ends =
 -- ---- a hunt
 
 pub hunt_tells : (q : Quarry) (a : Asked) (stopped : Bool) (h : Sums) (text : List ℕ) (found : Bool) → HasMade q a.seed a.from a.runs stopped h
-    → ((reports : List Reported) → h ≡ hunted reports → found ≡ list_any is_flawed reports) → text ≡ text_by a h → TellsHunt q.setup q.asked a stopped (status_of found) text
+    → ((reports : List Reported) → h ≡ hunted reports → found ≡ list_any is_flawed reports) → text ≡ text_by q.asked.places a h → TellsHunt q.setup q.asked a stopped (status_of found) text
 hunt_tells q a stopped h text found has finds is = record {
   reports = has.taken.reports;
   made = has.all;
   each = has.taken.each;
-  says = is ∙ ap (text_by a) has.taken.told;
+  says = is ∙ ap (text_by q.asked.places a) has.taken.told;
   found = ap status_of (finds has.taken.reports has.taken.told);
 }

@@ -6,3 +6,4 @@ pub mod AnswersLaws
 pub mod KeysLaws
 pub mod PlacingLaws
 pub mod SourceLaws
+pub mod StatementLaws

@@ -20,12 +20,13 @@ use Rattle.cell_forms.specs.Forms.{text_limit}
 use Rattle.cell_forms.specs.Answer.{Leads}
 use Rattle.hunt_reports.specs.declared.origins.Source.{Source}
 use Rattle.hunt_forms.specs.Heard.{Word}
-use Rattle.std.specs.Prelude.{IfOk}
+use Rattle.std.specs.Prelude.{IfOk, option_and_then}
+use Rattle.hunt_forms.specs.Statements.{statements_in}
 use Rattle.cell_load.specs.Entries.{Entry}
 use Rattle.cell_machine.specs.Opening.{Opening}
 use Rattle.cell_forms.specs.declared.fault.Fault.{Fault}
 use Rattle.hunt_reports.specs.declared.origins.Places.{Places}
-use Rattle.hunt_forms.specs.Sources.{Seen, seen, lines_listed, source_lines, source_named, AreSources, IsMachineText, ArePlaces, HasPlaces}
+use Rattle.hunt_forms.specs.Sources.{Seen, seen, lines_listed, source_lines, source_statements, source_named, AreSources, IsMachineText, ArePlaces, HasPlaces}
 
 -- what is done with the text of a file that is all that is looked for
 abbrev pub to_text : List ℕ → Task
@@ -48,6 +49,10 @@ refuses_text view (At line kind) text h = h
 pub lines_read : (files : List File) (name : Word) (text : List ℕ) (lines : List ListedLine) → given files name text_limit ≡ whole text → lines_listed (listed text) ≡ Some lines → source_lines files name ≡ Some lines
 lines_read files name text lines is listed_are = rw is listed_are
 
+-- and so are their statements
+pub statements_read : (files : List File) (name : Word) (text : List ℕ) (statements : List (List ℕ)) → given files name text_limit ≡ whole text → statements ≡ statements_in text → source_statements files name ≡ Some statements
+statements_read files name text statements is said = rw is (ap Some (sym said))
+
 -- what is left from a place on begins with the source there
 pub first_left : (sources : List SourceName) (at : ℕ) (s : SourceName) → at < length sources → s ≡ get_or sources at s → drop at (map named sources) ≡ named s ∷ drop (at + 1) (map named sources)
 first_left sources at s h is =
@@ -61,18 +66,20 @@ some_all [] = refl
 some_all (s ∷ sources) = ap (λ l. Some (seen s) ∷ l) (some_all sources)
 
 -- one source more
-pub sources_more : (files : List File) (names : List SourceName) (at : ℕ) (s : SourceName) (name : Word) (lines : List ListedLine) (old new : List Source) → at < length names → s ≡ get_or names at s → name ≡ (named s).name
-    → source_lines files name ≡ Some lines → map seen new ≡ map seen old ++ record { name = name; lines = lines } ∷ []
+pub sources_more : (files : List File) (names : List SourceName) (at : ℕ) (s : SourceName) (name : Word) (lines : List ListedLine) (statements : List (List ℕ)) (old new : List Source) → at < length names → s ≡ get_or names at s → name ≡ (named s).name
+    → source_lines files name ≡ Some lines → source_statements files name ≡ Some statements → map seen new ≡ map seen old ++ record { name = name; lines = lines; statements = statements } ∷ []
     → AreSources files (take at (map named names)) old → AreSources files (take (at + 1) (map named names)) new
-sources_more files names at s name lines old new inside is same found more so_far =
+sources_more files names at s name lines statements old new inside is same found stated more so_far =
     let within : at < length (map named names) = rw length-map inside in
     let here : get_or (map named names) at (named s) ≡ named s = get_or-map named names at s ∙ ap named (sym is) in
     let these : List (Option Seen) = map (source_named files) (take at (map named names)) in
-    let last : source_named files (named s) ≡ Some (record { name = name; lines = lines }) =
-    rw (← same) (ap (λ o. option_map (λ ls. record { name = name; lines = ls }) o) found) in
+    let last : source_named files (named s) ≡ Some (record { name = name; lines = lines; statements = statements }) =
+    rw (← same)
+    (ap (λ (o : Option (List ListedLine)). option_and_then (λ ls. option_map (λ sts. record { name = name; lines = ls; statements = sts }) (source_statements files name)) o) found
+    ∙ ap (λ (o : Option (List (List ℕ))). option_map (λ sts. record { name = name; lines = lines; statements = sts }) o) stated) in
     let all : map (source_named files) (take (at + 1) (map named names)) ≡ these ++ source_named files (get_or (map named names) at (named s)) ∷ [] =
     ap (map (source_named files)) (take_more (map named names) at (named s) within) ∙ map_push (source_named files) (take at (map named names)) (get_or (map named names) at (named s)) in
-    let one : Seen = record { name = name; lines = lines } in
+    let one : Seen = record { name = name; lines = lines; statements = statements } in
     some_all new ∙ ap (map (λ (x : Seen). Some x)) more ∙ map_push (λ (x : Seen). Some x) (map seen old) one ∙ ap (λ l. l ++ Some one ∷ []) (sym (some_all old) ∙ so_far) ∙ ap (λ o. these ++ o ∷ []) (sym last)
     ∙ ap (λ n. these ++ source_named files n ∷ []) (sym here) ∙ sym all
 

@@ -5,7 +5,7 @@ use Rattle.std.specs.Option.{option_map}
 use Rattle.std.specs.Cmp.Lexicographic.{pointwise}
 use Rattle.cell_base.specs.Numbers.{◌>>=◌}
 use Rattle.hunt_forms.specs.declared.heard.Key.{Key}
-use Rattle.hunt_forms.specs.declared.heard.Key.TheVariants.{Runs, Time, Seed, From, Jobs, Expect, Pass, Until}
+use Rattle.hunt_forms.specs.declared.heard.Key.TheVariants.{Runs, Time, Seed, From, Jobs, Expect, Pass, Until, Tools}
 use Rattle.hunt_forms.specs.declared.heard.Heard.{Heard}
 
 abbrev pub Word : Type 0
@@ -34,6 +34,8 @@ pub record Said : Type 0 where
   pub expect : Option Word
   pub pass : Option Word
   pub until : Option Word
+  pub tools : Option Word
+  pub all : Bool
   pub json : Bool
   -- the option of which the word comes next
   pub awaited : Option Key
@@ -52,6 +54,8 @@ silent = record {
   expect = None;
   pass = None;
   until = None;
+  tools = None;
+  all = false;
   json = false;
   awaited = None;
 }
@@ -71,6 +75,7 @@ with_value s Jobs word = option_map (λ w. record s { jobs = w; awaited = None }
 with_value s Expect word = option_map (λ w. record s { expect = w; awaited = None }) (once s.expect word)
 with_value s Pass word = option_map (λ w. record s { pass = w; awaited = None }) (once s.pass word)
 with_value s Until word = option_map (λ w. record s { until = w; awaited = None }) (once s.until word)
+with_value s Tools word = option_map (λ w. record s { tools = w; awaited = None }) (once s.tools word)
 
 -- the options that have a word after them
 abbrev pub key_of : Word → Option Key
@@ -83,6 +88,7 @@ key_of word =
     else if is_word word (codes "--expect") then Some Expect
     else if is_word word (codes "--pass") then Some Pass
     else if is_word word (codes "--until") then Some Until
+    else if is_word word (codes "--tools") then Some Tools
     else None
 
 -- the next place
@@ -97,10 +103,15 @@ abbrev pub with_json : Said → Bool → Option Said
 with_json s true = None
 with_json s false = Some (record s { json = true })
 
+abbrev pub with_all : Said → Bool → Option Said
+with_all s true = None
+with_all s false = Some (record s { all = true })
+
 -- an option without a word after it, or a place: no other word has a dash in front
 abbrev pub with_plain : Said → Word → Option Said
 with_plain s word =
     if is_word word (codes "--json") then with_json s s.json
+    else if is_word word (codes "--all") then with_all s s.all
     else if has_dash word then None
     else with_place s s.machine s.first s.second s.third word
 
@@ -141,6 +152,8 @@ heard h = record {
   expect = texts_of h.expect;
   pass = texts_of h.pass;
   until = texts_of h.until;
+  tools = texts_of h.tools;
+  all = h.all;
   json = h.json;
   awaited = h.awaited;
 }

@@ -14,11 +14,15 @@ use Rattle.cell_hunt.specs.Runs.{IsRunOfSeed}
 use Rattle.cell_hunt.specs.Outcomes.{IsOutcome}
 use Rattle.cell_hunt.specs.declared.site.Sites.{Sites}
 use Rattle.reorder_laws.specs.Settled.{IsSettled}
+use Rattle.hunt_tally.specs.Coverage.{SourceLines}
 use Rattle.hunt_tally.specs.Reports.{Reported, Sums, steps_of, hunted, is_flawed}
+use Rattle.hunt_texts.specs.About.{Facts}
 use Rattle.hunt_texts.specs.Texts.{hunt_text}
 use Rattle.hunt_texts.specs.Jsons.{hunt_json}
 use Rattle.hunt_reports.specs.declared.asked.Asked.{Asked as Question}
 use Rattle.hunt_reports.specs.Places.{sites_text}
+use Rattle.hunt_reports.specs.Coverage.{coverage_of}
+use Rattle.hunt_reports.specs.declared.origins.Places.{Places}
 use Rattle.hunt_reports.specs.Reports.{IsReport}
 use Rattle.hunt_forms.specs.declared.fault.Status.{Status}
 use Rattle.hunt_forms.specs.declared.fault.Status.TheVariants.{Clean, Found}
@@ -70,9 +74,25 @@ pub record AreMade (stopped : Bool) (asked : Option ℕ) (reports : List Reporte
 abbrev pub is_by_steps : Option ℕ → Sums → Bool
 is_by_steps asked h = is_none asked && nat_lt h.runs (most_made asked) && ends_at asked h.runs h.steps
 
--- the text of what was found, in the form that is asked for
-abbrev pub text_by : Asked → Sums → List ℕ
-text_by a h = if a.json then hunt_json h a.seed a.from (is_some a.expect) else hunt_text h a.seed a.from (is_some a.expect) (is_by_steps a.runs h)
+-- what the text says of the hunt besides the sums of its runs
+abbrev pub facts_of : Asked → Sums → List SourceLines → Facts
+facts_of a h coverage = record {
+  machine = a.machine;
+  tools = a.tools;
+  seed = a.seed;
+  from = a.from;
+  expects = is_some a.expect;
+  by_steps = is_by_steps a.runs h;
+  all = a.all;
+  coverage = coverage;
+}
+
+-- the text of what was found, in the form that is asked for, with the lines of these sources
+abbrev pub text_with : Asked → Sums → List SourceLines → List ℕ
+text_with a h coverage = if a.json then hunt_json h a.seed a.from (is_some a.expect) coverage else hunt_text h (facts_of a h coverage)
+
+abbrev pub text_by : Places → Asked → Sums → List ℕ
+text_by places a h = text_with a h (coverage_of places h.executed)
 
 -- The text tells the reports of the runs that are asked for, of the first ones alone where somebody ended the hunt, and the status whether one of
 -- them has a flaw.
@@ -80,7 +100,7 @@ pub record TellsHunt (setup : Opening) (question : Question) (a : Asked) (stoppe
   pub reports : List Reported
   pub made : AreMade stopped a.runs reports
   pub each : AreReports setup question a.seed a.from reports
-  pub says : text ≡ text_by a (hunted reports)
+  pub says : text ≡ text_by question.places a (hunted reports)
   pub found : status ≡ status_of (list_any is_flawed reports)
 
 -- ---- each run

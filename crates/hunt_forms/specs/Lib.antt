@@ -6,6 +6,7 @@ pub mod Expected
 pub mod Naming
 pub mod Passes
 pub mod Placings
+pub mod Statements
 pub mod Sources
 pub mod Code
 pub mod Files

@@ -1,6 +1,7 @@
 -- Which line of a machine file, or of which source, places each word of the stores.
 use Rattle.std.specs.Prelude.{◌≡◌, ℕ, List, map, Option, Some, None, Result, Ok, Err}
 use Rattle.std.specs.Option.{option_map}
+use Rattle.cell_base.specs.Numbers.{◌>>=◌}
 use Rattle.cell_io.specs.Files.{File}
 use Rattle.spu_asm.specs.declared.error.AsmError.{AsmError}
 use Rattle.spu_asm.specs.declared.syntax.ListedLine.{ListedLine}
@@ -10,18 +11,21 @@ use Rattle.cell_load.specs.Order.{machine_at}
 use Rattle.cell_load.specs.Sources.{Named, sources_of}
 use Rattle.cell_forms.specs.Course.{Given, whole, given}
 use Rattle.cell_forms.specs.Forms.{text_limit}
+use Rattle.hunt_reports.specs.Lists.{bytes_in}
 use Rattle.hunt_reports.specs.declared.origins.Source.{Source}
 use Rattle.hunt_reports.specs.declared.origins.Places.{Places}
 use Rattle.hunt_forms.specs.Heard.{Word}
 use Rattle.hunt_forms.specs.Placings.{placings_in}
+use Rattle.hunt_forms.specs.Statements.{statements_in}
 
--- the name of a source, and its lines
+-- the name of a source, its lines with their addresses, and the statement of each line of its text
 pub record Seen : Type 0 where
   pub name : Word
   pub lines : List ListedLine
+  pub statements : List (List ℕ)
 
 abbrev pub seen : Source → Seen
-seen s = record { name = s.name.items; lines = s.lines.items }
+seen s = record { name = s.name.items; lines = s.lines.items; statements = bytes_in s.statements.items }
 
 abbrev pub lines_listed : Result Listing AsmError → Option (List ListedLine)
 lines_listed (Ok listing) = Some listing.lines
@@ -35,9 +39,18 @@ lines_given other = None
 abbrev pub source_lines : List File → Word → Option (List ListedLine)
 source_lines files name = lines_given (given files name text_limit)
 
+abbrev pub statements_given : Given → Option (List (List ℕ))
+statements_given (whole text) = Some (statements_in text)
+statements_given other = None
+
+-- the statements of the lines of the source file of this name
+abbrev pub source_statements : List File → Word → Option (List (List ℕ))
+source_statements files name = statements_given (given files name text_limit)
+
 -- the source that a line of the machine file names
 abbrev pub source_named : List File → Named → Option Seen
-source_named files n = option_map (λ lines. record { name = n.name; lines = lines }) (source_lines files n.name)
+source_named files n =
+    source_lines files n.name >>= λ lines. option_map (λ statements. record { name = n.name; lines = lines; statements = statements }) (source_statements files n.name)
 
 -- these are the sources of these names
 abbrev pub AreSources : List File → List Named → List Source → Type 0

@@ -25,6 +25,9 @@ pub record Asked : Type 0 where
   pub pass : Option Word
   -- the file that ends the hunt once it exists
   pub until : Option Word
+  -- the folder of the tools, as commands name it, and whether all findings are printed
+  pub tools : Word
+  pub all : Bool
   pub json : Bool
 
 -- what the words say
@@ -108,16 +111,21 @@ abbrev pub jobs_said : Option Word → Option (Option ℕ)
 jobs_said None = Some None
 jobs_said (Some word) = option_map Some (count_within most_jobs word)
 
+-- the folder of the tools, by default `tools`
+abbrev pub tools_said : Option Word → Word
+tools_said None = codes "tools"
+tools_said (Some word) = word
+
 -- ---- forms
 
 -- no option of hunts alone is given
 abbrev pub is_plain : Said → Bool
-is_plain s = is_none s.time && is_none s.jobs && is_none s.expect && is_none s.pass && is_none s.until && not s.json
+is_plain s = is_none s.time && is_none s.jobs && is_none s.expect && is_none s.pass && is_none s.until && is_none s.tools && not s.all && not s.json
 
 abbrev pub hunt_said : Said → Word → Option Word → Option Word → Option Spoken
 hunt_said s machine runs seed =
     runs_said runs >>= λ said. time_said s.time >>= λ time. seed_said seed >>= λ seed. from_said s.from (most_made (runs_asked time said)) >>= λ from. jobs_said s.jobs >>= λ jobs.
-    Some (hunt (record { machine = machine; from = from; runs = runs_asked time said; time = time; seed = seed; jobs = jobs; expect = s.expect; pass = s.pass; until = s.until; json = s.json }))
+    Some (hunt (record { machine = machine; from = from; runs = runs_asked time said; time = time; seed = seed; jobs = jobs; expect = s.expect; pass = s.pass; until = s.until; tools = tools_said s.tools; all = s.all; json = s.json }))
 
 abbrev pub each_said : Said → Word → Option Word → Option Word → Option Spoken
 each_said s machine runs seed =
@@ -161,6 +169,8 @@ asked h = record {
   expect = texts_of h.expect;
   pass = texts_of h.pass;
   until = texts_of h.until;
+  tools = h.tools.now;
+  all = h.all;
   json = h.json;
 }
 

@@ -8,7 +8,7 @@ use cell_base::line_text::put_decimal;
 use cell_hunt::{Outcome, SeedRun, outcome_of, run_of_seed};
 use cell_machine::{End, Setup};
 use hunt_reports::put_sites;
-use settled::is_settled;
+use run_permute::is_settled;
 use std::alloc::{AllocError, Global};
 
 /// What is printed of a run.

@@ -2,7 +2,7 @@
 
 ghost use Rattle.std.specs.Prelude.{◌≡◌, map, string_bytes};
 ghost use Rattle.std.specs.Option.{option_map};
-ghost use Rattle.hunt_forms.specs.Heard.{has_dash, heard, silent, key_of, with_value, with_place, with_json, with_plain, with_word, said_on};
+ghost use Rattle.hunt_forms.specs.Heard.{has_dash, heard, silent, key_of, with_value, with_place, with_json, with_all, with_plain, with_word, said_on};
 
 /// An option that has a word after it.
 #[derive(Clone, Copy, PartialEq, Eq)]
@@ -15,6 +15,7 @@ pub enum Key {
     Expect,
     Pass,
     Until,
+    Tools,
 }
 
 /// The words so far.
@@ -34,6 +35,8 @@ pub struct Heard<'a> {
     pub expect: Option<&'a str>,
     pub pass: Option<&'a str>,
     pub until: Option<&'a str>,
+    pub tools: Option<&'a str>,
+    pub all: bool,
     pub json: bool,
     /// The option of which the word comes next.
     pub awaited: Option<Key>,
@@ -61,6 +64,7 @@ fn key_of(word: &str) -> Option<Key>
         "--expect" => Some(Key::Expect),
         "--pass" => Some(Key::Pass),
         "--until" => Some(Key::Until),
+        "--tools" => Some(Key::Tools),
         _ => None,
     }
 }
@@ -83,6 +87,8 @@ impl<'a> Heard<'a> {
             expect: None,
             pass: None,
             until: None,
+            tools: None,
+            all: false,
             json: false,
             awaited: None,
         }
@@ -110,6 +116,10 @@ impl<'a> Heard<'a> {
             Key::Pass if old.pass.is_none() => Some(Heard { pass: value, ..old }),
             Key::Until if old.until.is_none() => Some(Heard {
                 until: value,
+                ..old
+            }),
+            Key::Tools if old.tools.is_none() => Some(Heard {
+                tools: value,
                 ..old
             }),
             _ => None,
@@ -151,12 +161,23 @@ impl<'a> Heard<'a> {
         Some(Heard { json: true, ..self })
     }
 
+    fn with_all(self) -> Option<Heard<'a>>
+        ensures { option_map heard result ≡ with_all (heard self.entry) self.entry.all }
+    {
+        if self.all {
+            return None;
+        }
+        Some(Heard { all: true, ..self })
+    }
+
     /// An option without a word after it, or a place: no other word has a dash in front.
     fn with_plain(self, word: &'a str) -> Option<Heard<'a>>
         ensures { option_map heard result ≡ with_plain (heard self.entry) word.now }
     {
         if word == "--json" {
             self.with_json()
+        } else if word == "--all" {
+            self.with_all()
         } else if has_dash(word) {
             None
         } else {

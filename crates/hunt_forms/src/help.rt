@@ -18,6 +18,8 @@ whether it is settled. `record` prints run K as `cell run` does.
   --expect FILE  each line of FILE has to be among the states of every run
   --pass FILE    the races in FILE, as hunt prints them, aren't reported
   --until FILE   end the hunt once FILE exists, and report on the runs made so far
+  --all          print all findings, not only the first four
+  --tools DIR    the folder of the tools in the commands that the report prints (default tools)
   --json         print one JSON object a line
   --help         print this text
 

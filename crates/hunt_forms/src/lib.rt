@@ -20,6 +20,7 @@ mod progress;
 mod quarry;
 mod runs;
 mod sources;
+mod statements;
 mod team;
 mod threads;
 mod words;

@@ -4,7 +4,7 @@ ghost use Rattle.std.specs.Prelude.{[], ◌≡◌, ◌≢◌, ◌≤◌, ◌<◌
 ghost use Rattle.hunt_tally.specs.Reports.{hunted};
 ghost use Rattle.hunt_forms.specs.declared.fault.Fault.{Fault as AFault};
 ghost use Rattle.hunt_forms.specs.Words.{spoken, asked, most_made, AreRuns, hunt, each, record_of};
-ghost use Rattle.hunt_forms.specs.Hunts.{status_of, text_by, TellsHunt, TellsEach, IsNext, MakesRounds};
+ghost use Rattle.hunt_forms.specs.Hunts.{status_of, text_by, text_with, TellsHunt, TellsEach, IsNext, MakesRounds};
 ghost use Rattle.hunt_forms.specs.Answers.{Promises, TellsRun, EndsText, EndsBy};
 
 use crate::each::tell_each;
@@ -22,8 +22,9 @@ use cell_forms::{Fault as InputFault, Status as InputStatus, write_run};
 use cell_hunt::machine_of_seed;
 use cell_io::{Sink, SinkFault, Store};
 use cell_machine::Setup;
-use hunt_tally::Hunted;
-use hunt_texts::{hunt_json, hunt_text};
+use hunt_reports::{Places, coverage_of};
+use hunt_tally::{Hunted, SourceCoverage};
+use hunt_texts::{About, hunt_json, hunt_text};
 use std::alloc::{AllocError, Global};
 use std::thread::Threads;
 
@@ -50,17 +51,43 @@ fn write_text<K: Sink>(text: &[u8], status: Status, out: &mut K) -> Status
     }
 }
 
-/// The text of what was found, in the form that is asked for.
-fn text_of(alloc: Global, hunted: &Hunted, hunt: &Hunt) -> Result<Vec<u8>, AllocError>
-    ensures { IfOk result (λ text. text.items ≡ text_by (asked hunt.now) hunted.now) }
+/// The text of what was found, in the form that is asked for, with the lines of these sources.
+fn text_with(
+    alloc: Global,
+    hunted: &Hunted,
+    hunt: &Hunt,
+    coverage: &[SourceCoverage],
+) -> Result<Vec<u8>, AllocError>
+    ensures { IfOk result (λ text. text.items ≡ text_with (asked hunt.now) hunted.now coverage.now) }
 {
     let expects = hunt.expect.is_some();
     if hunt.json {
-        hunt_json(alloc, hunted, hunt.seed, hunt.from, expects)
-    } else {
-        let by_steps = is_by_steps(hunt.runs, hunted);
-        hunt_text(alloc, hunted, hunt.seed, hunt.from, expects, by_steps)
+        return hunt_json(alloc, hunted, hunt.seed, hunt.from, expects, coverage);
     }
+    let about = About {
+        machine: hunt.machine.as_bytes(),
+        tools: hunt.tools.as_bytes(),
+        seed: hunt.seed,
+        from: hunt.from,
+        expects,
+        by_steps: is_by_steps(hunt.runs, hunted),
+        all: hunt.all,
+        coverage,
+    };
+    hunt_text(alloc, hunted, &about)
+}
+
+/// The text of what was found, in the form that is asked for.
+fn text_of(
+    alloc: Global,
+    places: &Places,
+    hunted: &Hunted,
+    hunt: &Hunt,
+) -> Result<Vec<u8>, AllocError>
+    ensures { IfOk result (λ text. text.items ≡ text_by places.now (asked hunt.now) hunted.now) }
+{
+    let coverage = coverage_of(alloc, places, hunted.executed())?;
+    text_with(alloc, hunted, hunt, coverage.as_slice())
 }
 
 /// Makes the runs of a hunt, and takes their reports in: its text, and whether something was found.
@@ -82,7 +109,7 @@ where
     ensures { IfOk result (λ told. TellsHunt quarry.now.setup quarry.now.asked (asked hunt.now) (P.stopped progress.new) (status_of told.1) told.0.items) }
 {
     hunt_runs(team, quarry, hunt, progress, sums)?;
-    let text = text_of(alloc, sums, hunt)?;
+    let text = text_of(alloc, &quarry.asked.places, sums, hunt)?;
     Ok((text, sums.has_flaw()))
 }
 

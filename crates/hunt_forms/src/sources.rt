@@ -16,9 +16,12 @@ ghost use Rattle.cell_forms.specs.Answer.{AtFile, AtMachine, AtSources, Comes, F
 ghost use Rattle.cell_forms.specs.Causes.{IsOfInput, load_fault_of, plan_fault_of, source_fault_of};
 ghost use Rattle.cell_forms.specs.Forms.{machine_task, plan_task, planned_task, source_task, sources_task, with_setup};
 ghost use Rattle.cell_forms.specs.Task.{Task};
-ghost use Rattle.hunt_forms.specs.Sources.{ArePlaces, AreSources, HasPlaces, IsMachineText, lines_listed, seen, source_lines};
+ghost use Rattle.hunt_forms.specs.Sources.{ArePlaces, AreSources, HasPlaces, IsMachineText, lines_listed, seen, source_lines, source_statements};
+ghost use Rattle.hunt_forms.specs.Statements.{statements_in};
+ghost use Rattle.hunt_reports.specs.Lists.{bytes_in};
 
 use crate::placings::placings_in;
+use crate::statements::statements_in;
 use cell_forms::{Fault, FileId, TEXT_LIMIT, read_file};
 use cell_io::Store;
 use cell_load::{LoadError, Plan, PlanError, SourceName, load, read_machine};
@@ -34,11 +37,12 @@ struct Planned {
     plan: Plan,
 }
 
-/// The image of a source, and the addresses of its lines.
+/// The image of a source, the addresses of its lines, and their statements.
 #[derive(Drop)]
 struct Assembled {
     image: Image,
     lines: Vec<ListedLine>,
+    statements: Vec<Vec<u8>>,
 }
 
 /// The images of the sources of a machine file, and their lines.
@@ -97,21 +101,29 @@ fn read_plan<T: Store>(alloc: Global, files: &mut T, name: &str) -> Result<Plann
     }
 }
 
-/// The image of a text, and the addresses of its lines.
+/// The image of a text, the addresses of its lines, and their statements.
 fn assemble_lines(alloc: Global, text: &[u8]) -> Result<Assembled, AsmError>
     requires { length text.now ≤ 4194304 }
     ensures image { Shows (λ a. a.image) result (assembled text.now) }
     ensures lines { IfOk result (λ a. lines_listed (listed text.now) ≡ Some a.lines.items) }
+    ensures statements { IfOk result (λ a. bytes_in a.statements.items ≡ statements_in text.now) }
 {
     let image = assemble(alloc, text)?;
     let listing = list(alloc, text)?;
-    match Vec::from_slice(alloc, listing.lines()) {
-        Ok(lines) => Ok(Assembled { image, lines }),
-        Err(_) => Err(AsmError::Memory),
-    }
+    let Ok(lines) = Vec::from_slice(alloc, listing.lines()) else {
+        return Err(AsmError::Memory);
+    };
+    let Ok(statements) = statements_in(alloc, text) else {
+        return Err(AsmError::Memory);
+    };
+    Ok(Assembled {
+        image,
+        lines,
+        statements,
+    })
 }
 
-/// The image of a source, of which the number is that of the file, and the addresses of its lines.
+/// The image of a source, of which the number is that of the file, the addresses of its lines, and their statements.
 fn read_source<T: Store>(
     alloc: Global,
     files: &mut T,
@@ -126,6 +138,7 @@ fn read_source<T: Store>(
     ensures comes { ForSome (T.files files.old) (λ told. (next : Image → Task) →
         Comes told (source_task number name.now next) (λ a. next a.image) (T.ledger files.old) (T.ledger files.new) result) }
     ensures lines { ForSome (T.files files.old) (λ told. IfOk result (λ a. source_lines told name.now ≡ Some a.lines.items)) }
+    ensures statements { ForSome (T.files files.old) (λ told. IfOk result (λ a. source_statements told name.now ≡ Some (bytes_in a.statements.items))) }
 {
     let file = FileId::Source(number);
     let text = read_file(alloc, files, file, name, TEXT_LIMIT)?;
@@ -143,12 +156,20 @@ fn keep(
     source: Assembled,
 ) -> Result<(), AllocError>
     ensures images { OnOk result (sources.new.images.items ≡ sources.old.images.items ++ source.image ∷ []) }
-    ensures listed { OnOk result (map seen sources.new.listed.items ≡ map seen sources.old.listed.items ++ record { name = name.now; lines = source.lines.items } ∷ []) }
+    ensures listed { OnOk result (map seen sources.new.listed.items ≡ map seen sources.old.listed.items ++ record { name = name.now; lines = source.lines.items; statements = bytes_in source.statements.items } ∷ []) }
 {
-    let Assembled { image, lines } = source;
+    let Assembled {
+        image,
+        lines,
+        statements,
+    } = source;
     let name = Vec::from_slice(alloc, name.as_bytes())?;
     sources.images.push(image)?;
-    sources.listed.push(Source { name, lines })?;
+    sources.listed.push(Source {
+        name,
+        lines,
+        statements,
+    })?;
     Ok(())
 }
 

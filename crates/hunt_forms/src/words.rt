@@ -3,7 +3,7 @@
 ghost use Rattle.std.specs.Prelude.{◌≡◌, ◌≤◌, ◌<◌, ◌+◌, Some, IfSome, map, option_and_then, string_bytes};
 ghost use Rattle.std.specs.Option.{option_map};
 ghost use Rattle.hunt_forms.specs.Heard.{heard, texts_of, silent, said_on};
-ghost use Rattle.hunt_forms.specs.Words.{asks_help, count_within, either, number_or, runs_asked, runs_said, time_said, most_made, told_runs, seed_said, from_said, jobs_said, is_plain, hunt_said, each_said, record_said, placed, form_said, spoken, said, most_runs, most_run, most_jobs, IsWithin};
+ghost use Rattle.hunt_forms.specs.Words.{asks_help, count_within, either, number_or, runs_asked, runs_said, time_said, most_made, told_runs, seed_said, from_said, jobs_said, tools_said, is_plain, hunt_said, each_said, record_said, placed, form_said, spoken, said, most_runs, most_run, most_jobs, IsWithin};
 
 use crate::heard::{Heard, hear};
 use crate::numbers::{number_of, seconds_of};
@@ -39,6 +39,9 @@ pub struct Hunt<'a> {
     pub pass: Option<&'a str>,
     /// The file that ends the hunt once it exists.
     pub until: Option<&'a str>,
+    /// The folder of the tools, as commands name it, and whether all findings are printed.
+    pub tools: &'a str,
+    pub all: bool,
     pub json: bool,
 }
 
@@ -179,6 +182,16 @@ fn jobs_of(word: Option<&str>) -> Option<Option<u32>>
     }
 }
 
+/// The folder of the tools.
+fn tools_of<'a>(word: Option<&'a str>) -> &'a str
+    ensures { result.now ≡ tools_said (texts_of word.entry) }
+{
+    match word {
+        Some(word) => word,
+        None => "tools",
+    }
+}
+
 /// Whether no option of hunts alone is given.
 fn is_plain(words: &Heard) -> bool
     ensures { result ≡ is_plain (heard words.now) }
@@ -188,6 +201,8 @@ fn is_plain(words: &Heard) -> bool
         && words.expect.is_none()
         && words.pass.is_none()
         && words.until.is_none()
+        && words.tools.is_none()
+        && !words.all
         && !words.json
 }
 
@@ -216,6 +231,8 @@ fn hunt_form<'a>(
         expect: words.expect,
         pass: words.pass,
         until: words.until,
+        tools: tools_of(words.tools),
+        all: words.all,
         json: words.json,
     }))
 }

@@ -9,7 +9,7 @@ use Rattle.cell_machine.specs.Next.{next}
 use Rattle.cell_machine.specs.Spe.{Spe}
 use Rattle.cell_machine.specs.State.{State}
 use Rattle.cell_machine.specs.Run.{HasEnded, CanGoOn, IsEnd}
-use Rattle.hunt_reports.specs.declared.ended.Ended.{Ended}
+use Rattle.hunt_reports.specs.declared.ended.AtEnd.{AtEnd}
 use Rattle.hunt_reports.specs.Endings.{ended_in, spe_ending, spe_endings}
 
 -- ---- one end word
@@ -37,7 +37,7 @@ one_end M budget Budget None a b = absurd (omega (arith, a.1, b.1))
 
 -- ---- the processors
 
-pub ended_more : (spes : List Spe) (p : ℕ) (P : Spe) (e : Ended) → slice_get spes p ≡ Some P → e ≡ ended_in P → map ended_in (take p spes) ++ e ∷ [] ≡ map ended_in (take (p + 1) spes)
+pub ended_more : (spes : List Spe) (p : ℕ) (P : Spe) (e : AtEnd) → slice_get spes p ≡ Some P → e ≡ ended_in P → map ended_in (take p spes) ++ e ∷ [] ≡ map ended_in (take (p + 1) spes)
 ended_more [] p P e at is = absurd cc
 ended_more (Q ∷ spes) zero P e at is =
     let same : Q ≡ P = cc in
@@ -54,7 +54,7 @@ spe_at o p A B M e a b = found (slice_get M.spes p) (rw e at a) (rw e at b)
     found None a b = absurd a
     found (Some P) a b = (P, refl, a, b)
 
-pub spes_more : (out whole : List ℕ) (d : Ended) (p i : ℕ) (es : List Ended) → i < length es → out ++ spe_endings p (drop i es) ≡ whole → (out ++ spe_ending p (get_or es i d)) ++ spe_endings (p + 1) (drop (i + 1) es) ≡ whole
+pub spes_more : (out whole : List ℕ) (d : AtEnd) (p i : ℕ) (es : List AtEnd) → i < length es → out ++ spe_endings p (drop i es) ≡ whole → (out ++ spe_ending p (get_or es i d)) ++ spe_endings (p + 1) (drop (i + 1) es) ≡ whole
 unfolding spe_endings
 spes_more out whole d p i es inside so_far =
     let one : suc p ≡ p + 1 = omega arith in
@@ -63,7 +63,7 @@ spes_more out whole d p i es inside so_far =
     = rw (drop-cons es i d inside) (sym (append_assoc out (spe_ending p (get_or es i d)) (spe_endings (suc p) (drop (suc i) es)))) in
     rw (← one, ← next) (sym here ∙ so_far)
 
-pub spes_all : (out whole : List ℕ) (p i : ℕ) (es : List Ended) → length es ≤ i → out ++ spe_endings p (drop i es) ≡ whole → out ≡ whole
+pub spes_all : (out whole : List ℕ) (p i : ℕ) (es : List AtEnd) → length es ≤ i → out ++ spe_endings p (drop i es) ≡ whole → out ≡ whole
 unfolding spe_endings
 spes_all out whole p i es past so_far =
     let none : drop i es ≡ [] = nil_from_length (drop i es) (omega (arith, length-drop i es)) in

@@ -1,4 +1,7 @@
 mod OriginLaws
+mod CoverageLemmas
+mod Running
 pub mod Told
 pub mod Ends
 pub mod Lists
+mod ReportParts

@@ -1,7 +1,8 @@
 -- Tests over lists of texts, and the lines of no text.
-use Rattle.std.proofs.Common.{◌≡◌, ℕ, suc, ◌+◌, ◌<◌, Bool, true, false, not, ◌||◌, eqb, List, [], ◌∷◌, ◌++◌, length, map, filter, take, get_or, append-nil, Vec, if◌then◌else◌, refl, sym, ap, ◌∙◌, arith, true≢false}
+use Rattle.std.proofs.Common.{◌≡◌, ℕ, suc, ◌+◌, ◌<◌, Bool, true, false, not, ◌||◌, eqb, List, [], ◌∷◌, ◌++◌, length, map, filter, take, get_or, append-nil, Vec, if◌then◌else◌, refl, sym, ap, ◌∙◌, arith, append_assoc, true≢false}
 use Rattle.std.specs.declared.alloc.Global.{Global}
-use Rattle.std.specs.List.{list_any}
+use Rattle.std.specs.List.{list_any, flat_map}
+use Rattle.std.proofs.lemmas.List.Concat.{flat_map-append}
 use Rattle.std.proofs.lemmas.List.{map_push, take_more}
 use Rattle.hunt_reports.specs.Lists.{bytes_in}
 use Rattle.hunt_reports.specs.Missing.{has_line, missed_in, with_line}
@@ -19,7 +20,7 @@ pub is_nil : {X : Type 0} (xs : List X) → eqb (length xs) 0 ≡ true → xs �
 is_nil [] e = refl
 is_nil (x ∷ xs) e = absurd (let none : eqb (suc (length xs)) 0 ≡ false = grind arith in true≢false (sym e ∙ none))
 
-filter_push : {X : Type 0} (p : X → Bool) (xs : List X) (x : X) → filter p (xs ++ x ∷ []) ≡ filter p xs ++ (if p x then x ∷ [] else [])
+pub filter_push : {X : Type 0} (p : X → Bool) (xs : List X) (x : X) → filter p (xs ++ x ∷ []) ≡ filter p xs ++ (if p x then x ∷ [] else [])
 filter_push p [] x = refl
 filter_push p (y ∷ ys) x = by (p y) (filter_push p ys x)
   where
@@ -39,3 +40,19 @@ missed_more text es i v inside =
     by : (b : Bool) (line : List ℕ) → (if b then missed_in text (bytes_in (take i es)) else missed_in text (bytes_in (take i es)) ++ line ∷ []) ≡ missed_in text (bytes_in (take i es)) ++ (if not b then line ∷ [] else [])
     by true line = sym (append-nil (missed_in text (bytes_in (take i es))))
     by false line = refl
+
+-- ---- texts written one after the other
+
+pub three : (out a b c one two all : List ℕ) → one ≡ out ++ a → two ≡ one ++ b → all ≡ two ++ c → all ≡ out ++ ((a ++ b) ++ c)
+three out a b c one two all first second third =
+    third ∙ ap (λ x. x ++ c) (second ∙ ap (λ x. x ++ b) first) ∙ ap (λ x. x ++ c) (append_assoc out a b) ∙ append_assoc out (a ++ b) c
+
+-- ---- lists made one after the other
+
+pub flat_more : {X Y : Type 0} (f : X → List Y) (base old new : List Y) (xs : List X) (i : ℕ) (d : X) → i < length xs → old ≡ base ++ flat_map f (take i xs) → new ≡ old ++ f (get_or xs i d)
+    → new ≡ base ++ flat_map f (take (i + 1) xs)
+flat_more f base old new xs i d inside so_far made =
+    let last : List _ = f (get_or xs i d) in
+    let more : flat_map f (take (i + 1) xs) ≡ flat_map f (take i xs) ++ last
+    = ap (flat_map f) (take_more xs i d inside) ∙ flat_map-append f (take i xs) (get_or xs i d ∷ []) ∙ ap (λ ys. flat_map f (take i xs) ++ ys) (append-nil last) in
+    made ∙ ap (λ ys. ys ++ last) so_far ∙ append_assoc base (flat_map f (take i xs)) last ∙ ap (λ ys. base ++ ys) (sym more)

@@ -8,9 +8,9 @@ use Rattle.cell_machine.specs.declared.status.End.{End}
 use Rattle.cell_machine.specs.declared.status.End.TheVariants.{Stuck, Budget}
 use Rattle.cell_machine.specs.Spe.{Spe}
 use Rattle.state_lines.specs.Lines.{end_word, status_text}
-use Rattle.hunt_reports.specs.declared.ended.Ended.{Ended}
+use Rattle.hunt_reports.specs.declared.ended.AtEnd.{AtEnd}
 
-abbrev pub ended_in : Spe → Ended
+abbrev pub ended_in : Spe → AtEnd
 ended_in P = record { status = P.status; pc = P.pc }
 
 abbrev pub is_fault : Status → Bool
@@ -37,14 +37,14 @@ pc_text Running pc = codes " at 0x" ++ hex 5 pc
 pc_text _ pc = []
 
 -- processor p
-abbrev pub spe_ending : ℕ → Ended → List ℕ
+abbrev pub spe_ending : ℕ → AtEnd → List ℕ
 spe_ending p e = codes " | " ++ decimal p ++ codes " " ++ status_text e.status ++ pc_text e.status e.pc
 
 -- the processors from number p on
-unfoldable pub spe_endings : ℕ → List Ended → List ℕ
+unfoldable pub spe_endings : ℕ → List AtEnd → List ℕ
 spe_endings p [] = []
 spe_endings p (e ∷ es) = spe_ending p e ++ spe_endings (suc p) es
 
 -- the end word, and each processor
-abbrev pub ending_text : End → List Ended → List ℕ
+abbrev pub ending_text : End → List AtEnd → List ℕ
 ending_text end es = end_word (Some end) ++ spe_endings 0 es

@@ -3,6 +3,13 @@ pub mod Endings
 pub mod Missing
 pub mod Origins
 pub mod Places
+pub mod Coverage
+pub mod Locations
+pub mod RaceLines
 pub mod Races
-pub mod Reports
 pub mod Taking
+pub mod Compared
+pub mod Stops
+pub mod Waits
+pub mod Findings
+pub mod Reports

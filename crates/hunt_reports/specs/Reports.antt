@@ -1,5 +1,5 @@
--- What one run tells.
-use Rattle.std.specs.Prelude.{◌≡◌, ℕ, Bool, not, ◌==◌, List, map, length, Some}
+-- The report of one run.
+use Rattle.std.specs.Prelude.{◌≡◌, ℕ, Bool, not, ◌==◌, List, ◌++◌, map, length, Some}
 use Rattle.std.specs.List.{list_any}
 use Rattle.cell_machine.specs.declared.status.End.{End}
 use Rattle.cell_machine.specs.declared.setup.Show.{Show}
@@ -7,45 +7,61 @@ use Rattle.cell_machine.specs.State.{State}
 use Rattle.cell_machine.specs.Run.{Ran, state_of, IsEnd}
 use Rattle.cell_report.specs.States.{states_of, result_of}
 use Rattle.cell_hunt.specs.declared.racing.Racing.{Racing}
+use Rattle.cell_hunt.specs.Executed.{executed_in}
 use Rattle.cell_hunt.specs.Kinds.{kind_of}
 use Rattle.cell_hunt.specs.Racings.{AreAllRaces}
+use Rattle.cell_hunt.specs.declared.ending.Ended.{Ended}
+use Rattle.cell_hunt.specs.Endings.{AreAllEndings}
 use Rattle.hunt_tally.specs.Tallies.{Tells}
 use Rattle.hunt_tally.specs.Reports.{Reported}
 use Rattle.hunt_reports.specs.declared.asked.Asked.{Asked}
-use Rattle.hunt_reports.specs.declared.ended.Ended.{Ended}
+use Rattle.hunt_reports.specs.declared.ended.AtEnd.{AtEnd}
 use Rattle.hunt_reports.specs.Endings.{ended_in, is_fault, is_halted, is_stuck, is_budget, ending_text}
 use Rattle.hunt_reports.specs.Missing.{missed_in}
-use Rattle.hunt_reports.specs.Races.{races_told, leaves_out}
+use Rattle.hunt_reports.specs.Races.{races_told, race_findings, leaves_out}
+use Rattle.hunt_reports.specs.Findings.{others_told}
 use Rattle.hunt_reports.specs.Lists.{bytes_in}
+use Rattle.hunt_reports.specs.Coverage.{number_of}
 
 abbrev pub is_some : {X : Type 0} → List X → Bool
 is_some xs = not (length xs == 0)
 
--- by how the processors ended, the end word, what is left, the races that it tells, whether one was left out, the lines that it misses, its kind and how many steps it has
-abbrev pub report_by : List Ended → End → List ℕ → List Tells → Bool → List (List ℕ) → ℕ → ℕ → Reported
-report_by spes end left races leaves missed kind steps = record {
+-- by how the processors ended, the end word, what is left, its races and its findings, whether a race was left out, the lines that it misses, its kind, how many steps it has and the numbers of the instructions that it executed
+abbrev pub report_by : List AtEnd → End → List ℕ → List Tells → List Tells → Bool → List (List ℕ) → ℕ → ℕ → List ℕ → Reported
+report_by spes end left races findings leaves missed kind steps executed = record {
   flaws = record {
     race = is_some races;
     stuck = is_stuck end;
     budget = is_budget end;
-    fault = list_any (λ (e : Ended). is_fault e.status) spes;
-    halt = list_any (λ (e : Ended). is_halted e.status) spes;
+    fault = list_any (λ (e : AtEnd). is_fault e.status) spes;
+    halt = list_any (λ (e : AtEnd). is_halted e.status) spes;
     missed = is_some missed;
   };
   ending = ending_text end spes;
   result = left;
   races = races;
   missed = missed;
+  findings = findings;
   leaves_out = leaves;
   kind = kind;
   steps = steps;
+  executed = executed;
 }
 
--- the report of a run that ends so in state M, shows these ranges, has these races, is of this kind, and has so many steps
-abbrev pub report_in : State → List Show → End → List Racing → ℕ → ℕ → Asked → Reported
-report_in M shows end races kind steps asked =
+-- the findings of a run that ends so in state M, misses these lines, has these races and these steps that ended a processor
+abbrev pub findings_in : State → End → List (List ℕ) → List Racing → List Ended → Asked → List Tells
+findings_in M end missed races endings asked =
+    race_findings asked.places (bytes_in asked.passed.items) races ++ others_told asked.places M.spes endings (map ended_in M.spes) end missed
+
+-- the expected lines that the states of a run don't have that ends so in state M and shows these ranges
+abbrev pub missed_of : State → List Show → End → Asked → List (List ℕ)
+missed_of M shows end asked = missed_in (states_of M shows (Some end)) (bytes_in asked.expected.items)
+
+-- the report of a run that ends so in state M, shows these ranges, has these races and these steps that ended a processor, is of this kind, has so many steps, and executed these instructions
+abbrev pub report_in : State → List Show → End → List Racing → List Ended → ℕ → ℕ → List ℕ → Asked → Reported
+report_in M shows end races endings kind steps executed asked =
     report_by (map ended_in M.spes) end (result_of M shows) (races_told asked.places (bytes_in asked.passed.items) races)
-    (leaves_out asked.places (bytes_in asked.passed.items) races) (missed_in (states_of M shows (Some end)) (bytes_in asked.expected.items)) kind steps
+    (findings_in M end (missed_of M shows end asked) races endings asked) (leaves_out asked.places (bytes_in asked.passed.items) races) (missed_of M shows end asked) kind steps executed
 
 -- this is the report of the run
 pub record IsReport (run : Ran) (asked : Asked) (r : Reported) : Type 0 where
@@ -55,4 +71,6 @@ pub record IsReport (run : Ran) (asked : Asked) (r : Reported) : Type 0 where
   pub ended : IsEnd state run.setup.budget (Some end)
   pub races : List Racing
   pub all : AreAllRaces run races
-  pub told : r ≡ report_in state run.setup.shows end races (kind_of run) (length run.steps) asked
+  pub endings : List Ended
+  pub all_endings : AreAllEndings run endings
+  pub told : r ≡ report_in state run.setup.shows end races endings (kind_of run) (length run.steps) (map number_of (executed_in run)) asked

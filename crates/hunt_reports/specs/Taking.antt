@@ -1,7 +1,7 @@
--- What becomes of the races that a run tells when one more is taken in.
-use Rattle.std.specs.Prelude.{ℕ, List, [], ◌∷◌, ◌++◌, if◌then◌else◌}
-use Rattle.hunt_tally.specs.Tallies.{Tells, has}
-use Rattle.hunt_reports.specs.Races.{is_passed}
+-- What becomes of the races of a run when one more is taken in.
+use Rattle.std.specs.Prelude.{Bool, List, [], ◌∷◌, ◌++◌, if◌then◌else◌}
+use Rattle.hunt_tally.specs.Tallies.{Tells}
 
-abbrev pub with_race : List (List ℕ) → Tells → List Tells → List Tells
-with_race passed t ts = if is_passed passed t then ts else if has t.key ts then ts else ts ++ t ∷ []
+-- it is added unless it is passed or known
+abbrev pub with_race : Bool → Bool → Tells → List Tells → List Tells
+with_race passed known t ts = if passed then ts else if known then ts else ts ++ t ∷ []

@@ -14,19 +14,19 @@ use std::alloc::{AllocError, Global};
 
 /// What a processor does at the end, and its PC.
 #[derive(Clone, Copy)]
-pub struct Ended {
+pub struct AtEnd {
     pub status: Status,
     pub pc: u32,
 }
 
 /// What the processors do.
-pub fn ended_of(alloc: Global, m: &Machine) -> Result<Vec<Ended>, AllocError>
+pub fn ended_of(alloc: Global, m: &Machine) -> Result<Vec<AtEnd>, AllocError>
     ensures ended { IfOk result (λ v. (M : State) → state_of m.now ≡ Some M → v.items ≡ map ended_in M.spes) }
     ensures few { IfOk result (λ v. length v.items ≤ 16) }
 {
     let mut ended = Vec::new(alloc);
     for p in 0..m.setup().spes() {
-        ended.push(Ended {
+        ended.push(AtEnd {
             status: m.status(p),
             pc: m.pc(p),
         })?;
@@ -64,14 +64,14 @@ fn is_halted(status: Status) -> bool
 }
 
 /// Whether a processor has a fault.
-pub fn has_fault(spes: &[Ended]) -> bool
+pub fn has_fault(spes: &[AtEnd]) -> bool
     ensures { result ≡ list_any (λ e. is_fault e.status) spes.now }
 {
     spes.iter().any(|e| is_fault(e.status))
 }
 
 /// Whether a processor halted.
-pub fn has_halt(spes: &[Ended]) -> bool
+pub fn has_halt(spes: &[AtEnd]) -> bool
     ensures { result ≡ list_any (λ e. is_halted e.status) spes.now }
 {
     spes.iter().any(|e| is_halted(e.status))
@@ -100,7 +100,7 @@ fn put_pc(out: &mut Vec<u8>, status: Status, pc: u32) -> Result<(), AllocError>
     }
 }
 
-fn put_spe(out: &mut Vec<u8>, p: u8, ended: Ended) -> Result<(), AllocError>
+fn put_spe(out: &mut Vec<u8>, p: u8, ended: AtEnd) -> Result<(), AllocError>
     ensures { OnOk result (out.new.items ≡ out.old.items ++ spe_ending p ended) }
 {
     out.extend_from_slice(b" | ")?;
@@ -110,7 +110,7 @@ fn put_spe(out: &mut Vec<u8>, p: u8, ended: Ended) -> Result<(), AllocError>
     put_pc(out, ended.status, ended.pc)
 }
 
-fn put_spes(out: &mut Vec<u8>, spes: &[Ended]) -> Result<(), AllocError>
+fn put_spes(out: &mut Vec<u8>, spes: &[AtEnd]) -> Result<(), AllocError>
     requires { length spes.now ≤ 16 }
     ensures { OnOk result (out.new.items ≡ out.old.items ++ spe_endings 0 spes.now) }
 {
@@ -123,7 +123,7 @@ fn put_spes(out: &mut Vec<u8>, spes: &[Ended]) -> Result<(), AllocError>
 }
 
 /// The end word, and of each processor what it does and where it is, if it still runs.
-pub fn ending_text(alloc: Global, end: End, spes: &[Ended]) -> Result<Vec<u8>, AllocError>
+pub fn ending_text(alloc: Global, end: End, spes: &[AtEnd]) -> Result<Vec<u8>, AllocError>
     requires { length spes.now ≤ 16 }
     ensures { IfOk result (λ text. text.items ≡ ending_text end spes.now) }
 {

@@ -1,7 +1,7 @@
 //! Which line placed the word at an address of a local store.
 
 ghost use Rattle.std.specs.Prelude.{◌≡◌, is_some};
-ghost use Rattle.hunt_reports.specs.Origins.{covers, has_placed, is_line, line_at, line_by, line_in, named_line, owner, source_line, is_placed};
+ghost use Rattle.hunt_reports.specs.Origins.{covers, has_placed, is_line, line_at, line_by, line_in, named_line, owner, source_line, statement_of, is_placed};
 
 use spu_asm::ListedLine;
 
@@ -21,11 +21,12 @@ pub struct Placing {
     pub placed: Placed,
 }
 
-/// A source: its name, and the addresses of its lines.
+/// A source: its name, the addresses of its lines, and the statement of each line of its text.
 #[derive(Drop)]
 pub struct Source {
     pub name: Vec<u8>,
     pub lines: Vec<ListedLine>,
+    pub statements: Vec<Vec<u8>>,
 }
 
 /// What the lines of a machine file place, in their order, and its sources.
@@ -35,11 +36,12 @@ pub struct Places {
     pub sources: Vec<Source>,
 }
 
-/// A line of a source, by the name of the source and the line's number from 1.
+/// A line of a source: the name of the source, the line's number, counted from 1, and its statement.
 #[derive(Clone, Copy)]
 pub struct SourceLine<'a> {
     pub name: &'a [u8],
     pub number: u32,
+    pub statement: &'a [u8],
 }
 
 /// Whether a line placed the byte at an address.
@@ -61,6 +63,16 @@ fn line_at(lines: &[ListedLine], at: u32) -> Option<u32>
     None
 }
 
+/// The statement of a line; empty if the source has no such line.
+pub fn statement_of(source: &Source, line: u32) -> &[u8]
+    ensures { result.now ≡ statement_of source.now line }
+{
+    match source.statements.get((line as usize).saturating_sub(1)) {
+        Some(statement) => statement.as_slice(),
+        None => &[],
+    }
+}
+
 /// The line of the source of this number that placed the byte at an address.
 #[tactic(auto, unfolding(crate::specs::Origins::line_in))]
 fn line_in(sources: &[Source], number: usize, at: u32) -> Option<SourceLine<'_>>
@@ -71,6 +83,7 @@ fn line_in(sources: &[Source], number: usize, at: u32) -> Option<SourceLine<'_>>
     Some(SourceLine {
         name: source.name.as_slice(),
         number: line,
+        statement: statement_of(source, line),
     })
 }
 

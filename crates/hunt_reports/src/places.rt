@@ -21,7 +21,8 @@ fn put_spe_site(out: &mut Vec<u8>, letter: u8, spe: u8, at: u32) -> Result<(), A
     put_hex(out, 5, at)
 }
 
-fn put_site(out: &mut Vec<u8>, site: Site) -> Result<(), AllocError>
+/// Writes a step as a line of races has it.
+pub fn put_site(out: &mut Vec<u8>, site: Site) -> Result<(), AllocError>
     ensures { OnOk result (out.new.items ≡ out.old.items ++ site_text site) }
 {
     match site {
@@ -70,7 +71,12 @@ fn put_place(
 }
 
 /// Writes the line that placed the instruction at an address of a processor's store.
-fn put_instruction(out: &mut Vec<u8>, places: &Places, spe: u8, at: u32) -> Result<(), AllocError>
+pub fn put_instruction(
+    out: &mut Vec<u8>,
+    places: &Places,
+    spe: u8,
+    at: u32,
+) -> Result<(), AllocError>
     ensures { OnOk result (out.new.items ≡ out.old.items ++ instruction_text places.now spe at) }
 {
     put_place(out, places.source_line(spe, at), spe, at)

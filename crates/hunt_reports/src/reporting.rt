@@ -11,9 +11,11 @@ ghost use Rattle.hunt_reports.specs.Endings.{ending_text};
 ghost use Rattle.hunt_reports.specs.Reports.{report_by, IsReport};
 
 use crate::asked::Asked;
-use crate::ended::{Ended, ended_of, ending_text, has_fault, has_halt, is_budget, is_stuck};
+use crate::coverage::numbers_of;
+use crate::ended::{AtEnd, ended_of, ending_text, has_fault, has_halt, is_budget, is_stuck};
+use crate::findings::take_others;
 use crate::missing::missed_in;
-use crate::races::{Races, races_of};
+use crate::races::{Found, races_of};
 use cell_hunt::SeedRun;
 use cell_machine::{End, Machine};
 use cell_report::{result_text, states_text};
@@ -56,40 +58,47 @@ fn steps_of(machine: &Machine) -> u32
 
 /// The report by its parts.
 fn report_by(
-    spes: &[Ended],
+    spes: &[AtEnd],
     end: End,
     ending: Vec<u8>,
     left: Vec<u8>,
-    races: Races,
+    found: Found,
     missed: Vec<Vec<u8>>,
     kind: u64,
     steps: u32,
+    executed: Vec<usize>,
 ) -> Report
     requires { ending.items ≡ ending_text end spes.now }
-    ensures { result ≡ report_by spes.now end left.items races.told.items races.leaves_out (bytes_in missed.items) kind steps }
+    ensures { result ≡ report_by spes.now end left.items found.races.items found.findings.items found.leaves_out (bytes_in missed.items) kind steps executed.items }
 {
     let flaws = Flaws {
-        race: !races.told.is_empty(),
+        race: !found.races.is_empty(),
         stuck: is_stuck(end),
         budget: is_budget(end),
         fault: has_fault(spes),
         halt: has_halt(spes),
         missed: !missed.is_empty(),
     };
-    let Races { told, leaves_out } = races;
+    let Found {
+        races,
+        findings,
+        leaves_out,
+    } = found;
     Report {
         flaws,
         ending,
         result: left,
-        races: told,
+        races,
         missed,
+        findings,
         leaves_out,
         kind,
         steps,
+        executed,
     }
 }
 
-/// What a run tells.
+/// The report of a run.
 pub fn report_of(alloc: Global, run: &SeedRun, asked: &Asked) -> Result<Report, AllocError>
     ensures { IfOk result (IsReport run.now asked.now) }
 {
@@ -99,15 +108,27 @@ pub fn report_of(alloc: Global, run: &SeedRun, asked: &Asked) -> Result<Report, 
     let ending = ending_text(alloc, end, spes.as_slice())?;
     let left = left_of(alloc, machine)?;
     let missed = missed_of(alloc, machine, asked.expected.as_slice())?;
-    let races = races_of(alloc, run.races(), &asked.places, asked.passed.as_slice())?;
+    let mut found = races_of(alloc, run.races(), &asked.places, asked.passed.as_slice())?;
+    take_others(
+        alloc,
+        &mut found.findings,
+        &asked.places,
+        machine,
+        run.endings(),
+        spes.as_slice(),
+        end,
+        missed.as_slice(),
+    )?;
+    let executed = numbers_of(alloc, run.executed())?;
     Ok(report_by(
         spes.as_slice(),
         end,
         ending,
         left,
-        races,
+        found,
         missed,
         run.kind(),
         steps_of(machine),
+        executed,
     ))
 }

@@ -1,14 +1,17 @@
 -- What the runs of some reports tell together, and with one report more.
-use Rattle.std.proofs.Common.{◌≡◌, ◌+◌, ◌<◌, Bool, true, false, cond, ◌||◌, eqb, List, [], ◌∷◌, ◌++◌, length, map, refl, sym, ap, ◌∙◌, arith, true≢false}
+use Rattle.std.proofs.Common.{◌≡◌, ℕ, ◌+◌, ◌<◌, Bool, true, false, cond, ◌||◌, eqb, List, [], ◌∷◌, ◌++◌, length, map, append-nil, refl, sym, ap, ◌∙◌, arith, true≢false}
 use Rattle.std.specs.Prelude.{nat_lt, Result, Ok, Err, OnOk}
-use Rattle.std.specs.List.{list_any, count_by, position_or_len}
+use Rattle.std.specs.List.{list_any, count_by, flat_map, position_or_len}
 use Rattle.std.proofs.lemmas.List.{map_push, length_push}
+use Rattle.std.proofs.lemmas.List.Concat.{flat_map-append}
 use Rattle.std.proofs.lemmas.List.Folds.{position_or_len_push}
 use Rattle.std.proofs.lemmas.List.Sums.{fold_push, sum_by_push, sum_by-cons}
 use Rattle.hunt_tally.specs.Tallies.{Took, tallied}
 use Rattle.hunt_tally.specs.Counting.{first_of, count_of, noted}
+use Rattle.hunt_tally.specs.Executed.{set_of}
 use Rattle.hunt_tally.specs.Kinds.{kinds_of, with_run}
-use Rattle.hunt_tally.specs.Reports.{Reported, is_flawed, all_stopped, ending_told, result_told, missed_told, flaws_of, Sums, steps_of, hunted, has_flaw}
+use Rattle.hunt_tally.specs.Reports.{Reported, is_flawed, all_stopped, ending_told, result_told, missed_told, flaws_of, Sums, steps_of, executed_in, hunted, has_flaw}
+use Rattle.hunt_tally.proofs.ExecutedLemmas.{set_more}
 use Rattle.hunt_tally.proofs.Taking.{none_counted, first_within}
 
 module _ {X : Type 0} (test : X → Bool) where
@@ -87,6 +90,11 @@ module _ {X : Type 0} (test : X → Bool) where
 kinds_more : (reports : List Reported) (r : Reported) → kinds_of (map (λ (x : Reported). x.kind) (reports ++ r ∷ [])) ≡ with_run (kinds_of (map (λ (x : Reported). x.kind) reports)) r.kind
 kinds_more reports r = ap kinds_of (map_push (λ (x : Reported). x.kind) reports r) ∙ fold_push with_run [] (map (λ (x : Reported). x.kind) reports) r.kind
 
+executed_more : (reports : List Reported) (r : Reported) → executed_in (reports ++ r ∷ []) ≡ set_of (executed_in reports ++ r.executed)
+executed_more reports r =
+    ap set_of (flat_map-append (λ (x : Reported). x.executed) reports (r ∷ []) ∙ ap (λ xs. flat_map (λ (x : Reported). x.executed) reports ++ xs) (append-nil r.executed))
+    ∙ sym (set_more (flat_map (λ (x : Reported). x.executed) reports) r.executed)
+
 -- what holds where all went well, of what holds there
 pub on_ok : {A E : Type 0} {P Q : Type 0} (r : Result A E) → (P → Q) → OnOk r P → OnOk r Q
 on_ok (Ok a) f p = f p
@@ -111,6 +119,8 @@ pub more : (reports : List Reported) (r : Reported) → hunted (reports ++ r ∷
   results = tallied (map result_told reports ++ result_told r ∷ []);
   races = tallied (map (λ (x : Reported). x.races) reports ++ r.races ∷ []);
   missed = tallied (map missed_told reports ++ missed_told r ∷ []);
+  findings = tallied (map (λ (x : Reported). x.findings) reports ++ r.findings ∷ []);
+  executed = set_of (executed_in reports ++ r.executed);
 }
 unfolding hunted flaws_of
 more reports r = λ i. record {
@@ -131,6 +141,8 @@ more reports r = λ i. record {
   results = tallied (map_push result_told reports r i);
   races = tallied (map_push (λ (x : Reported). x.races) reports r i);
   missed = tallied (map_push missed_told reports r i);
+  findings = tallied (map_push (λ (x : Reported). x.findings) reports r i);
+  executed = executed_more reports r i;
 }
 
 -- the sums after a report is taken in, by those before
@@ -150,6 +162,8 @@ pub record IsMore (r : Reported) (old new : Sums) : Type 0 where
   pub results : Took (result_told r) old.results new.results
   pub races : Took r.races old.races new.races
   pub lines : Took (missed_told r) old.missed new.missed
+  pub findings : Took r.findings old.findings new.findings
+  pub executed : new.executed ≡ set_of (old.executed ++ r.executed)
 
 pub took_report : (r : Reported) (old new : Sums) → IsMore r old new → (reports : List Reported) → old ≡ hunted reports → new ≡ hunted (reports ++ r ∷ [])
 unfolding hunted
@@ -171,6 +185,8 @@ took_report r old new is reports e = (λ i. record {
   results = is.results (map result_told reports) (ap (λ (s : Sums). s.results) e) i;
   races = is.races (map (λ (x : Reported). x.races) reports) (ap (λ (s : Sums). s.races) e) i;
   missed = is.lines (map missed_told reports) (ap (λ (s : Sums). s.missed) e) i;
+  findings = is.findings (map (λ (x : Reported). x.findings) reports) (ap (λ (s : Sums). s.findings) e) i;
+  executed = (is.executed ∙ ap (λ (s : Sums). set_of (s.executed ++ r.executed)) e) i;
 }) ∙ sym (more reports r)
 
 -- before the first report
@@ -178,7 +194,7 @@ pub no_flaws : record { race = record { runs = 0; first = 0 }; stuck = record { 
 unfolding flaws_of count_of
 no_flaws = refl
 
-pub no_runs : record { runs = 0; all_stopped = 0; left_out = 0; steps = 0; flaws = flaws_of []; kinds = []; endings = tallied []; results = tallied []; races = tallied []; missed = tallied [] } ≡ hunted []
+pub no_runs : record { runs = 0; all_stopped = 0; left_out = 0; steps = 0; flaws = flaws_of []; kinds = []; endings = tallied []; results = tallied []; races = tallied []; missed = tallied []; findings = tallied []; executed = executed_in [] } ≡ hunted []
 unfolding hunted
 no_runs = refl
 

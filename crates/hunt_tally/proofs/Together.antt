@@ -2,14 +2,18 @@
 use Rattle.std.proofs.Common.{◌≡◌, ℕ, ◌+◌, ◌≤◌, Bool, true, false, cond, ◌&&◌, eqb, eqb-true, List, [], ◌∷◌, ◌++◌, length, map, length-append, append_assoc, append-nil, refl, sym, ap, subst, ◌∙◌, arith}
 use Rattle.std.specs.Prelude.{nat_lt}
 use Rattle.std.proofs.lemmas.List.{map-append}
+use Rattle.std.specs.List.{flat_map}
+use Rattle.std.proofs.lemmas.List.Concat.{flat_map-append}
 use Rattle.std.proofs.lemmas.List.Sums.{sum_by-append}
 use Rattle.hunt_tally.specs.declared.count.Count.{Count}
 use Rattle.hunt_tally.specs.Tallies.{tallied}
 use Rattle.hunt_tally.specs.Joins.{Joined}
 use Rattle.hunt_tally.specs.Counting.{count_of, noted, with_count}
+use Rattle.hunt_tally.specs.Executed.{set_of}
 use Rattle.hunt_tally.specs.Kinds.{runs_of, kinds_of, with_kinds}
-use Rattle.hunt_tally.specs.Reports.{Reported, all_stopped, ending_told, result_told, missed_told, flaws_of, Sums, hunted}
+use Rattle.hunt_tally.specs.Reports.{Reported, all_stopped, ending_told, result_told, missed_told, flaws_of, Sums, executed_in, hunted}
 use Rattle.hunt_tally.specs.Bounds.{AreWithin, IsWithin}
+use Rattle.hunt_tally.proofs.ExecutedLemmas.{set_both}
 use Rattle.hunt_tally.proofs.Hunting.{noted_is}
 use Rattle.hunt_tally.proofs.KindLemmas.{kinds_joined}
 
@@ -95,6 +99,12 @@ pub record AreBoth (here behind new : Sums) : Type 0 where
   pub results : Joined here.results behind.results new.results
   pub races : Joined here.races behind.races new.races
   pub lines : Joined here.missed behind.missed new.missed
+  pub findings : Joined here.findings behind.findings new.findings
+  pub executed : new.executed ≡ set_of (here.executed ++ behind.executed)
+
+executed_both : (xs ys : List Reported) → set_of (executed_in xs ++ executed_in ys) ≡ executed_in (xs ++ ys)
+executed_both xs ys =
+    set_both (flat_map (λ (r : Reported). r.executed) xs) (flat_map (λ (r : Reported). r.executed) ys) ∙ ap set_of (sym (flat_map-append (λ (r : Reported). r.executed) xs ys))
 
 pub hunted_both : (here behind new : Sums) → AreBoth here behind new → (xs ys : List Reported) → here ≡ hunted xs → behind ≡ hunted ys → new ≡ hunted (xs ++ ys)
 unfolding hunted flaws_of
@@ -116,14 +126,17 @@ hunted_both here behind new is xs ys a b = λ i. record {
   results = (is.results (map result_told xs) (map result_told ys) (ap (λ (s : Sums). s.results) a) (ap (λ (s : Sums). s.results) b) ∙ ap tallied (sym (map-append result_told xs ys))) i;
   races = (is.races (map (λ (r : Reported). r.races) xs) (map (λ (r : Reported). r.races) ys) (ap (λ (s : Sums). s.races) a) (ap (λ (s : Sums). s.races) b) ∙ ap tallied (sym (map-append (λ (r : Reported). r.races) xs ys))) i;
   missed = (is.lines (map missed_told xs) (map missed_told ys) (ap (λ (s : Sums). s.missed) a) (ap (λ (s : Sums). s.missed) b) ∙ ap tallied (sym (map-append missed_told xs ys))) i;
+  findings = (is.findings (map (λ (r : Reported). r.findings) xs) (map (λ (r : Reported). r.findings) ys) (ap (λ (s : Sums). s.findings) a) (ap (λ (s : Sums). s.findings) b) ∙ ap tallied (sym (map-append (λ (r : Reported). r.findings) xs ys))) i;
+  executed = (is.executed ∙ (λ j. set_of ((a j).executed ++ (b j).executed)) ∙ executed_both xs ys) i;
 }
 
 -- and none of them is more than all runs, also where not all was taken in
 pub within_both : (here behind new : Sums) → IsWithin here → IsWithin behind → new.runs ≡ here.runs + behind.runs → new.all_stopped ≡ here.all_stopped + behind.all_stopped
     → new.left_out ≡ here.left_out + behind.left_out → new.steps ≡ here.steps + behind.steps → AreWithin (here.runs + behind.runs) new.flaws → runs_of new.kinds ≤ runs_of here.kinds + runs_of behind.kinds
     → new.endings.runs ≤ here.endings.runs + behind.endings.runs → new.results.runs ≤ here.results.runs + behind.results.runs
-    → new.races.runs ≤ here.races.runs + behind.races.runs → new.missed.runs ≤ here.missed.runs + behind.missed.runs → IsWithin new
-within_both here behind new a b runs stopped out steps flaws kinds endings results races missed = record {
+    → new.races.runs ≤ here.races.runs + behind.races.runs → new.missed.runs ≤ here.missed.runs + behind.missed.runs
+    → new.findings.runs ≤ here.findings.runs + behind.findings.runs → IsWithin new
+within_both here behind new a b runs stopped out steps flaws kinds endings results races missed findings = record {
   all_stopped = omega (arith, runs, stopped, a.all_stopped, b.all_stopped);
   left_out = omega (arith, runs, out, a.left_out, b.left_out);
   steps = omega (arith, runs, steps, a.steps, b.steps);
@@ -133,4 +146,5 @@ within_both here behind new a b runs stopped out steps flaws kinds endings resul
   results = omega (arith, runs, results, a.results, b.results);
   races = omega (arith, runs, races, a.races, b.races);
   missed = omega (arith, runs, missed, a.missed, b.missed);
+  findings = omega (arith, runs, findings, a.findings, b.findings);
 }

@@ -28,3 +28,4 @@ pub record IsWithin (s : Sums) : Type 0 where
   pub results : s.results.runs ≤ s.runs
   pub races : s.races.runs ≤ s.runs
   pub missed : s.missed.runs ≤ s.runs
+  pub findings : s.findings.runs ≤ s.runs

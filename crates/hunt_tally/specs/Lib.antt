@@ -5,5 +5,7 @@ pub mod Views
 pub mod Lines
 pub mod Counting
 pub mod Kinds
+pub mod Executed
+pub mod Coverage
 pub mod Reports
 pub mod Bounds

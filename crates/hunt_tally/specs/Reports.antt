@@ -1,6 +1,6 @@
 -- What one run tells, and what runs tell together.
 use Rattle.std.specs.Prelude.{ℕ, ◌+◌, Bool, not, ◌||◌, nat_lt, List, [], ◌∷◌, ◌++◌, map, length, drop}
-use Rattle.std.specs.List.{count_by, sum_by}
+use Rattle.std.specs.List.{count_by, flat_map, sum_by}
 use Rattle.cell_base.specs.Records.{line_feed}
 use Rattle.hunt_tally.specs.declared.flaws.Flaws.{Flaws}
 use Rattle.hunt_tally.specs.declared.flaws.FlawCounts.{FlawCounts}
@@ -8,6 +8,7 @@ use Rattle.hunt_tally.specs.Tallies.{Tells, Told, Tallied, tallied}
 use Rattle.hunt_tally.specs.Counting.{count_of}
 use Rattle.hunt_tally.specs.declared.kinds.Kind.{Kind}
 use Rattle.hunt_tally.specs.Kinds.{kinds_of}
+use Rattle.hunt_tally.specs.Executed.{set_of}
 
 -- what one run tells
 pub record Reported : Type 0 where
@@ -16,9 +17,11 @@ pub record Reported : Type 0 where
   pub result : List ℕ
   pub races : List Tells
   pub missed : List (List ℕ)
+  pub findings : List Tells  -- a key begins with the word of the finding's kind
   pub leaves_out : Bool
   pub kind : ℕ  -- its digest
   pub steps : ℕ  -- how many
+  pub executed : List ℕ  -- the numbers of the instructions that it executed
 
 -- whether something went wrong in it
 abbrev pub is_flawed : Reported → Bool
@@ -64,6 +67,10 @@ flaws_of reports = record {
 abbrev pub steps_of : List Reported → ℕ
 steps_of reports = sum_by (λ (r : Reported). r.steps) reports
 
+-- the instructions that one of the runs executed, by their numbers
+abbrev pub executed_in : List Reported → List ℕ
+executed_in reports = set_of (flat_map (λ (r : Reported). r.executed) reports)
+
 -- what runs tell together
 pub record Sums : Type 0 where
   pub runs : ℕ
@@ -76,6 +83,8 @@ pub record Sums : Type 0 where
   pub results : Tallied
   pub races : Tallied
   pub missed : Tallied
+  pub findings : Tallied
+  pub executed : List ℕ
 
 -- what the runs of these reports tell together
 unfoldable pub hunted : List Reported → Sums
@@ -90,6 +99,8 @@ hunted reports = record {
   results = tallied (map result_told reports);
   races = tallied (map (λ (r : Reported). r.races) reports);
   missed = tallied (map missed_told reports);
+  findings = tallied (map (λ (r : Reported). r.findings) reports);
+  executed = executed_in reports;
 }
 
 -- whether a flaw was counted

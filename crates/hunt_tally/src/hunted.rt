@@ -6,6 +6,7 @@ ghost use Rattle.cell_base.specs.Records.{line_feed};
 ghost use Rattle.hunt_tally.specs.Tallies.{Took};
 ghost use Rattle.hunt_tally.specs.Reports.{Reported, is_flawed, line_told, hunted};
 
+use crate::executed::Executed;
 use crate::flaws::FlawCounts;
 use crate::kinds::Kinds;
 use crate::report::Report;
@@ -25,11 +26,14 @@ pub struct Hunted {
     steps: u64,
     flaws: FlawCounts,
     kinds: Kinds,
-    /// The different endings, results within an ending, races, and expected lines that aren't there.
+    /// The different endings, results within an ending, races, expected lines that aren't there, and findings.
     endings: Tally,
     results: Tally,
     races: Tally,
     missed: Tally,
+    findings: Tally,
+    /// The instructions that at least one of them executed.
+    executed: Executed,
 }
 
 impl Model for Hunted {
@@ -38,9 +42,9 @@ impl Model for Hunted {
 
     ghost Value = { Sums };
 
-    ghost view = { λ h. record { runs = h.runs; all_stopped = h.all_stopped; left_out = h.left_out; steps = h.steps; flaws = h.flaws; kinds = h.kinds; endings = h.endings; results = h.results; races = h.races; missed = h.missed } };
+    ghost view = { λ h. record { runs = h.runs; all_stopped = h.all_stopped; left_out = h.left_out; steps = h.steps; flaws = h.flaws; kinds = h.kinds; endings = h.endings; results = h.results; races = h.races; missed = h.missed; findings = h.findings; executed = h.executed } };
 
-    ghost invariant = { λ h. IsWithin (record { runs = h.runs; all_stopped = h.all_stopped; left_out = h.left_out; steps = h.steps; flaws = h.flaws; kinds = h.kinds; endings = h.endings; results = h.results; races = h.races; missed = h.missed }) };
+    ghost invariant = { λ h. IsWithin (record { runs = h.runs; all_stopped = h.all_stopped; left_out = h.left_out; steps = h.steps; flaws = h.flaws; kinds = h.kinds; endings = h.endings; results = h.results; races = h.races; missed = h.missed; findings = h.findings; executed = h.executed }) };
 }
 
 /// One more, where it is so.
@@ -95,6 +99,8 @@ impl Hunted {
             results: Tally::new(alloc),
             races: Tally::new(alloc),
             missed: Tally::new(alloc),
+            findings: Tally::new(alloc),
+            executed: Executed::new(alloc),
         }
     }
 
@@ -109,9 +115,11 @@ impl Hunted {
             result,
             races,
             missed,
+            findings,
             leaves_out,
             kind,
             steps,
+            executed,
         } = report;
         let run = self.runs;
         self.runs = run + 1;
@@ -122,7 +130,9 @@ impl Hunted {
         self.kinds.take(kind)?;
         take_ending(&mut self.endings, &mut self.results, alloc, ending, result)?;
         self.races.take(races)?;
-        take_missed(&mut self.missed, alloc, missed)
+        take_missed(&mut self.missed, alloc, missed)?;
+        self.findings.take(findings)?;
+        self.executed.take(executed.as_slice())
     }
 
     /// Takes in what the runs behind these told. After want of memory nothing is known of what was taken in.
@@ -142,6 +152,8 @@ impl Hunted {
             results,
             races,
             missed,
+            findings,
+            executed,
         } = other;
         self.flaws.join(self.runs, flaws);
         self.runs += runs;
@@ -152,7 +164,9 @@ impl Hunted {
         self.endings.join(alloc, endings)?;
         self.results.join(alloc, results)?;
         self.races.join(alloc, races)?;
-        self.missed.join(alloc, missed)
+        self.missed.join(alloc, missed)?;
+        self.findings.join(alloc, findings)?;
+        self.executed.join(executed)
     }
 
     /// How many were taken in.
@@ -230,5 +244,19 @@ impl Hunted {
         ensures { result.now ≡ self.now.missed }
     {
         &self.missed
+    }
+
+    /// The different findings.
+    pub fn findings(&self) -> &Tally
+        ensures { result.now ≡ self.now.findings }
+    {
+        &self.findings
+    }
+
+    /// The instructions that at least one of them executed.
+    pub fn executed(&self) -> &Executed
+        ensures { result.now ≡ self.now.executed }
+    {
+        &self.executed
     }
 }

@@ -4,6 +4,8 @@
 
 mod count;
 mod counted;
+mod coverage;
+mod executed;
 mod flaws;
 mod hunted;
 mod kinds;
@@ -13,6 +15,8 @@ mod telling;
 mod tellings;
 
 pub use count::Count;
+pub use coverage::{LineCoverage, SourceCoverage};
+pub use executed::Executed;
 pub use flaws::{FlawCounts, Flaws};
 pub use hunted::Hunted;
 pub use kinds::{Kind, Kinds};

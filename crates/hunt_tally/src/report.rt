@@ -17,12 +17,16 @@ pub struct Report {
     pub races: Vec<Telling>,
     /// The expected lines that it doesn't have, without line feeds.
     pub missed: Vec<Vec<u8>>,
+    /// Its findings. A key begins with the word of the finding's kind.
+    pub findings: Vec<Telling>,
     /// Whether a race was left out that was passed.
     pub leaves_out: bool,
     /// The digest of its kind.
     pub kind: u64,
     /// How many steps it has.
     pub steps: u32,
+    /// The instructions that it executed, each by its number.
+    pub executed: Vec<usize>,
 }
 
 impl Model for Report {
@@ -31,5 +35,5 @@ impl Model for Report {
 
     ghost Value = { Reported };
 
-    ghost view = { λ r. record { flaws = r.flaws; ending = r.ending.items; result = r.result.items; races = r.races.items; missed = map (λ line. line.items) r.missed.items; leaves_out = r.leaves_out; kind = r.kind; steps = r.steps } };
+    ghost view = { λ r. record { flaws = r.flaws; ending = r.ending.items; result = r.result.items; races = r.races.items; missed = map (λ line. line.items) r.missed.items; findings = r.findings.items; leaves_out = r.leaves_out; kind = r.kind; steps = r.steps; executed = r.executed.items } };
 }

@@ -12,7 +12,7 @@ use Rattle.hunt_tally.specs.Tallies.{Told}
 use Rattle.hunt_texts.specs.Groups.{is_place, is_of, results_at, AreGroups}
 use Rattle.hunt_texts.proofs.RowLemmas.{take_push}
 
-filter_push : {X : Type 0} (p : X → Bool) (xs : List X) (x : X) → filter p (xs ++ x ∷ []) ≡ filter p xs ++ (if p x then x ∷ [] else [])
+pub filter_push : {X : Type 0} (p : X → Bool) (xs : List X) (x : X) → filter p (xs ++ x ∷ []) ≡ filter p xs ++ (if p x then x ∷ [] else [])
 filter_push p [] x = refl
 filter_push p (y ∷ ys) x = by (p y) (filter_push p ys x)
   where
@@ -71,10 +71,13 @@ module _ (endings results : List Told) (groups : List (Vec Line Global)) (k : �
           are.each i g (sym (set_other groups j i new e) ∙ here) ∙ sym (append-nil (results_at endings (take k results) i))
           ∙ ap (λ b. results_at endings (take k results) i ++ (if b then told_by line ∷ [] else [])) (sym not_mine) ∙ sym (one_more i)
 
+pub seen_at : {X Y : Type 0} (view : X → Y) (xs : List X) (i : ℕ) (d : X) → i < length xs → slice_get (map view xs) i ≡ Some (view (get_or xs i d))
+seen_at view [] i d inside = absurd (omega (arith, inside))
+seen_at view (x ∷ xs) zero d inside = refl
+seen_at view (x ∷ xs) (suc i) d inside = seen_at view xs i d (omega (arith, inside))
+
 pub line_at : (lines : List Line) (i : ℕ) (d : Line) → i < length lines → slice_get (map told_by lines) i ≡ Some (told_by (get_or lines i d))
-line_at [] i d inside = absurd (omega (arith, inside))
-line_at (l ∷ ls) zero d inside = refl
-line_at (l ∷ ls) (suc i) d inside = line_at ls i d (omega (arith, inside))
+line_at lines i d inside = seen_at told_by lines i d inside
 
 -- what stands at a place
 pub there_is : {X : Type 0} (xs : List X) (i : ℕ) (x : X) → i < length xs → x ≡ get_or xs i x → slice_get xs i ≡ Some x

@@ -1,5 +1,7 @@
 pub mod RowLemmas
+pub mod PlaceLemmas
 pub mod GroupLemmas
 pub mod LineLemmas
-pub mod EndingLemmas
-pub mod KindLemmas
+pub mod FoundLemmas
+pub mod SameLemmas
+mod SpanLemmas

@@ -28,15 +28,27 @@ take_past (x ∷ xs) (suc i) past = ap (λ ys. x ∷ ys) (take_past xs i (omega 
 step : (o o' a : List ℕ) → o' ≡ o ++ a → (t : List ℕ) → o' ++ t ≡ o ++ (a ++ t)
 step o o' a e t = ap (λ x. x ++ t) e ∙ append_assoc o a t
 
--- six texts one behind the other
+-- six items
 pub six : (o0 o1 o2 o3 o4 o5 o6 f1 f2 f3 f4 f5 f6 : List ℕ) → o1 ≡ o0 ++ f1 → o2 ≡ o1 ++ f2 → o3 ≡ o2 ++ f3 → o4 ≡ o3 ++ f4 → o5 ≡ o4 ++ f5 → o6 ≡ o5 ++ f6
     → o6 ≡ o0 ++ (f1 ++ (f2 ++ (f3 ++ (f4 ++ (f5 ++ (f6 ++ []))))))
 six o0 o1 o2 o3 o4 o5 o6 f1 f2 f3 f4 f5 f6 e1 e2 e3 e4 e5 e6 =
     e6 ∙ ap (λ t. o5 ++ t) (sym (append-nil f6)) ∙ step o4 o5 f5 e5 (f6 ++ []) ∙ step o3 o4 f4 e4 (f5 ++ (f6 ++ [])) ∙ step o2 o3 f3 e3 (f4 ++ (f5 ++ (f6 ++ [])))
     ∙ step o1 o2 f2 e2 (f3 ++ (f4 ++ (f5 ++ (f6 ++ [])))) ∙ step o0 o1 f1 e1 (f2 ++ (f3 ++ (f4 ++ (f5 ++ (f6 ++ [])))))
 
-pub left3 : (o a b c : List ℕ) → o ++ a ++ b ++ c ≡ o ++ (a ++ b ++ c)
-left3 o a b c = ap (λ t. t ++ c) (append_assoc o a b) ∙ append_assoc o (a ++ b) c
+-- two, three or seven texts one after the other
+pub two : (o p q a b : List ℕ) → p ≡ o ++ a → q ≡ p ++ b → q ≡ o ++ (a ++ b)
+two o p q a b e1 e2 = e2 ∙ step o p a e1 b
 
-pub left5 : (o a b c d e : List ℕ) → o ++ a ++ b ++ c ++ d ++ e ≡ o ++ (a ++ b ++ c ++ d ++ e)
-left5 o a b c d e = ap (λ t. t ++ d ++ e) (left3 o a b c) ∙ ap (λ t. t ++ e) (append_assoc o (a ++ b ++ c) d) ∙ append_assoc o (a ++ b ++ c ++ d) e
+pub three : (o p q r a b c : List ℕ) → p ≡ o ++ a → q ≡ p ++ b → r ≡ q ++ c → r ≡ o ++ (a ++ b ++ c)
+three o p q r a b c e1 e2 e3 = two o q r (a ++ b) c (two o p q a b e1 e2) e3
+
+pub four : (o p q r s a b c d : List ℕ) → p ≡ o ++ a → q ≡ p ++ b → r ≡ q ++ c → s ≡ r ++ d → s ≡ o ++ (a ++ b ++ c ++ d)
+four o p q r s a b c d e1 e2 e3 e4 = two o r s (a ++ b ++ c) d (three o p q r a b c e1 e2 e3) e4
+
+pub seven : (o p q r s t u v a b c d e f g : List ℕ) → p ≡ o ++ a → q ≡ p ++ b → r ≡ q ++ c → s ≡ r ++ d → t ≡ s ++ e → u ≡ t ++ f → v ≡ u ++ g
+    → v ≡ o ++ (a ++ b ++ c ++ d ++ e ++ f ++ g)
+seven o p q r s t u v a b c d e f g e1 e2 e3 e4 e5 e6 e7 = four o s t u v (a ++ b ++ c ++ d) e f g (four o p q r s a b c d e1 e2 e3 e4) e5 e6 e7
+
+-- three items
+pub three_items : (o0 o1 o2 o3 f1 f2 f3 : List ℕ) → o1 ≡ o0 ++ f1 → o2 ≡ o1 ++ f2 → o3 ≡ o2 ++ f3 → o3 ≡ o0 ++ (f1 ++ (f2 ++ (f3 ++ [])))
+three_items o0 o1 o2 o3 f1 f2 f3 e1 e2 e3 = e3 ∙ ap (λ t. o2 ++ t) (sym (append-nil f3)) ∙ step o1 o2 f2 e2 (f3 ++ []) ∙ step o0 o1 f1 e1 (f2 ++ (f3 ++ []))

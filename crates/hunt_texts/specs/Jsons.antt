@@ -1,15 +1,19 @@
 -- The same as JSON, one object a line.
-use Rattle.std.specs.Prelude.{ℕ, suc, ◌+◌, ◌==◌, ◌||◌, nat_lt, Bool, List, ◌∷◌, [], ◌++◌, codes, if◌then◌else◌}
+use Rattle.std.specs.Prelude.{ℕ, ◌+◌, ◌==◌, ◌||◌, nat_lt, Bool, List, ◌∷◌, [], ◌++◌, codes, if◌then◌else◌}
 use Rattle.std.specs.List.{flat_map}
 use Rattle.std.specs.Fmt.{decimal}
 use Rattle.cell_base.specs.Hex.{hex}
 use Rattle.cell_base.specs.Records.{line_feed}
 use Rattle.hunt_tally.specs.declared.count.Count.{Count}
 use Rattle.hunt_tally.specs.declared.flaws.FlawCounts.{FlawCounts}
+use Rattle.hunt_tally.specs.declared.coverage.LineCoverage.{LineCoverage}
 use Rattle.hunt_tally.specs.declared.kinds.Kind.{Kind}
+use Rattle.hunt_tally.specs.Coverage.{SourceLines}
 use Rattle.hunt_tally.specs.Tallies.{Told, told_in}
 use Rattle.hunt_tally.specs.Reports.{Sums, result_in}
 use Rattle.hunt_texts.specs.Numbers.{word_text}
+use Rattle.hunt_texts.specs.Lists.{from_place}
+use Rattle.hunt_texts.specs.Findings.{key_word}
 
 -- a byte of a string: as it is, or as a code point of two digits where it is a quotation mark, a backslash, or no printed ASCII
 unfoldable pub byte_json : ℕ → List ℕ
@@ -67,6 +71,11 @@ result_json from t = codes "{\"result\":" ++ string_json (result_in t) ++ codes 
 abbrev pub missed_json : ℕ → Told → List ℕ
 missed_json from t = codes "{\"missed\":" ++ string_json t.key ++ runs_json from t.runs t.first
 
+-- a finding: the first word of its key is its kind
+abbrev pub finding_json : ℕ → Told → List ℕ
+finding_json from t =
+    codes "{\"finding\":" ++ string_json (key_word t.key) ++ codes ",\"key\":" ++ string_json t.key ++ codes ",\"shown\":" ++ string_json t.shown ++ runs_json from t.runs t.first
+
 abbrev pub comma_json : ℕ → List ℕ
 comma_json i = if i == 0 then [] else codes ","
 
@@ -74,16 +83,29 @@ comma_json i = if i == 0 then [] else codes ","
 unfoldable pub kind_json : Kind → List ℕ
 kind_json k = codes "\"" ++ word_text k.digest (codes "\":") ++ decimal k.runs
 
--- the kinds from place i on, with commas between them
-unfoldable pub kinds_from : ℕ → List Kind → List ℕ
-kinds_from i [] = []
-kinds_from i (k ∷ kinds) = comma_json i ++ kind_json k ++ kinds_from (suc i) kinds
+-- a kind, after a comma unless it is the first
+abbrev pub kind_at : ℕ → Kind → List ℕ
+kind_at i k = comma_json i ++ kind_json k
 
 unfoldable pub kinds_json : List Kind → List ℕ
-kinds_json kinds = codes "{\"kinds\":{" ++ kinds_from 0 kinds ++ codes "}}" ++ line_feed
+kinds_json kinds = codes "{\"kinds\":{" ++ from_place kind_at 0 kinds ++ codes "}}" ++ line_feed
 
-abbrev pub hunt_json : Sums → ℕ → ℕ → Bool → List ℕ
-hunt_json sums seed from expects =
+abbrev pub executed_json : Bool → List ℕ
+executed_json b = if b then codes ",1]" else codes ",0]"
+
+-- a line of a source by its number, and 1 if a run executed it
+unfoldable pub line_json : LineCoverage → List ℕ
+line_json l = codes "[" ++ decimal l.number ++ executed_json l.executed
+
+abbrev pub line_at : ℕ → LineCoverage → List ℕ
+line_at i l = comma_json i ++ line_json l
+
+-- a source by its name, with its lines that have an instruction
+unfoldable pub source_json : SourceLines → List ℕ
+source_json s = codes "{\"source\":" ++ string_json s.name ++ codes ",\"lines\":[" ++ from_place line_at 0 s.lines ++ codes "]}" ++ line_feed
+
+abbrev pub hunt_json : Sums → ℕ → ℕ → Bool → List SourceLines → List ℕ
+hunt_json sums seed from expects coverage =
     head_json sums seed from expects ++ flat_map (race_json from) (told_in sums.races) ++ flat_map (ending_json from) (told_in sums.endings)
     ++ flat_map (result_json from) (told_in sums.results) ++ flat_map (missed_json from) (told_in sums.missed)
-    ++ kinds_json sums.kinds
+    ++ flat_map (finding_json from) (told_in sums.findings) ++ flat_map source_json coverage ++ kinds_json sums.kinds

@@ -1,5 +1,17 @@
 pub mod Numbers
+pub mod Lists
+pub mod About
+pub mod Commands
+pub mod Unexecuted
+pub mod Heads
+pub mod Findings
+pub mod Founds
+pub mod Ends
 pub mod Groups
+pub mod Watches
+pub mod Watched
+pub mod Results
+pub mod Coverage
 pub mod Texts
 pub mod Jsons
 pub mod Rows

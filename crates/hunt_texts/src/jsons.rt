@@ -6,7 +6,8 @@ ghost use Rattle.hunt_texts.specs.Jsons.{bool_json, first_json, field_json, flaw
 use crate::kinds::put_kinds_json;
 use crate::numbers::put_number;
 use crate::rows::{Row, put_rows};
-use hunt_tally::{Count, FlawCounts, Hunted};
+use crate::sources::put_sources_json;
+use hunt_tally::{Count, FlawCounts, Hunted, SourceCoverage};
 use std::alloc::{AllocError, Global};
 
 fn put_bool(out: &mut Vec<u8>, b: bool) -> Result<(), AllocError>
@@ -111,23 +112,26 @@ fn put_head(
     out.extend_from_slice(b"}\n")
 }
 
-/// What runs of a seed tell together, as JSON, one object a line: of the hunt, of each race, ending, result and missed line, and of all kinds.
-/// `from` is the number of the first run, and `expects` whether lines were expected.
+/// What runs of a seed tell together, as JSON, one object a line: of the hunt, of each race, ending, result, missed line and finding, and of all kinds.
+/// `from` is the number of the first run, `expects` whether lines were expected, and `coverage` which lines of the sources the runs executed.
 pub fn hunt_json(
     alloc: Global,
     hunted: &Hunted,
     seed: u64,
     from: u32,
     expects: bool,
+    coverage: &[SourceCoverage],
 ) -> Result<Vec<u8>, AllocError>
-    ensures { IfOk result (λ text. text.items ≡ hunt_json hunted.now seed from expects) }
+    ensures { IfOk result (λ text. text.items ≡ hunt_json hunted.now seed from expects coverage.now) }
 {
     let mut out = Vec::new(alloc);
     put_head(&mut out, hunted, seed, from, expects)?;
-    put_rows(&mut out, Row::RaceJson, from, hunted.races())?;
-    put_rows(&mut out, Row::EndingJson, from, hunted.endings())?;
-    put_rows(&mut out, Row::ResultJson, from, hunted.results())?;
-    put_rows(&mut out, Row::MissedJson, from, hunted.missed())?;
+    put_rows(&mut out, Row::Race, from, hunted.races())?;
+    put_rows(&mut out, Row::Ending, from, hunted.endings())?;
+    put_rows(&mut out, Row::Result, from, hunted.results())?;
+    put_rows(&mut out, Row::Missed, from, hunted.missed())?;
+    put_rows(&mut out, Row::Finding, from, hunted.findings())?;
+    put_sources_json(&mut out, coverage)?;
     put_kinds_json(&mut out, hunted.kinds())?;
     Ok(out)
 }

@@ -1,16 +1,15 @@
-//! The lines of a tally.
+//! The lines of a tally as JSON.
 
 ghost use Rattle.std.specs.Prelude.{◌≡◌, ◌++◌, OnOk};
 ghost use Rattle.std.specs.List.{flat_map};
 ghost use Rattle.hunt_tally.specs.Tallies.{told_in};
 ghost use Rattle.hunt_tally.specs.Lines.{told_by};
 ghost use Rattle.hunt_tally.specs.Reports.{result_in};
-ghost use Rattle.hunt_texts.specs.Texts.{race_line, missed_line, ending_line};
-ghost use Rattle.hunt_texts.specs.Jsons.{byte_json, string_json, runs_json, race_json, ending_json, result_json, missed_json};
-ghost use Rattle.hunt_texts.specs.Rows.{row_text};
+ghost use Rattle.hunt_texts.specs.Jsons.{byte_json, string_json, runs_json, race_json, ending_json, result_json, missed_json, finding_json};
+ghost use Rattle.hunt_texts.specs.Rows.{row_json};
 
+use crate::finding::key_word;
 use crate::jsons::put_field_json;
-use crate::numbers::put_counted;
 use cell_base::line_text::put_hex;
 use hunt_tally::{Line, Tally};
 use std::alloc::AllocError;
@@ -19,47 +18,13 @@ use std::alloc::AllocError;
 #[derive(Clone, Copy)]
 pub enum Row {
     Race,
+    Ending,
+    Result,
     Missed,
-    RaceJson,
-    EndingJson,
-    ResultJson,
-    MissedJson,
+    Finding,
 }
 
-fn put_race(out: &mut Vec<u8>, from: u32, line: Line<'_>) -> Result<(), AllocError>
-    ensures { OnOk result (out.new.items ≡ out.old.items ++ race_line from (told_by line.entry)) }
-{
-    out.extend_from_slice(b"race")?;
-    put_counted(out, from, line.runs, line.first)?;
-    out.extend_from_slice(line.shown)?;
-    out.push(b'\n')?;
-    Ok(())
-}
-
-fn put_missed(out: &mut Vec<u8>, from: u32, line: Line<'_>) -> Result<(), AllocError>
-    ensures { OnOk result (out.new.items ≡ out.old.items ++ missed_line from (told_by line.entry)) }
-{
-    out.extend_from_slice(b"missed")?;
-    put_counted(out, from, line.runs, line.first)?;
-    out.push(b' ')?;
-    out.extend_from_slice(line.key)?;
-    out.push(b'\n')?;
-    Ok(())
-}
-
-/// Writes the line of an ending.
-pub fn put_ending(out: &mut Vec<u8>, from: u32, line: Line<'_>) -> Result<(), AllocError>
-    ensures { OnOk result (out.new.items ≡ out.old.items ++ ending_line from (told_by line.entry)) }
-{
-    out.extend_from_slice(b"end")?;
-    put_counted(out, from, line.runs, line.first)?;
-    out.push(b' ')?;
-    out.extend_from_slice(line.key)?;
-    out.push(b'\n')?;
-    Ok(())
-}
-
-/// The result of a line of results, which stands behind its ending and a line feed.
+/// The result of a line of results, which follows its ending and a line feed.
 pub fn result_of<'a>(line: Line<'a>) -> &'a [u8]
     ensures { result.now ≡ result_in (told_by line.entry) }
 {
@@ -84,7 +49,7 @@ fn put_byte_json(out: &mut Vec<u8>, b: u8) -> Result<(), AllocError>
 
 /// Writes a string.
 #[tactic(auto, unfolding(crate::specs::Jsons::string_json))]
-fn put_string_json(out: &mut Vec<u8>, bytes: &[u8]) -> Result<(), AllocError>
+pub fn put_string_json(out: &mut Vec<u8>, bytes: &[u8]) -> Result<(), AllocError>
     ensures { OnOk result (out.new.items ≡ out.old.items ++ string_json bytes.now) }
 {
     out.push(b'"')?;
@@ -141,22 +106,34 @@ fn put_missed_json(out: &mut Vec<u8>, from: u32, line: Line<'_>) -> Result<(), A
     put_runs_json(out, from, line.runs, line.first)
 }
 
+fn put_finding_json(out: &mut Vec<u8>, from: u32, line: Line<'_>) -> Result<(), AllocError>
+    ensures { OnOk result (out.new.items ≡ out.old.items ++ finding_json from (told_by line.entry)) }
+{
+    out.extend_from_slice(b"{\"finding\":")?;
+    put_string_json(out, key_word(line.key))?;
+    out.extend_from_slice(b",\"key\":")?;
+    put_string_json(out, line.key)?;
+    out.extend_from_slice(b",\"shown\":")?;
+    put_string_json(out, line.shown)?;
+    put_runs_json(out, from, line.runs, line.first)?;
+    Ok(())
+}
+
 fn put_row(out: &mut Vec<u8>, row: Row, from: u32, line: Line<'_>) -> Result<(), AllocError>
-    ensures { OnOk result (out.new.items ≡ out.old.items ++ row_text row from (told_by line.entry)) }
+    ensures { OnOk result (out.new.items ≡ out.old.items ++ row_json row from (told_by line.entry)) }
 {
     match row {
-        Row::Race => put_race(out, from, line),
-        Row::Missed => put_missed(out, from, line),
-        Row::RaceJson => put_race_json(out, from, line),
-        Row::EndingJson => put_ending_json(out, from, line),
-        Row::ResultJson => put_result_json(out, from, line),
-        Row::MissedJson => put_missed_json(out, from, line),
+        Row::Race => put_race_json(out, from, line),
+        Row::Ending => put_ending_json(out, from, line),
+        Row::Result => put_result_json(out, from, line),
+        Row::Missed => put_missed_json(out, from, line),
+        Row::Finding => put_finding_json(out, from, line),
     }
 }
 
 /// Writes all lines of a tally.
 pub fn put_rows(out: &mut Vec<u8>, row: Row, from: u32, tally: &Tally) -> Result<(), AllocError>
-    ensures { OnOk result (out.new.items ≡ out.old.items ++ flat_map (row_text row from) (told_in tally.now)) }
+    ensures { OnOk result (out.new.items ≡ out.old.items ++ flat_map (row_json row from) (told_in tally.now)) }
 {
     for place in 0..tally.len() {
         put_row(out, row, from, tally.get(place))?;

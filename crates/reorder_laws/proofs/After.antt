@@ -24,11 +24,11 @@ use Rattle.cell_machine.specs.Locks.{stored_by}
 use Rattle.cell_machine.specs.EffectLaws.{maker}
 use Rattle.cell_machine.proofs.Same.{eq_off}
 use Rattle.cell_machine.proofs.CommandsShown.{set-here, set-other}
-use Rattle.step_frames.proofs.Hosting.{closed-there, closed-long}
-use Rattle.step_frames.proofs.Settling.{settled-twice}
-use Rattle.run_places.specs.Cuts.{has}
-use Rattle.run_places.specs.Recorded.{Recorded, count_of, spe_in, no_spe, spe_before, is_exec, is_elem, is_host, is_atomic_step, is_atomic_note, is_put_note, is_take_note, locking_of, box_of, done_by, retired_by, element_by, element_at, asked}
-use Rattle.run_places.specs.Frames.{HasFrames, listed}
+use Rattle.reorder_laws.proofs.Hosting.{closed-there, closed-long}
+use Rattle.reorder_laws.proofs.Settling.{settled-twice}
+use Rattle.reorder_laws.specs.Cuts.{has}
+use Rattle.reorder_laws.specs.Recorded.{Recorded, count_of, spe_in, no_spe, spe_before, is_exec, is_elem, is_host, is_atomic_step, is_atomic_note, is_put_note, is_take_note, locking_of, box_of, done_by, retired_by, element_by, element_at, asked}
+use Rattle.reorder_laws.specs.Frames.{HasFrames, listed}
 use Rattle.reorder_laws.specs.Described.{Describes, DescribesSpe, ShowsBox}
 use Rattle.reorder_laws.proofs.Cuts.{has_there, cut_skip, shows_skip}
 

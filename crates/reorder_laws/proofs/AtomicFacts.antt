@@ -12,12 +12,12 @@ use Rattle.cell_machine.specs.Run.{Ran}
 use Rattle.cell_machine.proofs.Same.{some_same}
 use Rattle.race_order.specs.Trace.{Notes}
 use Rattle.race_order.specs.Told.{trace_in}
-use Rattle.step_frames.proofs.SameDeeds.{read-27_note}
-use Rattle.run_places.specs.Recorded.{Recorded, IsRecorded, spe_before}
-use Rattle.run_places.specs.Frames.{IsFaultless}
-use Rattle.run_frames.specs.OrderedLaws.{AtomicsRead}
-use Rattle.run_frames.proofs.Frames.{happens-at, maker-low, spe-at}
-use Rattle.run_frames.proofs.Commands.{exec-only}
+use Rattle.reorder_laws.proofs.SameDeeds.{read-27_note}
+use Rattle.reorder_laws.specs.Recorded.{Recorded, IsRecorded, spe_before}
+use Rattle.reorder_laws.specs.Frames.{IsFaultless}
+use Rattle.reorder_laws.specs.OrderedLaws.{AtomicsRead}
+use Rattle.reorder_laws.proofs.Frames.{happens-at, maker-low, spe-at}
+use Rattle.reorder_laws.proofs.CommandFrames.{exec-only}
 use Rattle.reorder_laws.specs.Recording.{Records}
 use Rattle.reorder_laws.specs.Settled.{ReadsEachAtomic}
 

@@ -24,13 +24,13 @@ use Rattle.cell_machine.specs.EffectLaws.{maker}
 use Rattle.cell_machine.specs.Written.{Given, written_by, line_written}
 use Rattle.cell_machine.proofs.Same.{eq_same}
 use Rattle.cell_machine.proofs.StepBytes.{own_effect, atomic-is}
-use Rattle.step_frames.specs.Controllers.{line_left, SeesAtomic, AllowsAtomic}
-use Rattle.step_frames.proofs.Controlling.{atomic-made, atomics-allowed, line_is}
-use Rattle.run_places.specs.Cuts.{IsFront, IsCut}
-use Rattle.run_places.specs.Recorded.{Recorded, IsRecorded, Locking, count_of, spe_in, spe_before, program_of, listening_of, locking_of, is_exec, is_elem, is_atomic_step, is_put_note, is_take_note, done_by, retired_by, element_by, element_at, asked, owes, stalled_groups, box_of}
-use Rattle.run_places.specs.OrderLaws.{Orders}
-use Rattle.run_places.specs.Frames.{HasFrames, IsFaultless}
-use Rattle.run_frames.proofs.Frames.{spe-at}
+use Rattle.reorder_laws.specs.Controllers.{line_left, SeesAtomic, AllowsAtomic}
+use Rattle.reorder_laws.proofs.Controlling.{atomic-made, atomics-allowed, line_is}
+use Rattle.reorder_laws.specs.Cuts.{IsFront, IsCut}
+use Rattle.reorder_laws.specs.Recorded.{Recorded, IsRecorded, Locking, count_of, spe_in, spe_before, program_of, listening_of, locking_of, is_exec, is_elem, is_atomic_step, is_put_note, is_take_note, done_by, retired_by, element_by, element_at, asked, owes, stalled_groups, box_of}
+use Rattle.reorder_laws.specs.OrderLaws.{Orders}
+use Rattle.reorder_laws.specs.Frames.{HasFrames, IsFaultless}
+use Rattle.reorder_laws.proofs.Frames.{spe-at}
 use Rattle.reorder_laws.specs.Described.{Describes, DescribesSpe, ShowsBox}
 use Rattle.reorder_laws.specs.Steps.{HasSameSpans, HasSameBytes, MakesStep}
 use Rattle.reorder_laws.proofs.Cuts.{cut_front, cut_skip, shown_at, shows_step, shows_skip}

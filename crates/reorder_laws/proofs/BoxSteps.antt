@@ -5,12 +5,12 @@ use Rattle.std.specs.List.{range_with_len, last_or}
 use Rattle.std.specs.Option.{option_map_or}
 use Rattle.std.proofs.lemmas.Bool.{cases_lt, cases_order, lt-ltb}
 use Rattle.std.proofs.lemmas.Bool.Decides.{nat_tests}
-use Rattle.step_frames.specs.Boxes.{later_of, first_of}
-use Rattle.run_places.specs.Cuts.{has, IsFront, IsCut}
-use Rattle.run_places.specs.Recorded.{Recorded, count_of, spe_before, is_put_note, is_take_note, box_of, put_values, taken_values}
-use Rattle.run_places.specs.OrderLaws.{puts_before, Orders}
-use Rattle.run_places.specs.Frames.{HasFrames}
-use Rattle.run_frames.specs.OrderedLaws.{BoxesFit}
+use Rattle.reorder_laws.specs.Boxes.{later_of, first_of}
+use Rattle.reorder_laws.specs.Cuts.{has, IsFront, IsCut}
+use Rattle.reorder_laws.specs.Recorded.{Recorded, count_of, spe_before, is_put_note, is_take_note, box_of, put_values, taken_values}
+use Rattle.reorder_laws.specs.OrderLaws.{puts_before, Orders}
+use Rattle.reorder_laws.specs.Frames.{HasFrames}
+use Rattle.reorder_laws.specs.OrderedLaws.{BoxesFit}
 use Rattle.reorder_laws.specs.Described.{ShowsBox}
 use Rattle.reorder_laws.proofs.Cuts.{cut_skip, cut_step, same_look}
 use Rattle.reorder_laws.proofs.Commands.{below_range}

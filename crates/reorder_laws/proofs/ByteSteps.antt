@@ -20,8 +20,8 @@ use Rattle.cell_machine.specs.ByteRuns.{Bytes, Had, in_span, after}
 use Rattle.cell_machine.proofs.EffectBytes.{looks-alone}
 use Rattle.cell_machine.proofs.EffectsFitted.{effects-fit, each-byte}
 use Rattle.cell_machine.proofs.Replays.{replay-snoc}
-use Rattle.run_places.specs.Cuts.{IsFront, Shows}
-use Rattle.run_places.specs.Recorded.{Recorded, IsRecorded, spe_in, no_spe, act_at}
+use Rattle.reorder_laws.specs.Cuts.{IsFront, Shows}
+use Rattle.reorder_laws.specs.Recorded.{Recorded, IsRecorded, spe_in, no_spe, act_at}
 use Rattle.reorder_laws.specs.Described.{Describes, DescribesSpe}
 use Rattle.reorder_laws.specs.Steps.{HasSameBytes, MakesStep, StepsAlike, bytes_after, Reaches, HasRecorded}
 

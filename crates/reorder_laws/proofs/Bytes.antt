@@ -7,7 +7,7 @@ use Rattle.race_check.specs.Races.{access_of, Conflict}
 use Rattle.race_check.specs.Reorderings.{KeepsOrder}
 use Rattle.race_check.proofs.Apart.{Spares, had_kept, exchange, spares_first, spares_second}
 use Rattle.race_check.proofs.Exchanges.{by_exchanges}
-use Rattle.run_places.specs.Recorded.{Recorded, act_at}
+use Rattle.reorder_laws.specs.Recorded.{Recorded, act_at}
 use Rattle.reorder_laws.specs.Steps.{bytes_after}
 
 module _ (r : Recorded) where

@@ -13,9 +13,9 @@ use Rattle.cell_machine.specs.Spe.{Spe}
 use Rattle.cell_machine.specs.Tags.{settled}
 use Rattle.cell_machine.specs.Moves.{busy, read_of}
 use Rattle.cell_machine.specs.Order.{is_step_of}
-use Rattle.run_places.specs.Cuts.{Shows}
-use Rattle.run_places.specs.Recorded.{Recorded, Program, program_of, listening_of, locking_of, count_of, spe_before, is_exec, is_elem, is_atomic_step, is_put_note, is_take_note, done_by, retired_by, element_at, asked, owes, stalled_groups, box_of}
-use Rattle.run_places.specs.Frames.{HasFrames, listed}
+use Rattle.reorder_laws.specs.Cuts.{Shows}
+use Rattle.reorder_laws.specs.Recorded.{Recorded, Program, program_of, listening_of, locking_of, count_of, spe_before, is_exec, is_elem, is_atomic_step, is_put_note, is_take_note, done_by, retired_by, element_at, asked, owes, stalled_groups, box_of}
+use Rattle.reorder_laws.specs.Frames.{HasFrames, listed}
 use Rattle.reorder_laws.specs.Described.{DescribesSpe, ShowsBox}
 use Rattle.reorder_laws.specs.Facts.{RequestsAll, HasTags}
 use Rattle.reorder_laws.proofs.Cuts.{cut_skip, shows_skip}

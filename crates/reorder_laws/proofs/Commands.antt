@@ -16,11 +16,11 @@ use Rattle.cell_machine.specs.Moves.{read_of, is_done, is_resumed, was_retired, 
 use Rattle.cell_machine.specs.Order.{is_step_of}
 use Rattle.cell_machine.proofs.Staying.{IsMore, complete-more}
 use Rattle.cell_machine.proofs.Same.{complete-at, complete-none, get-left, eq_is}
-use Rattle.run_places.specs.Cuts.{has, IsFront, IsCut}
-use Rattle.run_places.specs.Recorded.{Recorded, count_of, spe_in, spe_before, Program, is_exec, is_elem, done_by, retired_by}
-use Rattle.run_places.specs.OrderLaws.{Orders}
-use Rattle.run_places.specs.Frames.{IsFaultless, Acknowledges, Issues, HasFrames}
-use Rattle.step_frames.proofs.Controlling.{begins-behind, begun-behind, goes-alike}
+use Rattle.reorder_laws.specs.Cuts.{has, IsFront, IsCut}
+use Rattle.reorder_laws.specs.Recorded.{Recorded, count_of, spe_in, spe_before, Program, is_exec, is_elem, done_by, retired_by}
+use Rattle.reorder_laws.specs.OrderLaws.{Orders}
+use Rattle.reorder_laws.specs.Frames.{IsFaultless, Acknowledges, Issues, HasFrames}
+use Rattle.reorder_laws.proofs.Controlling.{begins-behind, begun-behind, goes-alike}
 use Rattle.reorder_laws.specs.Described.{Describes, DescribesSpe}
 use Rattle.reorder_laws.proofs.Cuts.{shown_at}
 

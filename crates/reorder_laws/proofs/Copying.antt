@@ -29,12 +29,12 @@ use Rattle.cell_machine.proofs.Bounds.{passes, may-begun}
 use Rattle.cell_machine.proofs.StepBytes.{own_effect}
 use Rattle.cell_machine.proofs.Same.{done-elsewhere, done-more, some_same}
 use Rattle.cell_machine.proofs.Staying.{done-keeps, any_more, both, not_true}
-use Rattle.step_frames.specs.Controllers.{part_left, memory_after, IsPiece}
-use Rattle.step_frames.proofs.Controlling.{piece-made, piece-leaves}
-use Rattle.run_places.specs.Cuts.{has, IsFront, IsCut}
-use Rattle.run_places.specs.Recorded.{Recorded, IsRecorded, count_of, spe_in, spe_before, is_elem, done_by, retired_by, element_by, owes}
-use Rattle.run_places.specs.OrderLaws.{Orders, OrdersElements}
-use Rattle.run_places.specs.Frames.{HasFrames, IsFaultless, listed}
+use Rattle.reorder_laws.specs.Controllers.{part_left, memory_after, IsPiece}
+use Rattle.reorder_laws.proofs.Controlling.{piece-made, piece-leaves}
+use Rattle.reorder_laws.specs.Cuts.{has, IsFront, IsCut}
+use Rattle.reorder_laws.specs.Recorded.{Recorded, IsRecorded, count_of, spe_in, spe_before, is_elem, done_by, retired_by, element_by, owes}
+use Rattle.reorder_laws.specs.OrderLaws.{Orders, OrdersElements}
+use Rattle.reorder_laws.specs.Frames.{HasFrames, IsFaultless, listed}
 use Rattle.reorder_laws.specs.Described.{Describes, DescribesSpe}
 use Rattle.reorder_laws.specs.Steps.{HasSameBytes, MakesStep}
 use Rattle.reorder_laws.specs.Facts.{RequestsAll, HasTags, OwedListsRest, SendsNothing, StalledMore}

@@ -27,9 +27,9 @@ use Rattle.cell_machine.specs.Sound.{IsSound, byte_of}
 use Rattle.cell_machine.proofs.Same.{SameOf, same-complete, same-stall}
 use Rattle.race_check.specs.Reorderings.{KeepsOrder}
 use Rattle.race_check.proofs.Exchanges.{by_exchanges}
-use Rattle.run_places.specs.Cuts.{IsCut, Shows}
-use Rattle.run_places.specs.Recorded.{Recorded, IsRecorded, Program, program_of, Listening, listening_of, Locking, locking_of, spe_in, no_spe, spe_before, count_of, is_exec, is_elem, is_host, is_atomic_step, is_put_note, is_take_note, done_by, retired_by, element_at, asked, owes, stalled_groups, is_stalled_number, box_of, put_values, taken_values}
-use Rattle.run_places.specs.Frames.{HasFrames}
+use Rattle.reorder_laws.specs.Cuts.{IsCut, Shows}
+use Rattle.reorder_laws.specs.Recorded.{Recorded, IsRecorded, Program, program_of, Listening, listening_of, Locking, locking_of, spe_in, no_spe, spe_before, count_of, is_exec, is_elem, is_host, is_atomic_step, is_put_note, is_take_note, done_by, retired_by, element_at, asked, owes, stalled_groups, is_stalled_number, box_of, put_values, taken_values}
+use Rattle.reorder_laws.specs.Frames.{HasFrames}
 use Rattle.reorder_laws.specs.Described.{Describes, DescribesSpe}
 use Rattle.reorder_laws.specs.Theorem.{IsSameSpe, IsSameEnd}
 use Rattle.reorder_laws.proofs.Cuts.{same_look, shown_at}

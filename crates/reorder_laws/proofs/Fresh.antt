@@ -15,8 +15,8 @@ use Rattle.cell_machine.specs.Spe.{Spe, Moves, ElementRead}
 use Rattle.cell_machine.specs.Moves.{read_of, present, stall_of, is_stalled}
 use Rattle.cell_machine.specs.Channels.{with_issued}
 use Rattle.cell_machine.proofs.Same.{get-left, get-last}
-use Rattle.run_places.specs.Cuts.{has}
-use Rattle.run_places.specs.Recorded.{Recorded, spe_before, is_elem, element_by, element_at, stalled_groups, is_stalled_number}
+use Rattle.reorder_laws.specs.Cuts.{has}
+use Rattle.reorder_laws.specs.Recorded.{Recorded, spe_before, is_elem, element_by, element_at, stalled_groups, is_stalled_number}
 use Rattle.reorder_laws.proofs.Stalling.{single_not}
 use Rattle.reorder_laws.proofs.Runs.{range_next}
 

@@ -31,22 +31,22 @@ use Rattle.cell_machine.specs.Raised.{with_raised, raised_at}
 use Rattle.cell_machine.proofs.CommandsShown.{set-here, set-other}
 use Rattle.cell_machine.proofs.Same.{some_same, eq_same, eq_is, eq_not}
 use Rattle.cell_machine.proofs.BytesLaws.{length-put-same}
-use Rattle.step_frames.specs.Boxes.{first_of, later_of}
-use Rattle.step_frames.specs.Hosting.{host_may, host_leaves, host_took, IsGiven, IsActed, IsHost}
-use Rattle.step_frames.specs.Happens.{concerns}
-use Rattle.step_frames.specs.Deeds.{Did, Ends, Goes, Plain, SetParams, SetMask, AskTags, TakeTags, TakeStalls, TakeAtomic, TakeValue, Queue, FillSlot, Resume, PutValue, PutInterrupt, TakeSignal, LeaveEvents, did, note_of, instr_deed, exec_deed}
+use Rattle.reorder_laws.specs.Boxes.{first_of, later_of}
+use Rattle.reorder_laws.specs.Hosting.{host_may, host_leaves, host_took, IsGiven, IsActed, IsHost}
+use Rattle.reorder_laws.specs.Happens.{concerns}
+use Rattle.reorder_laws.specs.Deeds.{Did, Ends, Goes, Plain, SetParams, SetMask, AskTags, TakeTags, TakeStalls, TakeAtomic, TakeValue, Queue, FillSlot, Resume, PutValue, PutInterrupt, TakeSignal, LeaveEvents, did, note_of, instr_deed, exec_deed}
 use Rattle.spu_decode.specs.Spelling.{instr_of}
 use Rattle.local_store.specs.Store.{word_at}
-use Rattle.step_frames.proofs.Hosting.{closed-long, host-next, host-leaves, host-made, map_some}
-use Rattle.run_places.specs.Cuts.{IsFront, IsCut}
-use Rattle.run_places.specs.Recorded.{Recorded, IsRecorded, Program, count_of, spe_in, spe_before, program_of, listening_of, locking_of, is_exec, is_elem, is_host, is_atomic_step, is_put_note, is_take_note, done_by, retired_by, element_at, asked, owes, stalled_groups, element_by, box_of}
-use Rattle.run_places.specs.OrderLaws.{Orders}
-use Rattle.run_places.specs.Frames.{HasFrames, IsFaultless}
-use Rattle.run_frames.specs.OrderedLaws.{BoxesFit}
-use Rattle.run_frames.proofs.Steps.{host_off}
-use Rattle.run_frames.proofs.Frames.{happens-at}
-use Rattle.run_frames.proofs.Commands.{exec-only}
-use Rattle.run_frames.proofs.Makers.{put-maker, take-maker}
+use Rattle.reorder_laws.proofs.Hosting.{closed-long, host-next, host-leaves, host-made, map_some}
+use Rattle.reorder_laws.specs.Cuts.{IsFront, IsCut}
+use Rattle.reorder_laws.specs.Recorded.{Recorded, IsRecorded, Program, count_of, spe_in, spe_before, program_of, listening_of, locking_of, is_exec, is_elem, is_host, is_atomic_step, is_put_note, is_take_note, done_by, retired_by, element_at, asked, owes, stalled_groups, element_by, box_of}
+use Rattle.reorder_laws.specs.OrderLaws.{Orders}
+use Rattle.reorder_laws.specs.Frames.{HasFrames, IsFaultless}
+use Rattle.reorder_laws.specs.OrderedLaws.{BoxesFit}
+use Rattle.reorder_laws.proofs.Steps.{host_off}
+use Rattle.reorder_laws.proofs.Frames.{happens-at}
+use Rattle.reorder_laws.proofs.CommandFrames.{exec-only}
+use Rattle.reorder_laws.proofs.Makers.{put-maker, take-maker}
 use Rattle.reorder_laws.specs.Described.{Describes, DescribesSpe, ShowsBox}
 use Rattle.reorder_laws.specs.Facts.{HostSignalsNothing}
 use Rattle.reorder_laws.specs.Steps.{HasSameBytes, MakesStep}

@@ -39,22 +39,22 @@ use Rattle.cell_machine.specs.Locks.{stored_by}
 use Rattle.cell_machine.proofs.LocksRun.{map-is}
 use Rattle.cell_machine.proofs.StepBytes.{own_effect}
 use Rattle.cell_machine.proofs.Same.{some_same, get-within}
-use Rattle.step_frames.specs.Silent.{silent, IsLike}
-use Rattle.step_frames.specs.Deeds.{Did, Ends, Goes, Plain, SetParams, SetMask, AskTags, TakeTags, TakeStalls, TakeAtomic, TakeValue, Queue, FillSlot, Resume, PutValue, PutInterrupt, TakeSignal, LeaveEvents, did, exec_deed, note_of}
-use Rattle.step_frames.proofs.Doing.{exec-does, exec-agrees, Agrees}
-use Rattle.step_frames.proofs.SameDeeds.{exec-same_deed, exec-finds, exec-kinds}
-use Rattle.run_places.specs.Cuts.{has, IsFront, IsCut, Shows}
-use Rattle.run_places.specs.Recorded.{Recorded, IsRecorded, Program, program_of, listening_of, count_of, spe_in, spe_before, is_exec, is_elem, done_by, retired_by, element_by, element_at, asked, owes, stalled_groups, Locking, locking_of, is_atomic_step, is_atomic_note}
-use Rattle.run_places.specs.OrderLaws.{Orders}
-use Rattle.run_places.specs.Frames.{HasFrames, IsFaultless}
+use Rattle.reorder_laws.specs.Silent.{silent, IsLike}
+use Rattle.reorder_laws.specs.Deeds.{Did, Ends, Goes, Plain, SetParams, SetMask, AskTags, TakeTags, TakeStalls, TakeAtomic, TakeValue, Queue, FillSlot, Resume, PutValue, PutInterrupt, TakeSignal, LeaveEvents, did, exec_deed, note_of}
+use Rattle.reorder_laws.proofs.Doing.{exec-does, exec-agrees, Agrees}
+use Rattle.reorder_laws.proofs.SameDeeds.{exec-same_deed, exec-finds, exec-kinds}
+use Rattle.reorder_laws.specs.Cuts.{has, IsFront, IsCut, Shows}
+use Rattle.reorder_laws.specs.Recorded.{Recorded, IsRecorded, Program, program_of, listening_of, count_of, spe_in, spe_before, is_exec, is_elem, done_by, retired_by, element_by, element_at, asked, owes, stalled_groups, Locking, locking_of, is_atomic_step, is_atomic_note}
+use Rattle.reorder_laws.specs.OrderLaws.{Orders}
+use Rattle.reorder_laws.specs.Frames.{HasFrames, IsFaultless}
 use Rattle.reorder_laws.specs.Described.{Describes, DescribesSpe}
 use Rattle.reorder_laws.specs.Steps.{HasSameBytes, MakesStep}
 use Rattle.reorder_laws.specs.Laws.{InstructionsSee, InstructionsLeave, SeesRest, StallsRest, AtomicsChain}
 use Rattle.reorder_laws.proofs.Cuts.{cut_front, cut_step, shows_skip, shows_step, shown_at, same_look}
 use Rattle.mfc_command.specs.declared.command.Command.{Command}
-use Rattle.step_frames.specs.SameDeeds.{did_kind, Found, LooksSame}
+use Rattle.reorder_laws.specs.SameDeeds.{did_kind, Found, LooksSame}
 use Rattle.reorder_laws.specs.Facts.{RequestsAll, HasTags, QueuesUnasked, QueuesHaveRoom, HasRoomBefore, HearsNothing}
-use Rattle.run_frames.specs.OrderedLaws.{BoxesFit}
+use Rattle.reorder_laws.specs.OrderedLaws.{BoxesFit}
 use Rattle.reorder_laws.proofs.InstructionBoxes.{boxes_after, value_seen, room_seen}
 use Rattle.reorder_laws.proofs.After.{map_same, get_in}
 use Rattle.reorder_laws.proofs.Ending.{asked_frame, owes_frame}

@@ -7,15 +7,15 @@ use Rattle.cell_base.specs.declared.steps.Step.TheVariants.{Exec, Host}
 use Rattle.cell_machine.specs.Spe.{Spe}
 use Rattle.cell_machine.specs.State.{State}
 use Rattle.cell_machine.specs.Tags.{settled}
-use Rattle.step_frames.specs.Silent.{IsLike}
-use Rattle.step_frames.specs.Deeds.{Did, Ends, Goes, Plain, SetParams, SetMask, AskTags, TakeTags, TakeStalls, TakeAtomic, TakeValue, Queue, FillSlot, Resume, PutValue, PutInterrupt, TakeSignal, LeaveEvents, did, note_of, behind_first}
-use Rattle.step_frames.specs.Boxes.{later_of, first_of}
-use Rattle.run_places.specs.Cuts.{IsFront, IsCut}
-use Rattle.run_places.specs.Recorded.{Recorded, IsRecorded, count_of, spe_in, spe_before, box_of, is_put_note, is_take_note}
-use Rattle.run_places.specs.OrderLaws.{Orders}
-use Rattle.run_places.specs.Frames.{HasFrames, IsFaultless}
-use Rattle.run_frames.specs.OrderedLaws.{BoxesFit}
-use Rattle.run_frames.proofs.Makers.{put-maker, take-maker}
+use Rattle.reorder_laws.specs.Silent.{IsLike}
+use Rattle.reorder_laws.specs.Deeds.{Did, Ends, Goes, Plain, SetParams, SetMask, AskTags, TakeTags, TakeStalls, TakeAtomic, TakeValue, Queue, FillSlot, Resume, PutValue, PutInterrupt, TakeSignal, LeaveEvents, did, note_of, behind_first}
+use Rattle.reorder_laws.specs.Boxes.{later_of, first_of}
+use Rattle.reorder_laws.specs.Cuts.{IsFront, IsCut}
+use Rattle.reorder_laws.specs.Recorded.{Recorded, IsRecorded, count_of, spe_in, spe_before, box_of, is_put_note, is_take_note}
+use Rattle.reorder_laws.specs.OrderLaws.{Orders}
+use Rattle.reorder_laws.specs.Frames.{HasFrames, IsFaultless}
+use Rattle.reorder_laws.specs.OrderedLaws.{BoxesFit}
+use Rattle.reorder_laws.proofs.Makers.{put-maker, take-maker}
 use Rattle.reorder_laws.specs.Described.{Describes, ShowsBox}
 use Rattle.reorder_laws.proofs.Cuts.{cut_front, cut_skip}
 use Rattle.reorder_laws.proofs.BoxSteps.{PutsThere, puts_there, TakesThere, takes_there}

@@ -16,9 +16,9 @@ use Rattle.cell_machine.specs.Moves.{busy}
 use Rattle.cell_machine.specs.Channels.{with_issued, with_resumed}
 use Rattle.cell_machine.proofs.Same.{eq_is, eq_off}
 use Rattle.cell_machine.proofs.Staying.{resumed-keeps}
-use Rattle.step_frames.specs.Deeds.{Did, Ends, Goes, Plain, SetParams, SetMask, AskTags, TakeTags, TakeStalls, TakeAtomic, TakeValue, Queue, FillSlot, Resume, PutValue, PutInterrupt, TakeSignal, LeaveEvents, Flowed, did}
-use Rattle.step_frames.specs.SameDeeds.{OpKind, AsksTags, ReadsTags, ReadsStalls, Resumes, OtherOp, op_kind, did_kind, Found}
-use Rattle.run_places.specs.Recorded.{Recorded, spe_before, is_exec, asked, owes, asked_after, owes_after}
+use Rattle.reorder_laws.specs.Deeds.{Did, Ends, Goes, Plain, SetParams, SetMask, AskTags, TakeTags, TakeStalls, TakeAtomic, TakeValue, Queue, FillSlot, Resume, PutValue, PutInterrupt, TakeSignal, LeaveEvents, Flowed, did}
+use Rattle.reorder_laws.specs.SameDeeds.{OpKind, AsksTags, ReadsTags, ReadsStalls, Resumes, OtherOp, op_kind, did_kind, Found}
+use Rattle.reorder_laws.specs.Recorded.{Recorded, spe_before, is_exec, asked, owes, asked_after, owes_after}
 use Rattle.reorder_laws.specs.Facts.{AsksForAll}
 use Rattle.reorder_laws.proofs.Tagging.{IsLater, tags_late}
 

@@ -33,15 +33,15 @@ use Rattle.cell_machine.proofs.Same.{some_same}
 use Rattle.cell_machine.proofs.Bounds.{passes}
 use Rattle.cell_machine.proofs.Elements.{part-is}
 use Rattle.cell_machine.proofs.StepBytes.{own_effect, none_is, piece-is, atomic-is}
-use Rattle.run_places.specs.Recorded.{Recorded, IsRecorded, spe_before}
-use Rattle.run_places.specs.Frames.{HasFrames}
+use Rattle.reorder_laws.specs.Recorded.{Recorded, IsRecorded, spe_before}
+use Rattle.reorder_laws.specs.Frames.{HasFrames}
 use Rattle.cell_machine.specs.Limits.{FitsAction}
 use Rattle.cell_machine.specs.Next.{next}
 use Rattle.cell_machine.specs.Effects.{effect_of, host_effect}
 use Rattle.cell_machine.proofs.Same.{eq_off}
 use Rattle.race_check.specs.Races.{access_of, Meet, WritesInto}
-use Rattle.step_frames.proofs.Hosting.{host-next, host-leaves}
-use Rattle.run_places.specs.Cuts.{has, Distinct}
+use Rattle.reorder_laws.proofs.Hosting.{host-next, host-leaves}
+use Rattle.reorder_laws.specs.Cuts.{has, Distinct}
 use Rattle.reorder_laws.specs.Laws.{LinesSeen}
 use Rattle.reorder_laws.proofs.Bytes.{IsFree}
 use Rattle.reorder_laws.proofs.Commands.{below_range}

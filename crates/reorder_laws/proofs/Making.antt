@@ -14,10 +14,10 @@ use Rattle.cell_machine.specs.EffectLaws.{maker}
 use Rattle.cell_machine.specs.Written.{written_by}
 use Rattle.cell_machine.proofs.StateBytes.{effect-own}
 use Rattle.cell_machine.proofs.StepBytes.{own_effect}
-use Rattle.step_frames.specs.Silent.{silent, IsLike}
-use Rattle.step_frames.proofs.Hosting.{map_some, next-leaves, next-made}
-use Rattle.run_places.specs.Recorded.{Recorded, IsRecorded, count_of, spe_in, no_spe, spe_before}
-use Rattle.run_places.specs.Frames.{HasFrames}
+use Rattle.reorder_laws.specs.Silent.{silent, IsLike}
+use Rattle.reorder_laws.proofs.Hosting.{map_some, next-leaves, next-made}
+use Rattle.reorder_laws.specs.Recorded.{Recorded, IsRecorded, count_of, spe_in, no_spe, spe_before}
+use Rattle.reorder_laws.specs.Frames.{HasFrames}
 use Rattle.reorder_laws.specs.Described.{Describes, DescribesSpe}
 use Rattle.reorder_laws.specs.Steps.{HasSameSpans, MakesStep}
 use Rattle.reorder_laws.proofs.After.{get_in, describes_own}

@@ -22,15 +22,15 @@ use Rattle.cell_machine.specs.EffectLaws.{maker}
 use Rattle.cell_machine.proofs.Same.{some_same, get-within, complete-at, stall-as, a_stall, stall_by, ended, elements_by}
 use Rattle.cell_machine.proofs.Staying.{all_more, any_more, both, not_true, get_more}
 use Rattle.cell_machine.proofs.Elements.{stall-is, present-last}
-use Rattle.step_frames.specs.Deeds.{Did, Ends, Goes, Plain, SetParams, SetMask, AskTags, TakeTags, TakeStalls, TakeAtomic, TakeValue, Queue, FillSlot, Resume, PutValue, PutInterrupt, TakeSignal, LeaveEvents, exec_deed}
-use Rattle.step_frames.proofs.SameDeeds.{exec-finds}
-use Rattle.run_places.specs.Cuts.{has, IsFront, IsCut}
-use Rattle.run_places.specs.Recorded.{Recorded, IsRecorded, Program, program_of, count_of, spe_in, spe_before, is_exec, is_elem, owes, stalled_groups, is_stalled_number}
-use Rattle.run_places.specs.OrderLaws.{Orders}
-use Rattle.run_places.specs.Frames.{IsFaultless, Acknowledges, HasFrames}
-use Rattle.run_frames.proofs.Commands.{unmoved_empty}
-use Rattle.run_frames.proofs.Frames.{maker-low, spe-at}
-use Rattle.run_frames.proofs.Stalls.{stalled-one}
+use Rattle.reorder_laws.specs.Deeds.{Did, Ends, Goes, Plain, SetParams, SetMask, AskTags, TakeTags, TakeStalls, TakeAtomic, TakeValue, Queue, FillSlot, Resume, PutValue, PutInterrupt, TakeSignal, LeaveEvents, exec_deed}
+use Rattle.reorder_laws.proofs.SameDeeds.{exec-finds}
+use Rattle.reorder_laws.specs.Cuts.{has, IsFront, IsCut}
+use Rattle.reorder_laws.specs.Recorded.{Recorded, IsRecorded, Program, program_of, count_of, spe_in, spe_before, is_exec, is_elem, owes, stalled_groups, is_stalled_number}
+use Rattle.reorder_laws.specs.OrderLaws.{Orders}
+use Rattle.reorder_laws.specs.Frames.{IsFaultless, Acknowledges, HasFrames}
+use Rattle.reorder_laws.proofs.CommandFrames.{unmoved_empty}
+use Rattle.reorder_laws.proofs.Frames.{maker-low, spe-at}
+use Rattle.reorder_laws.proofs.Stalls.{stalled-one}
 use Rattle.reorder_laws.specs.Described.{Describes, DescribesSpe}
 use Rattle.reorder_laws.specs.Laws.{InstructionsSee, InstructionsLeave, SeesRest, StallsRest}
 use Rattle.reorder_laws.proofs.Commands.{StandsTo, complete_to, grown_to, complete_there, same_read, more_of, no_step, elem_of, any_of, any_from}

@@ -17,15 +17,15 @@ use Rattle.cell_machine.specs.Exec.{asks}
 use Rattle.cell_machine.specs.Order.{is_step_of}
 use Rattle.cell_machine.proofs.Same.{eq_is, get-last, lt_is}
 use Rattle.cell_machine.proofs.Staying.{get_more}
-use Rattle.step_frames.specs.Deeds.{Did, Ends, Goes, Plain, SetParams, SetMask, AskTags, TakeTags, TakeStalls, TakeAtomic, TakeValue, Queue, FillSlot, Resume, PutValue, PutInterrupt, TakeSignal, LeaveEvents, note_of}
-use Rattle.step_frames.specs.SameDeeds.{ReadsStalls, op_kind, did_kind, Found}
-use Rattle.step_frames.proofs.SameDeeds.{exec-finds, exec-kinds}
-use Rattle.run_places.specs.Cuts.{has}
-use Rattle.run_places.specs.Recorded.{Recorded, IsRecorded, count_of, spe_before, is_exec, owes, owes_after, is_stalled_number}
-use Rattle.run_places.specs.OrderLaws.{Orders}
-use Rattle.run_places.specs.Frames.{IsFaultless, Acknowledges, Issues, HasFrames}
-use Rattle.run_frames.proofs.Frames.{happens-at}
-use Rattle.run_frames.proofs.Commands.{exec-only, IsDone}
+use Rattle.reorder_laws.specs.Deeds.{Did, Ends, Goes, Plain, SetParams, SetMask, AskTags, TakeTags, TakeStalls, TakeAtomic, TakeValue, Queue, FillSlot, Resume, PutValue, PutInterrupt, TakeSignal, LeaveEvents, note_of}
+use Rattle.reorder_laws.specs.SameDeeds.{ReadsStalls, op_kind, did_kind, Found}
+use Rattle.reorder_laws.proofs.SameDeeds.{exec-finds, exec-kinds}
+use Rattle.reorder_laws.specs.Cuts.{has}
+use Rattle.reorder_laws.specs.Recorded.{Recorded, IsRecorded, count_of, spe_before, is_exec, owes, owes_after, is_stalled_number}
+use Rattle.reorder_laws.specs.OrderLaws.{Orders}
+use Rattle.reorder_laws.specs.Frames.{IsFaultless, Acknowledges, Issues, HasFrames}
+use Rattle.reorder_laws.proofs.Frames.{happens-at}
+use Rattle.reorder_laws.proofs.CommandFrames.{exec-only, IsDone}
 use Rattle.reorder_laws.specs.Facts.{OwedListsRest}
 use Rattle.reorder_laws.proofs.Commands.{grown_to}
 use Rattle.reorder_laws.proofs.SettledFacts.{exec_is}

@@ -32,13 +32,13 @@ use Rattle.cell_machine.proofs.LocksRun.{map-is}
 use Rattle.cell_machine.proofs.StepBytes.{own_effect}
 use Rattle.cell_machine.proofs.Same.{read-more, read-elsewhere, some_same, eq_off}
 use Rattle.cell_machine.proofs.Staying.{read-keeps, both, not_true, IsMore}
-use Rattle.step_frames.specs.Silent.{silent}
-use Rattle.step_frames.specs.Controllers.{element_left, IsElem}
-use Rattle.step_frames.proofs.Controlling.{elem-made, elem-leaves}
-use Rattle.run_places.specs.Cuts.{has, IsFront, IsCut, Shows}
-use Rattle.run_places.specs.Recorded.{Recorded, IsRecorded, count_of, spe_in, spe_before, is_elem, done_by, retired_by, element_by, element_at, owes}
-use Rattle.run_places.specs.OrderLaws.{Orders, OrdersElements}
-use Rattle.run_places.specs.Frames.{HasFrames, IsFaultless, listed}
+use Rattle.reorder_laws.specs.Silent.{silent}
+use Rattle.reorder_laws.specs.Controllers.{element_left, IsElem}
+use Rattle.reorder_laws.proofs.Controlling.{elem-made, elem-leaves}
+use Rattle.reorder_laws.specs.Cuts.{has, IsFront, IsCut, Shows}
+use Rattle.reorder_laws.specs.Recorded.{Recorded, IsRecorded, count_of, spe_in, spe_before, is_elem, done_by, retired_by, element_by, element_at, owes}
+use Rattle.reorder_laws.specs.OrderLaws.{Orders, OrdersElements}
+use Rattle.reorder_laws.specs.Frames.{HasFrames, IsFaultless, listed}
 use Rattle.reorder_laws.specs.Described.{Describes, DescribesSpe}
 use Rattle.reorder_laws.specs.Steps.{HasSameSpans, HasSameBytes, MakesStep}
 use Rattle.reorder_laws.specs.Facts.{RequestsAll, HasTags, OwedListsRest, StalledMore}

@@ -25,7 +25,7 @@ use Rattle.cell_machine.proofs.Same.{some_same}
 use Rattle.cell_machine.proofs.StepBytes.{of_map, of_then}
 use Rattle.race_order.specs.Told.{trace_in}
 use Rattle.race_check.proofs.Prefixes.{go-on, run-told}
-use Rattle.run_places.specs.Recorded.{Recorded, IsRecorded}
+use Rattle.reorder_laws.specs.Recorded.{Recorded, IsRecorded}
 use Rattle.reorder_laws.specs.Recording.{Records}
 
 there : {X : Type 0} (o : Option X) → IsSome o → (x : X) × (o ≡ Some x)

@@ -19,11 +19,11 @@ use Rattle.cell_machine.proofs.Bounds.{passes, may-begun}
 use Rattle.cell_machine.proofs.StepBytes.{own_effect, retire-is}
 use Rattle.cell_machine.proofs.Same.{complete-at}
 use Rattle.cell_machine.proofs.Staying.{retired-keeps, get_more, both, not_true}
-use Rattle.step_frames.proofs.Controlling.{retire-made}
-use Rattle.run_places.specs.Cuts.{has, IsFront}
-use Rattle.run_places.specs.Recorded.{Recorded, IsRecorded, count_of, spe_in, spe_before, is_elem, done_by, retired_by, element_by, owes, stalled_groups}
-use Rattle.run_places.specs.OrderLaws.{Orders}
-use Rattle.run_places.specs.Frames.{HasFrames, IsFaultless, listed}
+use Rattle.reorder_laws.proofs.Controlling.{retire-made}
+use Rattle.reorder_laws.specs.Cuts.{has, IsFront}
+use Rattle.reorder_laws.specs.Recorded.{Recorded, IsRecorded, count_of, spe_in, spe_before, is_elem, done_by, retired_by, element_by, owes, stalled_groups}
+use Rattle.reorder_laws.specs.OrderLaws.{Orders}
+use Rattle.reorder_laws.specs.Frames.{HasFrames, IsFaultless, listed}
 use Rattle.reorder_laws.specs.Described.{Describes, DescribesSpe}
 use Rattle.reorder_laws.specs.Steps.{HasSameSpans, MakesStep}
 use Rattle.reorder_laws.specs.Facts.{RequestsAll, HasTags}

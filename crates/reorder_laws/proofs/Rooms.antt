@@ -4,7 +4,7 @@ use Rattle.std.specs.Prelude.{◌⊎◌, ◌==◌, ◌||◌, filter, Contains, S
 use Rattle.std.specs.List.{range_with_len}
 use Rattle.std.proofs.lemmas.Bool.{cases_Bool, ne_eqb, eqb-true, false≢true}
 use Rattle.std.proofs.lemmas.Option.{slice_get-get_or}
-use Rattle.run_places.specs.Cuts.{has}
+use Rattle.reorder_laws.specs.Cuts.{has}
 use Rattle.reorder_laws.proofs.Fronts.{has_at}
 
 pub has_from : (xs : List ℕ) (x : ℕ) → Contains xs x → has xs x ≡ true

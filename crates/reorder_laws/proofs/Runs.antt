@@ -12,8 +12,8 @@ use Rattle.cell_machine.specs.Sound.{IsSound, byte_of}
 use Rattle.cell_machine.proofs.Replays.{replay-snoc}
 use Rattle.cell_machine.proofs.Same.{some_same, eq_not}
 use Rattle.race_check.specs.Reorderings.{KeepsOrder}
-use Rattle.run_places.specs.Cuts.{has, IsFront}
-use Rattle.run_places.specs.Recorded.{Recorded, IsRecorded, act_at}
+use Rattle.reorder_laws.specs.Cuts.{has, IsFront}
+use Rattle.reorder_laws.specs.Recorded.{Recorded, IsRecorded, act_at}
 use Rattle.reorder_laws.specs.Described.{Describes}
 use Rattle.reorder_laws.specs.Steps.{StepsAlike, Reaches, HasRecorded}
 use Rattle.reorder_laws.proofs.ByteSteps.{one-more}

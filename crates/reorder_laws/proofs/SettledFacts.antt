@@ -15,16 +15,16 @@ use Rattle.cell_machine.proofs.Same.{eq_is, some_same}
 use Rattle.cell_machine.proofs.Completion.{next-act}
 use Rattle.cell_machine.proofs.Bounds.{act-length}
 use Rattle.race_order.specs.Told.{trace_in}
-use Rattle.run_frames.specs.OrderedLaws.{IsOrdered}
+use Rattle.reorder_laws.specs.OrderedLaws.{IsOrdered}
 use Rattle.race_order.proofs.Runs.{is-orderly}
 use Rattle.race_check.proofs.Prefixes.{run-told}
-use Rattle.step_frames.specs.SameDeeds.{IsOfEvents}
-use Rattle.run_places.specs.Recorded.{Recorded, IsRecorded, count_of, spe_before, is_exec, asked, asked_after}
-use Rattle.run_places.specs.OrderLaws.{Orders, OrdersElements}
-use Rattle.run_frames.proofs.Ordering.{runs-order, runs-fit}
-use Rattle.run_frames.specs.OrderedLaws.{BoxesFit}
-use Rattle.run_places.specs.Frames.{HasFrames, IsFaultless}
-use Rattle.run_frames.proofs.Frames.{runs-have_frames}
+use Rattle.reorder_laws.specs.SameDeeds.{IsOfEvents}
+use Rattle.reorder_laws.specs.Recorded.{Recorded, IsRecorded, count_of, spe_before, is_exec, asked, asked_after}
+use Rattle.reorder_laws.specs.OrderLaws.{Orders, OrdersElements}
+use Rattle.reorder_laws.proofs.Ordering.{runs-order, runs-fit}
+use Rattle.reorder_laws.specs.OrderedLaws.{BoxesFit}
+use Rattle.reorder_laws.specs.Frames.{HasFrames, IsFaultless}
+use Rattle.reorder_laws.proofs.Frames.{runs-have_frames}
 use Rattle.reorder_laws.specs.Facts.{AsksForAll, RequestsAll, HasTags, QueuesUnasked, QueuesHaveRoom, SendsNothing, HearsNothing, HostSignalsNothing}
 use Rattle.reorder_laws.specs.Places.{spe_at, Asks}
 use Rattle.reorder_laws.specs.Recording.{Records}
@@ -32,7 +32,7 @@ use Rattle.reorder_laws.specs.Settled.{IsSettled, IsSettledChannel, AsksForTags,
 use Rattle.cell_machine.specs.Moves.{is_complete}
 use Rattle.cell_machine.specs.Order.{is_step_of}
 use Rattle.race_order.specs.Trace.{is_of}
-use Rattle.run_frames.proofs.Atomics.{runs-chain_atomics}
+use Rattle.reorder_laws.proofs.Atomics.{runs-chain_atomics}
 use Rattle.reorder_laws.specs.Laws.{AtomicsChain}
 use Rattle.reorder_laws.proofs.AtomicFacts.{atomics_read}
 use Rattle.reorder_laws.proofs.Rooms.{has_from}

@@ -20,15 +20,15 @@ use Rattle.cell_machine.specs.Order.{is_step_of}
 use Rattle.cell_machine.specs.Run.{Ran, IsRun}
 use Rattle.cell_machine.proofs.Same.{some_same}
 use Rattle.race_order.specs.Trace.{is_of}
-use Rattle.run_frames.specs.OrderedLaws.{IsOrdered}
+use Rattle.reorder_laws.specs.OrderedLaws.{IsOrdered}
 use Rattle.race_check.proofs.Prefixes.{run-told}
-use Rattle.step_frames.specs.Happens.{Happens, Passes, Executes, Copies, Reads, Faults, Retires, Answers, Hosts, HostPasses}
-use Rattle.run_places.specs.Recorded.{Recorded, IsRecorded, count_of, spe_before, is_elem}
-use Rattle.run_places.specs.OrderLaws.{Orders, OrdersElements}
-use Rattle.run_frames.specs.OrderedLaws.{IsRecordOf}
-use Rattle.run_frames.proofs.Commands.{left_unstalled, left_parts}
-use Rattle.run_frames.proofs.Frames.{happens-at, spe-at}
-use Rattle.run_frames.proofs.Ordering.{number_at, reached, first_from}
+use Rattle.reorder_laws.specs.Happens.{Happens, Passes, Executes, Copies, Reads, Faults, Retires, Answers, Hosts, HostPasses}
+use Rattle.reorder_laws.specs.Recorded.{Recorded, IsRecorded, count_of, spe_before, is_elem}
+use Rattle.reorder_laws.specs.OrderLaws.{Orders, OrdersElements}
+use Rattle.reorder_laws.specs.OrderedLaws.{IsRecordOf}
+use Rattle.reorder_laws.proofs.CommandFrames.{left_unstalled, left_parts}
+use Rattle.reorder_laws.proofs.Frames.{happens-at, spe-at}
+use Rattle.reorder_laws.proofs.Ordering.{number_at, reached, first_from}
 use Rattle.reorder_laws.specs.Described.{Describes}
 use Rattle.reorder_laws.specs.Places.{spe_at}
 use Rattle.reorder_laws.specs.Recording.{Records}

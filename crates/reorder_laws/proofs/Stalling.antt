@@ -12,8 +12,8 @@ use Rattle.cell_machine.specs.Moves.{read_of, is_done, is_finished, is_resumed, 
 use Rattle.cell_machine.specs.Transfers.{is_part_left}
 use Rattle.cell_machine.proofs.Staying.{IsMore, all_more, all_last, both, not_true}
 use Rattle.cell_machine.proofs.Same.{SameOf, same-stall, range-fails, lt_is, eq_is}
-use Rattle.step_frames.specs.Controllers.{stalls_after}
-use Rattle.run_places.specs.Recorded.{stalled_groups, is_stalled_number}
+use Rattle.reorder_laws.specs.Controllers.{stalls_after}
+use Rattle.reorder_laws.specs.Recorded.{stalled_groups, is_stalled_number}
 use Rattle.reorder_laws.specs.Facts.{StalledMore}
 
 a_stall : ℕ → Element → Stall

@@ -9,7 +9,7 @@ use Rattle.cell_machine.specs.Spe.{Spe, Moves}
 use Rattle.cell_machine.specs.Moves.{busy, read_of}
 use Rattle.cell_machine.specs.Opening.{Opening, opening, opening_spe, no_moves}
 use Rattle.cell_machine.specs.State.{State}
-use Rattle.run_places.specs.Recorded.{Recorded, spe_in, no_spe, spe_before, count_of, is_exec, is_elem, is_host, is_atomic_step, is_put_note, is_take_note, locking_of, asked, owes, stalled_groups, box_of, put_values, taken_values}
+use Rattle.reorder_laws.specs.Recorded.{Recorded, spe_in, no_spe, spe_before, count_of, is_exec, is_elem, is_host, is_atomic_step, is_put_note, is_take_note, locking_of, asked, owes, stalled_groups, box_of, put_values, taken_values}
 use Rattle.reorder_laws.specs.Described.{Describes, DescribesSpe}
 use Rattle.reorder_laws.proofs.Cuts.{has_none, cut_none, shows_none}
 

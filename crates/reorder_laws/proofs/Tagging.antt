@@ -12,9 +12,9 @@ use Rattle.tag_groups.specs.Settle.{settled_tags, is_met, idle_groups}
 use Rattle.cell_machine.specs.Spe.{Spe, Moves}
 use Rattle.cell_machine.specs.Moves.{busy, is_complete}
 use Rattle.cell_machine.proofs.Same.{get-within, eq_off, eq_is}
-use Rattle.step_frames.specs.Hosting.{AreQuiet}
+use Rattle.reorder_laws.specs.Hosting.{AreQuiet}
 use Rattle.cell_machine.proofs.BusyGroups.{busy-small, busy-on}
-use Rattle.step_frames.proofs.Settling.{settled-later, quiet-idle}
+use Rattle.reorder_laws.proofs.Settling.{settled-later, quiet-idle}
 use Rattle.reorder_laws.specs.Facts.{AsksForAll}
 
 -- an outstanding command of one of the groups

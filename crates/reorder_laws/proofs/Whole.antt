@@ -18,14 +18,14 @@ use Rattle.cell_machine.proofs.Sounds.{runs-are-sound}
 use Rattle.cell_machine.proofs.Replays.{run-length}
 use Rattle.cell_machine.proofs.Same.{some_same}
 use Rattle.race_order.specs.Told.{trace_in}
-use Rattle.run_frames.specs.OrderedLaws.{IsOrdered}
+use Rattle.reorder_laws.specs.OrderedLaws.{IsOrdered}
 use Rattle.race_order.proofs.OrderedRuns.{trace-is, trace-long}
 use Rattle.race_check.specs.Races.{access_of, Race}
 use Rattle.race_check.proofs.Prefixes.{run-told}
 use Rattle.race_check.specs.Reorderings.{KeepsOrder, IsReordering, at_places}
-use Rattle.run_places.specs.Cuts.{has}
-use Rattle.run_places.specs.Recorded.{Recorded, IsRecorded, spe_before}
-use Rattle.run_places.specs.OrderLaws.{Orders, OrdersElements}
+use Rattle.reorder_laws.specs.Cuts.{has}
+use Rattle.reorder_laws.specs.Recorded.{Recorded, IsRecorded, spe_before}
+use Rattle.reorder_laws.specs.OrderLaws.{Orders, OrdersElements}
 use Rattle.cell_machine.specs.Moves.{is_complete}
 use Rattle.cell_machine.specs.Order.{is_step_of}
 use Rattle.reorder_laws.specs.Described.{Describes}
@@ -36,7 +36,7 @@ use Rattle.reorder_laws.specs.Settled.{IsSettled}
 use Rattle.reorder_laws.specs.Steps.{MakesStep, StepsAlike, Reaches}
 use Rattle.reorder_laws.specs.Theorem.{IsSameEnd, IsRunAgain, SettledRunsReorder}
 use Rattle.reorder_laws.proofs.Bytes.{IsFree}
-use Rattle.run_frames.proofs.Stalls.{stalled-more}
+use Rattle.reorder_laws.proofs.Stalls.{stalled-more}
 use Rattle.reorder_laws.proofs.AtomicSteps as AtomicSteps
 use Rattle.reorder_laws.proofs.HostSteps as HostSteps
 use Rattle.reorder_laws.proofs.Copying as Copying

@@ -7,8 +7,8 @@ use Rattle.cell_machine.specs.Spe.{Spe}
 use Rattle.cell_machine.specs.State.{State}
 use Rattle.cell_machine.specs.Moves.{busy, read_of}
 use Rattle.cell_machine.specs.Locks.{stored_by}
-use Rattle.run_places.specs.Cuts.{has, IsCut, Shows}
-use Rattle.run_places.specs.Recorded.{Recorded, program_of, listening_of, locking_of, spe_in, spe_before, count_of, is_exec, is_elem, is_host, is_atomic_step, is_put_note, is_take_note, done_by, retired_by, element_at, asked, owes, stalled_groups, box_of, put_values, taken_values}
+use Rattle.reorder_laws.specs.Cuts.{has, IsCut, Shows}
+use Rattle.reorder_laws.specs.Recorded.{Recorded, program_of, listening_of, locking_of, spe_in, spe_before, count_of, is_exec, is_elem, is_host, is_atomic_step, is_put_note, is_take_note, done_by, retired_by, element_at, asked, owes, stalled_groups, box_of, put_values, taken_values}
 
 -- the tags and the stall bits follow from the instructions and from how far the commands have come
 pub record ShowsProgram (r : Recorded) (p : ℕ) (D : List ℕ) (P : Spe) : Type 0 where

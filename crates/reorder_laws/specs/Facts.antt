@@ -10,9 +10,9 @@ use Rattle.cell_machine.specs.Moves.{is_stalled, is_complete}
 use Rattle.cell_machine.specs.Exec.{asks}
 use Rattle.cell_machine.specs.Transfers.{is_signal}
 use Rattle.cell_machine.specs.Order.{is_step_of}
-use Rattle.step_frames.specs.SameDeeds.{IsOfEvents}
-use Rattle.run_places.specs.Cuts.{has, IsFront, IsCut}
-use Rattle.run_places.specs.Recorded.{Recorded, count_of, spe_before, is_exec, asked, owes, stalled_groups, is_stalled_number}
+use Rattle.reorder_laws.specs.SameDeeds.{IsOfEvents}
+use Rattle.reorder_laws.specs.Cuts.{has, IsFront, IsCut}
+use Rattle.reorder_laws.specs.Recorded.{Recorded, count_of, spe_before, is_exec, asked, owes, stalled_groups, is_stalled_number}
 
 -- each unanswered request is one for all groups of its mask
 pub record AsksForAll (request : Request) : Type 0 where

@@ -8,10 +8,10 @@ use Rattle.cell_machine.specs.State.{State}
 use Rattle.cell_machine.specs.Spe.{Spe}
 use Rattle.cell_machine.specs.Memory.{lines_of}
 use Rattle.cell_machine.specs.Channels.{with_resumed}
-use Rattle.step_frames.specs.Deeds.{Did, Ends, Goes, TakeTags, TakeAtomic, TakeValue, PutValue, PutInterrupt, TakeSignal, LeaveEvents, FillSlot, Queue, Resume, exec_deed}
-use Rattle.step_frames.specs.SameDeeds.{GivesSame}
-use Rattle.run_places.specs.Cuts.{IsFront}
-use Rattle.run_places.specs.Recorded.{Recorded, spe_in, spe_before, is_atomic_step, stalled_groups}
+use Rattle.reorder_laws.specs.Deeds.{Did, Ends, Goes, TakeTags, TakeAtomic, TakeValue, PutValue, PutInterrupt, TakeSignal, LeaveEvents, FillSlot, Queue, Resume, exec_deed}
+use Rattle.reorder_laws.specs.SameDeeds.{GivesSame}
+use Rattle.reorder_laws.specs.Cuts.{IsFront}
+use Rattle.reorder_laws.specs.Recorded.{Recorded, spe_in, spe_before, is_atomic_step, stalled_groups}
 use Rattle.reorder_laws.specs.Described.{Describes}
 use Rattle.reorder_laws.specs.Steps.{HasSameBytes}
 

@@ -3,7 +3,7 @@ use Rattle.std.specs.Prelude.{◌≡◌, ℕ, ◌<◌, ◌≤◌, length, take, 
 use Rattle.cell_machine.specs.Opening.{opening}
 use Rattle.cell_machine.specs.Run.{Ran, replay}
 use Rattle.race_order.specs.Told.{trace_in}
-use Rattle.run_places.specs.Recorded.{Recorded}
+use Rattle.reorder_laws.specs.Recorded.{Recorded}
 
 -- r has the steps of the run m, with their effects and the states before them
 pub record Records (m : Ran) (r : Recorded) : Type 0 where

@@ -11,7 +11,7 @@ use Rattle.cell_machine.specs.Transfers.{is_signal}
 use Rattle.cell_machine.specs.Run.{Ran}
 use Rattle.race_order.specs.Trace.{IsStepOf, Notes}
 use Rattle.race_order.specs.Told.{trace_in}
-use Rattle.run_frames.specs.OrderedLaws.{IsOrdered}
+use Rattle.reorder_laws.specs.OrderedLaws.{IsOrdered}
 use Rattle.reorder_laws.specs.Places.{spe_at, Asks, ReadsChannel, WritesChannel, IssuesQueued, IssuesAtomic}
 
 -- a place between two others at which this is so

@@ -9,8 +9,8 @@ use Rattle.cell_machine.specs.Effects.{effect_of}
 use Rattle.cell_machine.specs.Written.{written_by}
 use Rattle.cell_machine.specs.ByteRuns.{Bytes, had_by, after}
 use Rattle.cell_machine.specs.Sound.{byte_of}
-use Rattle.run_places.specs.Cuts.{IsFront}
-use Rattle.run_places.specs.Recorded.{Recorded, spe_in, act_at}
+use Rattle.reorder_laws.specs.Cuts.{IsFront}
+use Rattle.reorder_laws.specs.Recorded.{Recorded, spe_in, act_at}
 use Rattle.reorder_laws.specs.Described.{Describes}
 
 -- the same fetched, read and written spans

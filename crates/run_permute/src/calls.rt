@@ -4,12 +4,13 @@ ghost use Rattle.std.specs.Prelude.{◌↔◌, IfOk, IsTrue};
 ghost use Rattle.race_check.specs.Races.{IsVerdict};
 ghost use Rattle.race_check.specs.declared.check.Verdict.TheVariants.{Accepted};
 ghost use Rattle.reorder_laws.specs.Settled.{IsSettled};
-ghost use Rattle.reorder.specs.Nth.{EndsAlike, IsReordered};
+ghost use Rattle.run_permute.specs.Nth.{EndsAlike, IsReordered};
 
+use crate::check;
 use crate::error::PermuteError;
 use crate::gathering::needs_of;
+use crate::permuting::permute_by_needs;
 use cell_machine::Machine;
-use reorder::permute_by_needs;
 use std::alloc::Global;
 
 /// Whether the run of the machine is settled.
@@ -18,7 +19,7 @@ use std::alloc::Global;
 pub fn is_settled(alloc: Global, m: &Machine) -> Result<bool, PermuteError>
     ensures { IfOk result (λ settled. IsTrue settled ↔ IsSettled m.now) }
 {
-    let settled = settled::is_settled(alloc, m)?;
+    let settled = check::is_settled(alloc, m)?;
     Ok(settled)
 }
 

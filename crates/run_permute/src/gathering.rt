@@ -2,10 +2,10 @@
 
 ghost use Rattle.std.specs.Prelude.{◌≡◌, [], IfOk, OnOk};
 ghost use Rattle.run_walk.specs.Walks.{Stands, walked};
-ghost use Rattle.reorder.specs.Gathered.{Gathers};
+ghost use Rattle.run_permute.specs.Gathered.{Gathers};
 
+use crate::needs::Needs;
 use cell_machine::Machine;
-use reorder::Needs;
 use run_walk::Walk;
 use std::alloc::{AllocError, Global};
 

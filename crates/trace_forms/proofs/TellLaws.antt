@@ -12,6 +12,7 @@ use Rattle.cell_machine.specs.Opening.{Opening}
 use Rattle.cell_machine.specs.State.{State}
 use Rattle.cell_machine.specs.Run.{Ran, IsRun, state_of, next_of}
 use Rattle.cell_trace.specs.Effects.{StopsAt, Makes, grown, line_in, lines_in, refused_in}
+use Rattle.cell_trace.specs.Allowed.{allowed_of}
 use Rattle.cell_trace.specs.Flows.{flows_of}
 use Rattle.cell_forms.specs.declared.fault.Fault.TheVariants.{NotARun}
 use Rattle.cell_forms.specs.Checks.{TellsEnd}
@@ -149,15 +150,22 @@ more_chosen m l n out mid new a b =
       b.3 ∙ ap (λ t. t ++ lines_in l ys) a.3 ∙ append_assoc out (lines_in m xs) (lines_in l ys) ∙ ap (λ (x : Ran). out ++ (lines_in m xs ++ lines_in x ys)) at ∙ ap (λ t. out ++ t) (sym (lines_more m xs ys a.2)),
     )
 
-pub goes : (numbers : List ℕ) (m n : Ran) (first mid out new may : List ℕ) → first ≡ [] → AddsChosen m n first mid → n ≡ with_choices m numbers → Adds (TellsStanding n) mid out → new ≡ out ++ may → Goes numbers m new
-goes numbers m n first mid out new may none a chosen b last = record {
-  steps = a.0;
-  chosen = sym chosen ∙ a.1;
-  standing = b.0;
-  tells = subst (λ (x : Ran). TellsStanding x b.0) a.1 b.1;
-  may = may;
-  told = last ∙ ap (λ t. t ++ may) (b.2 ∙ ap (λ t. t ++ b.0) (a.3 ∙ ap (λ t. t ++ lines_in m a.0) none));
-}
+-- a text of all that a state gives
+same_text : (o : Option State) (f : State → List ℕ) (out text new : List ℕ) → out ≡ text → IsSomeAnd o (λ M. new ≡ out ++ f M) → IsSomeAnd o (λ M. new ≡ text ++ f M)
+same_text o f out text new is h = subst (λ t. IsSomeAnd o (λ M. new ≡ t ++ f M)) is h
+
+pub goes : (numbers : List ℕ) (m n : Ran) (first mid out new : List ℕ) → first ≡ [] → AddsChosen m n first mid → n ≡ with_choices m numbers → Adds (TellsStanding n) mid out
+    → IsSomeAnd (state_of n) (λ M. new ≡ out ++ allowed_of M n.setup.budget) → Goes numbers m new
+goes numbers m n first mid out new none a chosen b last =
+    let so_far : out ≡ lines_in m a.0 ++ b.0 = b.2 ∙ ap (λ t. t ++ b.0) (a.3 ∙ ap (λ t. t ++ lines_in m a.0) none) in
+    record {
+      steps = a.0;
+      chosen = sym chosen ∙ a.1;
+      standing = b.0;
+      tells = subst (λ (x : Ran). TellsStanding x b.0) a.1 b.1;
+      told = subst (λ (x : Ran). IsSomeAnd (state_of x) (λ M. new ≡ (lines_in m a.0 ++ b.0) ++ allowed_of M x.setup.budget)) a.1
+          (same_text (state_of n) (λ M. allowed_of M n.setup.budget) out (lines_in m a.0 ++ b.0) new so_far last);
+    }
 
 -- ---- lines of the order
 

@@ -11,6 +11,7 @@ use Rattle.run_record.specs.Replayed.{IsRefusedAt}
 use Rattle.race_order.specs.OrderedRuns.{OnTrace}
 use Rattle.race_order.specs.Rules.{Rule, Ordered}
 use Rattle.cell_trace.specs.Effects.{lines_in, refused_in}
+use Rattle.cell_trace.specs.Allowed.{allowed_of}
 use Rattle.cell_trace.specs.Flows.{flows_of}
 use Rattle.cell_forms.specs.declared.fault.Fault.TheVariants.{NotARun}
 use Rattle.cell_forms.specs.Checks.{TellsEnd}
@@ -30,8 +31,9 @@ first_run setup steps count = record { setup = setup; steps = take count steps }
 
 -- ---- the order
 
--- of the places before the last one of a run those that are ordered before it are marked, and no others
+-- the steps are a run from the setup, and of the places before its last one those that happen before that one are marked, and no others
 pub record MarksBefore (m : Ran) (marks : List Bool) : Type 0 where
+  pub run : IsRun m.setup m.steps
   pub count : length marks + 1 ≡ length m.steps
   pub exact : (i : ℕ) (b : Bool) → slice_get marks i ≡ Some b → OnTrace m (λ trace. IsTrue b ↔ Ordered Rule trace i (length m.steps - 1))
 
@@ -57,14 +59,14 @@ pub record TellsStanding (m : Ran) (text : List ℕ) : Type 0 where
   pub tells : TellsEnd m states
   pub told : IsSomeAnd (state_of m) (λ M. text ≡ states ++ flows_of M)
 
--- what the further steps do that numbers choose; and then how the machine stands, and what may be done next
+-- the lines of the further steps that numbers choose, then the states and the contents of the MFCs after these, and then what may come next: the instruction
+-- at the PC of each processor, and each step that is allowed there
 pub record Goes (numbers : List ℕ) (m : Ran) (text : List ℕ) : Type 0 where
   pub steps : List Step
   pub chosen : with_choices m numbers ≡ record m { steps = m.steps ++ steps }
   pub standing : List ℕ
   pub tells : TellsStanding (record m { steps = m.steps ++ steps }) standing
-  pub may : List ℕ
-  pub told : text ≡ lines_in m steps ++ standing ++ may
+  pub told : IsSomeAnd (state_of (record m { steps = m.steps ++ steps })) (λ M. text ≡ lines_in m steps ++ standing ++ allowed_of M m.setup.budget)
 
 -- the record of a run
 abbrev pub TellsRecord : Ran → List ℕ → Type 0

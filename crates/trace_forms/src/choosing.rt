@@ -9,7 +9,7 @@ use cell_base::{Actor, Step};
 use cell_machine::Machine;
 
 /// The actor of a number, of so many processors: these, their flow controllers, the host.
-pub fn actor_of(spes: u8, number: u64) -> Actor
+fn actor_of(spes: u8, number: u64) -> Actor
     requires { spes ≤ 16 }
     ensures { result ≡ actor_of spes number }
 {

@@ -1,7 +1,6 @@
 //! What tools read of runs: a form of words, with files in a store and an output in a sink.
 #![tactic(auto)]
 
-mod allowed;
 mod before;
 mod choices;
 mod choosing;

@@ -6,7 +6,6 @@ ghost use Rattle.cell_forms.specs.Runs.{PrintsSteps};
 ghost use Rattle.trace_forms.specs.Choices.{start, with_choice, with_choices};
 ghost use Rattle.trace_forms.specs.Told.{Adds, AddsChosen, Came, Goes, IsShort, TellsRecord, TellsStanding, Told, ToldBehind};
 
-use crate::allowed::allowed_text;
 use crate::before::{before_text, each_text};
 use crate::choosing::chosen;
 use crate::fault::Fault;
@@ -15,7 +14,7 @@ use crate::words::Ask;
 use cell_base::Step;
 use cell_machine::Machine;
 use cell_report::{record_text, states_text};
-use cell_trace::{put_effects, put_flows};
+use cell_trace::{put_allowed, put_effects, put_flows};
 use std::alloc::{AllocError, Global};
 
 /// Writes the states of a machine.
@@ -186,15 +185,14 @@ fn put_chosen(out: &mut Vec<u8>, machine: &mut Machine, numbers: &[u64]) -> Resu
     Ok(())
 }
 
-/// Makes the steps that the numbers choose, and tells what they do, how the machine stands then, and what may be done next.
+/// Makes the steps that the numbers choose. Returns the lines of these steps, the states and the contents of the MFCs after them, and what may come next.
 fn going_text(alloc: Global, machine: &mut Machine, numbers: &[u64]) -> Result<Vec<u8>, AllocError>
     ensures { IfOk result (λ text. Goes numbers.now machine.old text.items) }
 {
     let mut out = Vec::new(alloc);
     put_chosen(&mut out, machine, numbers)?;
     put_standing(alloc, &mut out, machine)?;
-    let may = allowed_text(alloc, machine)?;
-    out.extend_from_slice(may.as_slice())?;
+    put_allowed(&mut out, machine)?;
     Ok(out)
 }
 

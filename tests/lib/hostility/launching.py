@@ -46,7 +46,7 @@ esac
 # What runs in a clone, with its status and the beginning of what it prints.
 CALLS_IN_CLONES: List[Tuple[List[str], int, bytes]] = [
     (["cell", "run", "examples/first.cell"], 0, b"cell-record 2\n"), (["cell", "check", "examples/first.cell", "examples/first.out"], 0, b"accepted 3\n"),
-    (["hunt", "examples/first.cell", "4"], 0, b"4 runs of seed 1: 4 AllStopped"), (["cell", "--version"], 0, b"cell "),
+    (["hunt", "examples/first.cell", "4"], 0, b"examples/first.cell: 4 runs, seed 1: no data race"), (["cell", "--version"], 0, b"cell "),
     (["tools/race", "examples/races/reuse_race.cell", "examples/races/reuse_race.out"], 1, b"race 10 14\n"), (["tools/explain", "examples/first.cell"], 0, b""),
 ]  # fmt: skip
 TOLD = [f"cell: {number} of 3 crates, {name}".encode() for number, name in enumerate(("cell_cli", "hunt", "run_trace"), 1)]
@@ -106,7 +106,7 @@ def first_hunt_answers() -> Iterator[str]:
     """A hunt builds all programs at once, and answers."""
     with unbuilt() as folder:
         found = called(folder, "hunt", "first.cell", "4")
-        if found.status != 0 or found.output != b"ran hunt first.cell 4\n":
+        if found.status != 0 or found.output != b"ran hunt first.cell 4 --tools tools\n":
             yield "\n".join(["the first hunt doesn't answer", *shown(found)])
         again = called(folder, "cell", "run", "first.cell")
         if again.error or again.output != b"ran cell_cli run first.cell\n":
@@ -160,7 +160,7 @@ def released() -> Iterator[pathlib.Path]:
 def shipped_programs_are_taken() -> Iterator[str]:
     """Without a kit the programs of bin/ run at once, where they are of the sources as they are, and whole."""
     with released() as folder:
-        for words, output in ((("hunt", "first.cell", "4"), b"ran hunt first.cell 4\n"), (("cell", "asm", "first.cell"), b"ran cell_cli asm first.cell\n")):
+        for words, output in ((("hunt", "first.cell", "4"), b"ran hunt first.cell 4 --tools tools\n"), (("cell", "asm", "first.cell"), b"ran cell_cli asm first.cell\n")):
             found = without_kit(folder, *words)
             if found.status or found.error or found.output != output:
                 yield "\n".join([f"{' '.join(words)} doesn't run the program of bin/", *shown(found)])
@@ -190,7 +190,7 @@ def read_only_checkouts_run() -> Iterator[str]:
         for path in (folder, *folder.rglob("*")):
             path.chmod(path.stat().st_mode & ~0o222 | 0o055 if path.is_dir() else path.stat().st_mode & ~0o222 | 0o044)
         try:
-            for words, output in ((("hunt", "first.cell", "4"), b"ran hunt first.cell 4\n"), (("cell", "asm", "first.cell"), b"ran cell_cli asm first.cell\n"),
+            for words, output in ((("hunt", "first.cell", "4"), b"ran hunt first.cell 4 --tools tools\n"), (("cell", "asm", "first.cell"), b"ran cell_cli asm first.cell\n"),
                                   (("tools/launch", "--version"), b"cell 1.0.0\n")):
                 found = subprocess.run([folder / words[0], *words[1:]], cwd=folder, capture_output=True, timeout=SECONDS,
                                        env={"PATH": PATH_WITHOUT_KIT, "CELL_TRY": ""}, **user)  # type: ignore[call-overload]

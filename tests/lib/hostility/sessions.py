@@ -10,6 +10,7 @@ from typing import Any, Iterator, List, Mapping, Optional, Sequence
 from celltools.common.repository import ROOT
 from celltools.common.texts import lines_in, number_of, shown
 from lib.hostility.rows import Row, ended
+from lib.hostility.sources import part_of
 
 
 RACES = ROOT / "examples" / "races"
@@ -137,14 +138,16 @@ TEXTS = [
             after=lambda folder: None if (folder / os.fsdecode(b"\xff")).exists() else "no record"),
     Row("race: a name with a blank", ("tools/race", "m m.cell", "m.out"), 1, printed=r"tools/witness 'm m\.cell' m\.out$",
         files={**FILES, "m m.cell": MACHINE}),
+    Row("hunt: a name with a blank and a quotation mark", ("hunt", "m 'm.cell", "4"), 1, printed=r"\Am 'm\.cell: 4 runs, (?s:.*)/tools/race --run 0 'm '\"'\"'m\.cell'$",
+        files={**FILES, "m 'm.cell": MACHINE}),
     Row("race: odd lines and bytes", ("tools/race", "m.cell", "m.out"), 1, files=ODD_FILES,
         printed=NO_ESCAPE + r".*second, step 14:.*at " + HIDDEN_NAME + r" \(s\.s:19\): stqd"),
     Row("picture: odd lines and bytes, of a name that is no UTF-8", ("tools/picture", NOT_UTF8, "m.out"), 0,
         printed=r"(?s)\A(?!.*[\x1b\x07]).*<title>m\\xff\.cell: race 10 14.*fake\.c:1 \(s\.s:19\): stqd", files={**ODD_FILES, NOT_UTF8: ODD_FILES["m.cell"]}),
-    Row("hunt's lines: odd lines", ("tools/site_lines", NOT_UTF8), 0, printed=r"^2 \| x 0 at 0x00000 m\\xff\.cell:6 \| h 1 m\\xff\.cell:8$",
-        files={NOT_UTF8: SCRIPT}, standard_input=b"2 | x 0 at 0x00000 | h 1\n"),
-    Row("hunt's lines: odd bytes", ("tools/site_lines", "m.cell"), 0, printed=NO_ESCAPE + r".*1 \| x 0 at 0x00034 " + HIDDEN_NAME + "\n",
-        files=ODD_FILES, standard_input=b"1 | x 0 at 0x00034\n"),
+    Row("places of a part: odd lines", ("tools/site_lines", "--json", NOT_UTF8), 0, printed=r'"places":\["m\\udcff\.cell:6","m\\udcff\.cell:8"\]',
+        files={NOT_UTF8: SCRIPT}, standard_input=part_of("x 0 at 0x00000 | h 1")),
+    Row("places of a part: odd bytes", ("tools/site_lines", "--json", "m.cell"), 0, files=ODD_FILES, standard_input=part_of("x 0 at 0x00034"),
+        printed=NO_ESCAPE + r'.*"places":\["\\u001b\]0;name\\u0007\\u001b\[2J\\u202efake\.c:1"\]'),
     Row("states: a file of an odd name", ("tools/states", "m.cell", NOT_UTF8), 2, r"^states: m\\xff\.cell: it has no line `steps N`",
         files={**FILES, NOT_UTF8: MACHINE}),
     Row("states: a missing file of an odd name", ("tools/states", "m.cell", "\x1b[2J.out"), 2, r"^states: \\x1b\[2J\.out: No such file", files=FILES),
@@ -189,8 +192,6 @@ REFUSED = [
         files=FILES),
     Row("picture: steps without end", ("tools/picture", "--race", LONG, "1", "m.cell", "m.out"), 2, r"^Usage: tools/picture", files=FILES),
     Row("picture: steps of another alphabet", ("tools/picture", "--race", "\u0661", "\u0662", "m.cell", "m.out"), 2, r"^Usage: tools/picture", files=FILES),
-    Row("hunt's lines: a number without end", ("tools/site_lines", "m.cell"), 2, r"is not a place of m\.cell", printed=r"^1 \| h 9+$", files=FILES,
-        standard_input=f"1 | h {LONG}\n".encode()),
     Row("race: a pipe as the machine file", ("tools/race", "/dev/stdin", "m.out"), 1, printed=r"(?s)^race 10 14\n.*at s\.s:19", files=FILES,
         standard_input=MACHINE),
 ]

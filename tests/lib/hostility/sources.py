@@ -44,12 +44,18 @@ LABELS = "^0x00000 start\n0x00004 a\n0x00004 b\n0x00010 c\n0x0008b d\n0x0008d e\
 WHOLE = b"\tstop\t0\t# a.s:1\n"
 OLD = b"\tlnop\t# what stood there\n"
 HUNT = b"".join(whole(iter([
-    b'{"part":2,"version":"1.0.0","program":"","machine":"m.cell","sum":"%s"}\n' % (b"0" * 64),
+    b'{"part":3,"version":"1.0.0","program":"","machine":"m.cell","sum":"%s"}\n' % (b"0" * 64),
     b'{"hunt":1,"seed":1,"from":0,"runs":1,"expects":false,"all_stopped":1,"left_out":0,"steps":1'
     + b"".join(b',"%s":{"runs":0,"first":null}' % flaw.encode() for flaw in FLAWS) + b"}\n",
     b'{"number":0,"end":"AllStopped","runs":1,"first":0,"places":[],"words":[]}\n',
     b'{"text":"","spans":[],"digits":"","endings":[0],"runs":[1],"first":[0]}\n', b'{"kinds":"AAAAAAAAAAA=","runs":[1]}\n',
 ])))
+
+
+def part_of(site: str) -> bytes:
+    """What the program of ./hunt prints with --json of a race at one site, as far as tools/site_lines reads it."""
+    return b'{"hunt":1,"seed":1}\n{"race":" | %s","key":"","runs":1,"first":0}\n' % site.encode()
+
 
 # What a Row does with its folder before and after the call; `more`, below, is all else that a Row has.
 Before = Callable[[pathlib.Path], None]
@@ -189,25 +195,29 @@ OF_PLACES = [
     full("states", RECORDED, 0, printed="^spe 0 stopped"),
     full("picture", RECORDED, 0, printed=r"full\.s"),
     full("debug", [], 0, printed="stack", standard_input=b"break stack\nquit\n"),
-    Row("site_lines: a carriage return in a comment", ["tools/site_lines", "a.cell"], 0, printed=r"^race \| x 0 at 0x00000 reuse_race.s:5$",
-        standard_input=b"race | x 0 at 0x00000\n", files={"a.cell": f"# a comment\r spe\n{MACHINE}source reuse_race.s\n".encode()},
-        examples=["races/reuse_race.s"]),
-    Row("site_lines: a faulty machine file", ["tools/site_lines", "a.cell"], 2, said=r"^site_lines: a\.cell:5: not a line of a machine file\n    tools/explain a\.cell says",
-        files={"a.cell": MACHINE.encode() + b"source\n"}, standard_input=b"race\n"),
-    Row("site_lines: a number of 5,000 digits", ["tools/site_lines", "a.cell"], 2, said="is not a place of a.cell",
-        standard_input=f"race | h {DIGITS}\n".encode(), files={"a.cell": MACHINE.encode()}),
+    Row("site_lines: a carriage return in a comment", ["tools/site_lines", "--json", "a.cell"], 0, printed=r'"places":\["reuse_race\.s:5"\]',
+        standard_input=part_of("x 0 at 0x00000"), files={"a.cell": f"# a comment\r spe\n{MACHINE}source reuse_race.s\n".encode()}, examples=["races/reuse_race.s"]),
+    Row("site_lines: a faulty machine file", ["tools/site_lines", "--json", "a.cell"], 2,
+        said=r"^site_lines: run_trace: machine file, line 5$", files={"a.cell": MACHINE.encode() + b"source\n"}),
+    Row("site_lines: a number of 5,000 digits", ["tools/site_lines", "--json", "a.cell"], 2, said="is not a place of a.cell",
+        standard_input=part_of(f"h {DIGITS}"), files={"a.cell": MACHINE.encode()}),
+    Row("site_lines: neither form", ["tools/site_lines", "a.cell"], 2, said=r"\Asite_lines: give either --take FOLDER or --json ", files={"a.cell": MACHINE.encode()}),
+    Row("site_lines: no output of hunt", ["tools/site_lines", "--json", "a.cell"], 2, said="^site_lines: standard input is not an output of ./hunt with --json$",
+        standard_input=b"race\n", files={"a.cell": MACHINE.encode()}),
 ]
 
 ONE_LINE = f"{MACHINE}code 0 00000000\n".encode()
+PIPED = {"a.cell": f"{MACHINE}source /dev/stdin\n".encode()}
 OF_HUNTS = [
-    Row("hunt: a pipe that nobody writes", ["hunt", "pipe", "4"], 3, said=r"\Ahunt: pipe: it is a pipe without a writer: name a file", printed="",
+    Row("hunt: a pipe that nobody writes", ["hunt", "pipe", "4", "--json"], 3, said=r"\Ahunt: pipe: it is a pipe without a writer: name a file", printed="",
         before=make_fifo("pipe")),
     Row("hunt: a source that is such a pipe", ["hunt", "a.cell", "4", "--json"], 3, said=r"\Ahunt: pipe: it is a pipe without a writer", printed="",
         files={"a.cell": f"{MACHINE}source pipe\n".encode()}, before=make_fifo("pipe")),
-    Row("hunt: a machine file in a pipe", ["hunt", "/dev/stdin", "4"], 0, printed=r"\A4 runs of seed 1: 4 AllStopped", standard_input=ONE_LINE),
+    Row("hunt: a machine file in a pipe", ["hunt", "/dev/stdin", "4"], 0, printed=r"\A/dev/stdin: 4 runs, seed 1: no data race", standard_input=ONE_LINE),
     Row("hunt: a machine file in a pipe, as a part", ["hunt", "/dev/stdin", "--runs", "4", "--json"], 0, printed=r'"machine":"/dev/stdin"', standard_input=ONE_LINE),
-    Row("hunt: a source in a pipe", ["hunt", "a.cell", "4"], 3, said=r"\Ahunt: /dev/stdin: this source is a pipe, but sources with absolute names are read twice",
-        printed="", files={"a.cell": f"{MACHINE}source /dev/stdin\n".encode()}, standard_input=b" stop 1\n"),
+    Row("hunt: a source in a pipe", ["hunt", "a.cell", "4"], 0, printed=r"\Aa\.cell: 4 runs, seed 1: no data race", files=PIPED, standard_input=b" stop 1\n"),
+    Row("hunt: a source in a pipe, for a part", ["hunt", "a.cell", "4", "--json"], 3,
+        said=r"\Ahunt: /dev/stdin: this source is a pipe, but sources with absolute names are read twice", printed="", files=PIPED, standard_input=b" stop 1\n"),
     Row("hunts: a pipe that nobody writes", ["tools/hunts", "pipe"], 2, said=r"\Apipe: it is a pipe without a writer", printed="", before=make_fifo("pipe")),
     Row("hunts: a line without an end", ["tools/hunts", "/dev/zero"], 2, said=r"\A(/dev/zero:1: it has more than 268,435,456 bytes|hunts: )", printed="",
         seconds=120, megabytes=1024),

@@ -32,9 +32,8 @@ for path in sys.argv[1:]:
 SECONDS = 120
 MEGABYTES = 2048
 CYRILLIC = "\u0436.s"
-# Pythons with which no lines of a hunt are named: too old, of which the output can't be written, and interrupted.
+# Pythons with which no part of a hunt is made: too old, of which the output can't be written, and interrupted. A report needs none.
 OTHERS = "exit 2", "echo half; exit 4", "echo half; exit 130"
-UNNAMED = r"\Ahunt: no lines of sources are named: tools/site_lines needs the package python3, and ended with status \d+\n\Z"
 NO_PART = r"hunt: --json requires tools/site_lines, which needs the package python3 and ended with status \d+: nothing was run\n\Z"
 # A Python that lacks modules, as Debian's python3-minimal does.
 LACKING = """
@@ -48,7 +47,7 @@ sys.argv = sys.argv[2:]
 sys.path[0] = os.path.dirname(sys.argv[0])
 runpy.run_path(sys.argv[0], run_name="__main__")
 """
-WITHOUT_PYTHON: List[Tuple[List[str], int, str, str]] = [([], 0, UNNAMED, r"(?s)\A4 runs of seed 1: (?!.*half)"), (["--json"], 2, NO_PART, "")]
+WITHOUT_PYTHON: List[Tuple[List[str], int, str, str]] = [([], 0, r"\A\Z", r"(?s)\Afirst\.cell: 4 runs, seed 1: (?!.*half)"), (["--json"], 2, NO_PART, "")]
 LACKED = ("json", "dataclasses", "bisect", "statistics", "difflib")  # which libpython3.11-minimal hasn't
 
 
@@ -112,8 +111,8 @@ def loading_faults() -> Iterator[str]:
 
 
 def minimal_tells_its_package() -> Iterator[str]:
-    """Under a Python without some modules each tool that needs them ends with status 2 and names the package, also where it would find no race; a hunt names no
-    lines, and with --json runs nothing."""
+    """Under a Python without some modules each tool that needs them ends with status 2 and names the package, also if it would find no race; a hunt needs none, and
+    with --json runs nothing."""
     with tempfile.TemporaryDirectory(prefix="cell-minimal-") as room:
         folder = pathlib.Path(room)
         (folder / "lacking.py").write_text(LACKING.format(lacked=LACKED))
@@ -123,7 +122,7 @@ def minimal_tells_its_package() -> Iterator[str]:
         calls: List[Tuple[List[str], int, str]] = [
             (["tools/race", "examples/first.cell", "examples/first.out"], 2, r"race: .*this Python has no module \w+: install the package python3"),
             (["tools/hunts", "-"], 2, "install the package"),
-            (["hunt", "examples/first.cell", "4", "--json"], 2, NO_PART), (["hunt", "examples/first.cell", "4"], 0, "no lines of sources"),
+            (["hunt", "examples/first.cell", "4", "--json"], 2, NO_PART), (["hunt", "examples/first.cell", "4"], 0, r"\A\Z"),
         ]  # fmt: skip
         for words, status, said in calls:
             found = ended([str(ROOT / words[0]), *words[1:]], ROOT, SECONDS, MEGABYTES, environment=environment)
@@ -151,7 +150,7 @@ ROWS = [
         before=lambda folder: (folder / "examples").symlink_to(ROOT / "examples"), environment=PLAIN),
     Row("states under plain settings", ["tools/states", "examples/first.cell", "examples/first.out"], 0, printed=r"^end AllStopped\n",
         before=lambda folder: (folder / "examples").symlink_to(ROOT / "examples"), environment=PLAIN),
-    *(Row("a hunt whose lines can't be named", ["hunt", "first.cell", "4", *more], status, said=said, printed=printed, examples=["first.cell"],
+    *(Row("a hunt without a Python", ["hunt", "first.cell", "4", *more], status, said=said, printed=printed, examples=["first.cell"],
           files={"python3": f"#!/bin/sh\n{script}\n".encode()}, before=lambda folder: (folder / "python3").chmod(0o755),
           environment={"PATH": f".:{os.environ['PATH']}"}) for script in OTHERS
       for more, status, said, printed in WITHOUT_PYTHON),

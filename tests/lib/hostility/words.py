@@ -57,9 +57,9 @@ NUMBERS = [
     *(refused("a spelling of a place", [TRACER, "before", *BOTH, word], 2, TRACER_FORMS) for word in ("00", "+0", "")),
     *(refused("a spelling of steps", [TRACER, "states", *BOTH, word], 2, TRACER_FORMS) for word in ("03", "+3")),
     *(refused("steps to go on from", [TRACER, "go", *BOTH, word, "c"], 2, TRACER_FORMS, {"c": b""}) for word in ("03", "+3")),
-    Row("an expectation that is named like an option", ["hunt", MACHINE, "1", "--json", "--expect", "-x"], 0, printed=r'\A\{"part":2,.*"machine":"first\.cell"',
+    Row("an expectation that is named like an option", ["hunt", MACHINE, "1", "--json", "--expect", "-x"], 0, printed=r'\A\{"part":3,.*"machine":"first\.cell"',
         files={"-x": b""}, examples=BOTH),
-    Row("the greatest seed", ["hunt", MACHINE, "1", "18446744073709551615"], 0, printed="^1 runs of seed 18446744073709551615:", examples=BOTH),
+    Row("the greatest seed", ["hunt", MACHINE, "1", "18446744073709551615"], 0, printed=r"^first\.cell: 1 run, seed 18446744073709551615:", examples=BOTH),
     Row("run 0", ["hunt", MACHINE, "record", "0"], 0, printed="^cell-record 2$", examples=BOTH),
     Row("place 0", [TRACER, "before", *BOTH, "0"], 0, examples=BOTH),
 ]

@@ -1,5 +1,7 @@
 """Where the files of this repository are that the programs ask or read."""
+import os
 import pathlib
+import sys
 
 ROOT = pathlib.Path(__file__).resolve().parents[3]
 LAUNCH = ROOT / "tools" / "launch"
@@ -15,6 +17,12 @@ def built(program: str) -> pathlib.Path:
 def shipped(program: str) -> pathlib.Path:
     """The path of one of PROGRAMS in bin/, from which it runs in a checkout that can't be written."""
     return ROOT / "bin" / program
+
+
+def called_folder() -> str:
+    """The folder of the tools as the user calls it: tools/ if it is there, else as this call names it."""
+    own = ROOT / "tools"
+    return next((name for name in ("tools", os.path.dirname(sys.argv[0])) if pathlib.Path(name).resolve() == own), str(own))
 
 
 def called(tool: str) -> str:

@@ -181,7 +181,7 @@ def faulty_script(call: Call, found: "Match[str]") -> Hint:
 def faulty_suppression(call: Call, found: "Match[str]") -> Hint:
     """A line of a file of suppressions."""
     name, number = call.files[PASS], int(found[1])
-    advice = "a line is a race as ./hunt prints it now, from 'race' on: run ./hunt again without --pass, and copy its line; docs/guide/hunting.md has the form"
+    advice = "a line is a suppression as ./hunt prints it now: run ./hunt again without --pass, and copy what follows 'suppression: '; docs/guide/hunting.md has the form"
     return Hint(advice, f"{name}:{number}", line_of(data_of(name), number))
 
 

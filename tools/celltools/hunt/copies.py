@@ -1,4 +1,4 @@
-"""The files of a hunt as they were when it began: the machine file, its sources, and those of --expect and --pass.
+"""The files of a hunt that makes a part, as they were when it began: the machine file, its sources, and those of --expect and --pass.
 
 Each is read once, into a folder in which the program finds it by the same name. So what the program prints, and what is printed of lines and checksums, is of the
 same texts, with the names that the user typed. Relative names are below `here`, a link to a folder deep enough for their `..`, and absolute ones below `root`.

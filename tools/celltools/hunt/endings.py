@@ -1,4 +1,4 @@
-"""How runs of a hunt end: which endings are faulty, and of which ./hunt prints what the processors waited for or what their faults were."""
+"""How runs of a hunt end: which endings are faulty, and of which a part says what the processors waited for or what their faults were."""
 from typing import Any, Dict
 
 Json = Dict[str, Any]  # an object as JSON has it, whose members are of any kind
@@ -6,8 +6,8 @@ Json = Dict[str, Any]  # an object as JSON has it, whose members are of any kind
 STOPPED, STUCK, SPENT = "AllStopped", "Stuck", "Budget"  # the words that begin an ending
 FAULTS = ("badword", "badchannel", "dmafault")
 HALTED = "halted"
-MOST_SPENT = 3  # ends of runs that spent the budget of which it is printed what the processors did
-MOST_EXPLAINED = 8  # other ends of which that is printed
+MOST_SPENT = 3  # ends of runs that spent the budget, of which a part says where the processors were
+MOST_EXPLAINED = 8  # other ends that are explained
 
 
 def end_word(ending: str) -> str:

@@ -1,11 +1,11 @@
 """The lines of a part, as `./hunt MACHINE --json` prints it: docs/guide/cluster.md has the form. Each line has one way to be written.
 
 Line 1 names the form, the version and the sources of the program, the machine file, and a checksum of it and its sources. Line 2 is the hunt's head. Then come
-races, endings with their numbers, results, expected lines that runs miss, and the classes of runs. The last line has the number of lines before it and their
-SHA-256.
+races, endings with their numbers, results, expected lines that runs miss, findings, the lines of the sources with an instruction, and the classes of runs. The
+last line has the number of lines before it and their SHA-256.
 
 A line of results has columns. The texts of a hunt's results have the same `show` lines, so they differ in hexadecimal digits alone: the line has the first text, the
-ranges of places at which the texts differ, and the digits at these places. In form 1 each result had a line: a list of its numbers and its whole text.
+ranges of places at which the texts differ, and the digits at these places.
 """
 import array
 import base64
@@ -19,20 +19,16 @@ import sys
 from typing import Iterable, Iterator, List, NamedTuple, Sequence, Tuple
 
 
-FORM, FORM_OF_LISTS = 2, 1
-PART, TEXT, KINDS = "part", "text", "kinds"  # the first members of a part's first line, of a line of results, and of a line of classes
+FORM = 3
+PART, TEXT, SOURCE, KINDS = "part", "text", "source", "kinds"  # the first members of a part's first line, and of a line of results, of a source, of classes
 LAST = "lines"  # and of the last line
 OF_RESULTS = (TEXT, "spans", "digits", "endings", "runs", "first")  # the members of a line of results
+OF_SOURCE = (SOURCE, "lines")  # and of a source
 MOST_ROWS = 100  # in a line: more would take longer to read for one text
 MOST_TEXT = 1 << 22  # bytes of the texts of a line that has several
 MOST_KINDS = 3000  # in a line: a multiple of 3, so that base64 has no padding between lines
 ODD = re.compile(r'[^ !#-\[\]-~]')
-# A string's characters as they are written: printable ASCII as it is, a line feed of form 1 as \n, and every other byte by its number.
-PLAIN = rb'[ !#-\[\]-~]*'
-ESCAPED = rb'\\(?:n|u00(?:0[0-9b-f]|1[0-9a-f]|22|5c|7f|[89a-f][0-9a-f]))'
-NUMBER = rb"(?:0|[1-9][0-9]{0,9})"
-LISTED = re.compile(rb'\[(%s),(%s),(%s),"(%s(?:%s%s)*)"\]\n' % (NUMBER, NUMBER, NUMBER, PLAIN, ESCAPED, PLAIN))  # a result of form 1
-FEED, LISTED_FEED = b"\\u000a", b"\\n"  # a line feed as the program and form 2 write it, and as form 1 does
+FEED = b"\\u000a"  # a line feed as a string has it
 WITHOUT_DIGITS = bytes.maketrans(b"123456789abcdef", b"0" * 15)
 DIFFERING = re.compile(rb"[^\0]+")
 
@@ -66,7 +62,7 @@ def line_of(value: object) -> bytes:
 
 def text_of(written: bytes) -> bytes:
     """The text of a string without its quotation marks. ValueError if a character of it is no byte."""
-    plain = written.replace(FEED, b"\n").replace(LISTED_FEED, b"\n")
+    plain = written.replace(FEED, b"\n")
     return plain if b"\\" not in plain else str(json.loads(b'"%s"' % written)).encode("latin-1")
 
 
@@ -129,6 +125,13 @@ def packed_digits(digits: bytes) -> str:
 def unpacked_digits(text: str) -> bytes:
     """Digits of base64, with the 0 that may follow them; ValueError for a text that is none."""
     return binascii.hexlify(base64.b64decode(text.encode("ascii"), validate=True))
+
+
+# ---- sources
+
+def source_line(name: str, numbers: Sequence[int], executed: Sequence[int]) -> bytes:
+    """The line of a source: the number of each line with an instruction, and 1 if a run executed it, else 0."""
+    return line_of(dict(zip(OF_SOURCE, (name, [list(pair) for pair in zip(numbers, executed)]))))
 
 
 # ---- classes

@@ -15,19 +15,22 @@ from typing import Any, BinaryIO, Callable, Dict, Iterator, List, Optional, Sequ
 from celltools.hunt import lines as written
 from celltools.hunt.copies import first_of_pipe
 from celltools.hunt.endings import SPENT, STOPPED, STUCK, Json, end_word, has_fault, has_halt
+from celltools.hunt.findings import FINDING_KINDS
 from celltools.run.runs import Refused
 
 # What can be wrong in a run, in the order in which it is printed.
 FLAWS = ("race", "stuck", "budget", "fault", "halt", "missed")
 FORM_OF_HUNT = 1
 HEAD = ("hunt", "seed", "from", "runs", "expects", "all_stopped", "left_out", "steps", *FLAWS)  # members of a part's second line
-WITHOUT_STEPS = tuple(name for name in HEAD if name != "steps")  # the same in a part of form 1
 MOST_RUN, MOST_SEED = 0xFFFF_FFFE, 0xFFFF_FFFF_FFFF_FFFF
 MOST_STEPS = 1_000_000  # of a run: the greatest budget
 MOST_LINE = 1 << 28  # bytes
+MOST_SOURCE_LINE = 1 << 22  # of a source: it has at most so many bytes
 CHECKSUM = re.compile(r"[0-9a-f]{64}")
 VERSION = re.compile(r"[0-9]+\.[0-9]+\.[0-9]+")
 BYTES = re.compile(r"[\0-\xff]*")
+SHOWN = re.compile(r"(?:  [\0-\x09\x0b-\xff]*\n)+")  # the lines of a finding
+ONE_OF_RUN = ("deadlock", "budget")  # findings of which a run has one at most
 AGAIN = "make the part again with `./hunt MACHINE --json`"
 OLDER = b'{"machine":'  # begins what earlier versions printed
 
@@ -56,7 +59,7 @@ class Head:
     expects: bool
     all_stopped: int
     left_out: int
-    steps: Optional[int]  # None where a part of form 1 doesn't say
+    steps: int
     flaws: Dict[str, Count]
 
     @property
@@ -88,13 +91,19 @@ class Hearer:
     """Takes what parts have, in the order of their lines."""
 
     def take_told(self, what: str, key: str, members: Json, count: Count) -> None:
-        """A race, an ending or a missed line."""
+        """A race, an ending, a missed line or a finding."""
 
     def take_result(self, result: Result) -> None:
         """A result of an ending."""
 
+    def take_source(self, name: str, numbers: List[int], executed: List[int]) -> None:
+        """A source: the numbers of its lines with an instruction, and for each 1 if a run executed it, else 0. Wrong if another part has other sources."""
+
     def take_kinds(self, digests: List[int], runs: List[int]) -> None:
         """Classes of runs."""
+
+    def end(self) -> None:
+        """The part has nothing more. Wrong if another part has more sources."""
 
 
 # ---- members
@@ -158,12 +167,6 @@ def refuse_other_writing(members: Json, line: bytes) -> None:
 
 # ---- results
 
-def listed(line: bytes) -> Optional[written.Row]:
-    """The result of a line of form 1; None if it has none."""
-    found = written.LISTED.fullmatch(line)
-    return written.Row(int(found[1]), int(found[2]), int(found[3]), written.text_of(found[4])) if found else None
-
-
 def numbers_in(members: Json, name: str, length: Optional[int] = None) -> List[int]:
     """A list of numbers, as many as a line may have results if there is no other length."""
     value = members[name]
@@ -205,6 +208,18 @@ def rows_of(members: Json) -> List[written.Row]:
     return list(map(written.Row, endings, runs, first, map(texts.of, range(len(endings)))))
 
 
+# ---- sources
+
+def lines_of_source(members: Json) -> Tuple[List[int], List[int]]:
+    """The numbers of the lines of a source, in ascending order, and for each 1 if a run executed it, else 0."""
+    value = members["lines"]
+    are_pairs = isinstance(value, list) and all(isinstance(pair, list) and len(pair) == 2 for pair in value)
+    numbers, executed = ([pair[place] for pair in value] if are_pairs else [] for place in (0, 1))
+    is_right = are_pairs and are_numbers(numbers, 1, MOST_SOURCE_LINE) and are_numbers(executed, 0, 1) and all(map(operator.lt, numbers, numbers[1:]))
+    refuse_other("lines", value, is_right, "a list of pairs of a line number and 0 or 1, in the order of the numbers")
+    return numbers, executed
+
+
 # ---- lines
 
 def opening_of(line: bytes) -> Json:
@@ -215,8 +230,7 @@ def opening_of(line: bytes) -> Json:
     if written.PART not in members:
         raise Wrong('no part begins here: the first line of a part has "part"')
     refuse_names(members, ("part", "version", "program", "machine", "sum"))
-    refuse_other("part", members["part"], is_number(members["part"], written.FORM_OF_LISTS, written.FORM),
-                 f"{written.FORM_OF_LISTS} or {written.FORM}, the forms that this tools/hunts reads")
+    refuse_other("part", members["part"], is_number(members["part"], written.FORM, written.FORM), f"{written.FORM}, the form that this tools/hunts reads")
     text_in(members, "version", VERSION, "a version such as 1.0.0")
     text_in(members, "program")
     text_in(members, "machine")
@@ -235,21 +249,17 @@ def flaw_of(members: Json, name: str, head: Head) -> Count:
     return Count(runs, number_in(value, "first", head.start, head.stop - runs))
 
 
-def steps_in(members: Json, runs: int) -> Optional[int]:
-    """How many steps so many runs have, None where nobody knows."""
-    return None if members.get("steps") is None else number_in(members, "steps", 0, runs * MOST_STEPS)
-
-
-def head_of(line: bytes, form: int) -> Head:
-    """The second line of a part of this form."""
+def head_of(line: bytes) -> Head:
+    """The second line of a part."""
     members = object_of(line)
-    refuse_names(members, WITHOUT_STEPS if form == written.FORM_OF_LISTS else HEAD)
+    refuse_names(members, HEAD)
     number_in(members, "hunt", FORM_OF_HUNT, FORM_OF_HUNT)
     runs = number_in(members, "runs", 1, MOST_RUN + 1)
     start = number_in(members, "from", 0, MOST_RUN + 1 - runs)
     refuse_other("expects", members["expects"], isinstance(members["expects"], bool), "true or false")
     stopped, left_out = (number_in(members, name, 0, runs) for name in ("all_stopped", "left_out"))
-    head = Head(number_in(members, "seed", 0, MOST_SEED), start, runs, members["expects"], stopped, left_out, steps_in(members, runs), {})
+    seed, steps = number_in(members, "seed", 0, MOST_SEED), number_in(members, "steps", 0, runs * MOST_STEPS)
+    head = Head(seed, start, runs, members["expects"], stopped, left_out, steps, {})
     head.flaws.update({name: flaw_of(members, name, head) for name in FLAWS})
     refuse_other_writing(members, line)
     return head
@@ -260,17 +270,17 @@ class Body:
 
     def __init__(self, part: Part, hearer: Hearer) -> None:
         self.head, self.hearer = part.head, hearer
-        is_of_lists = part.opening[written.PART] == written.FORM_OF_LISTS
         # How the lines begin, in their order, and what takes them.
         self.taking: List[Tuple[bytes, Callable[[bytes, int], None]]] = [
-            (b'{"race":', self.take_race), (b'{"number":', self.take_ending), (b"[", self.take_listed) if is_of_lists else (b'{"text":', self.take_results),
-            (b'{"missed":', self.take_missed), (b'{"kinds":', self.take_kinds),
+            (b'{"race":', self.take_race), (b'{"number":', self.take_ending), (b'{"text":', self.take_results), (b'{"missed":', self.take_missed),
+            (b'{"finding":', self.take_finding), (b'{"source":', self.take_source), (b'{"kinds":', self.take_kinds),
         ]  # fmt: skip
         self.stage = 0
         self.endings: List[Tuple[str, Count]] = []
         self.left: List[int] = []  # of each ending, how many runs have no result yet
-        self.counts: Dict[str, List[Count]] = {"race": [], "missed": []}
-        self.seen: Dict[str, Dict[str, None]] = {"race": {}, "end": {}, "missed": {}}
+        self.findings: Dict[str, Dict[str, Count]] = {kind: {} for kind in FINDING_KINDS}  # by their kinds and keys
+        self.listed: Dict[str, Dict[str, Count]] = {"race": {}, "missed": {}}  # of races and missed lines, which are findings too, the same
+        self.seen: Dict[str, Dict[str, None]] = {"race": {}, "end": {}, "missed": {}, "finding": {}, "source": {}}
         self.kinds = 0
         self.last_first = -1
 
@@ -290,7 +300,7 @@ class Body:
         if stage is None:
             raise Wrong("this is not a line of a part")
         if stage < self.stage:
-            raise Wrong("this line is out of order: races come first, then endings, results, missed lines and classes of runs")
+            raise Wrong("this line is out of order: races come first, then endings, results, missed lines, findings, sources and classes of runs")
         self.stage = stage
         self.taking[stage][1](line, offset)
 
@@ -305,9 +315,9 @@ class Body:
         members = object_of(line)
         refuse_names(members, ("race", "key", "runs", "first", "places"))
         list_in(members, "places", (str, type(None)), len(written.parts_in(text_in(members, "race"))))
-        count = self.counted(members, self.head.flaws["race"].runs)
-        self.counts["race"].append(count)
-        self.take_once("race", text_in(members, "key"), members, line, count)
+        count, key = self.counted(members, self.head.flaws["race"].runs), text_in(members, "key")
+        self.take_once("race", key, members, line, count)
+        self.listed["race"][f"race{key}"] = count
 
     def take_ending(self, line: bytes, _: int) -> None:
         members = object_of(line)
@@ -320,12 +330,6 @@ class Body:
         self.endings.append((ending, count))
         self.left.append(count.runs)
         self.take_once("end", ending, members, line, count)
-
-    def take_listed(self, line: bytes, offset: int) -> None:
-        row = listed(line)
-        if not row:
-            raise Wrong("this is not a result: a list of an ending's number, a number of runs, the first of them, and a text")
-        self.take_row(row, offset, 0)
 
     def take_results(self, line: bytes, offset: int) -> None:
         rows = rows_of(object_of(line))
@@ -348,9 +352,29 @@ class Body:
     def take_missed(self, line: bytes, _: int) -> None:
         members = object_of(line)
         refuse_names(members, ("missed", "runs", "first"))
-        count = self.counted(members, self.head.flaws["missed"].runs)
-        self.counts["missed"].append(count)
-        self.take_once("missed", text_in(members, "missed"), members, line, count)
+        count, missed = self.counted(members, self.head.flaws["missed"].runs), text_in(members, "missed", BYTES, "a string of bytes")
+        self.take_once("missed", missed, members, line, count)
+        self.listed["missed"][f"missed {missed}"] = count
+
+    def take_finding(self, line: bytes, _: int) -> None:
+        members = object_of(line)
+        refuse_names(members, ("finding", "key", "shown", "runs", "first"))
+        kind, key = text_in(members, "finding"), text_in(members, "key", BYTES, "a string of bytes")
+        refuse_other("finding", kind, kind in FINDING_KINDS and kind == key.partition(" ")[0], f"the first word of its key, which is one of {', '.join(FINDING_KINDS)}")
+        refuse_other("shown", members["shown"], bool(SHOWN.fullmatch(text_in(members, "shown"))), "lines of bytes that begin with two blanks")
+        count = self.counted(members, self.head.flaws[FINDING_KINDS[kind].flaw].runs)
+        self.take_once("finding", key, members, line, count)
+        self.findings[kind][key] = count
+
+    def take_source(self, line: bytes, _: int) -> None:
+        members = object_of(line)
+        refuse_names(members, written.OF_SOURCE)
+        name, (numbers, executed) = text_in(members, written.SOURCE, BYTES, "a string of bytes"), lines_of_source(members)
+        refuse_other_writing(members, line)
+        if name in self.seen["source"]:
+            raise Wrong("an earlier line of this part has the same source")
+        self.seen["source"][name] = None
+        self.hearer.take_source(name, numbers, executed)
 
     def take_kinds(self, line: bytes, _: int) -> None:
         members = object_of(line)
@@ -383,10 +407,20 @@ class Body:
         for number, left in enumerate(self.left):
             refuse_sum(f"the results of ending {number}", self.endings[number][1].runs - left, self.endings[number][1].runs)
         refuse_sum("the classes of runs", self.kinds, head.runs)
-        for what, counts in self.counts.items():
-            if sum(count.runs for count in counts) < head.flaws[what].runs:
-                raise Wrong(f"the lines of `{what}` count fewer runs than the head, which counts {head.flaws[what].runs}")
-            refuse_first(f"the lines of `{what}`", counts, head.flaws[what])
+        self.refuse_findings()
+
+    def refuse_findings(self) -> None:
+        """Refuses findings that don't belong to the counts of the head, or are others than the races and missed lines."""
+        for kind, findings in self.findings.items():
+            wanted, counts, what = self.head.flaws[FINDING_KINDS[kind].flaw], list(findings.values()), f"the findings of `{kind}`"
+            found = sum(count.runs for count in counts)
+            if kind in ONE_OF_RUN:
+                refuse_sum(what, found, wanted.runs)
+            if found < wanted.runs:
+                raise Wrong(f"{what} count fewer runs than the head, which counts {wanted.runs}")
+            refuse_first(what, counts, wanted)
+            if list(self.listed.get(kind, findings).items()) != list(findings.items()):
+                raise Wrong(f"{what} have other keys or counts than the lines of `{kind}`")
 
 
 def refuse_sum(what: str, found: int, wanted: int) -> None:
@@ -469,7 +503,7 @@ class Reader:
         start, checksum = self.number, hashlib.sha256(first)
         opening, second = opening_of(first), self.line()
         checksum.update(second)
-        part = Part(self.name, start, opening, head_of(second or self.cut(start), opening[written.PART]))
+        part = Part(self.name, start, opening, head_of(second or self.cut(start)))
         body = Body(part, hearer(part))
         while True:
             line = self.line() or self.cut(start)
@@ -479,6 +513,7 @@ class Reader:
             checksum.update(line)
         self.refuse_last(line, self.number - start, checksum.hexdigest())
         body.refuse_sums()
+        body.hearer.end()
         return part
 
     def cut(self, start: int) -> bytes:

@@ -4,16 +4,16 @@ import array
 import dataclasses
 import hashlib
 import itertools
+import operator
 from typing import IO, Dict, Iterator, List, Optional, Sequence, Tuple
 
 from celltools.hunt import lines as written
 from celltools.hunt.endings import Explained, Json
-from celltools.hunt.reading import FLAWS, FORM_OF_HUNT, Count, Head, Hearer, Kept, Part, Reader, Result, Wrong, columns_of, listed, object_of, opened
+from celltools.hunt.findings import FINDING_KINDS
+from celltools.hunt.reading import FLAWS, FORM_OF_HUNT, Count, Head, Hearer, Kept, Part, Reader, Result, Wrong, columns_of, object_of, opened
 from celltools.run.runs import Refused
 
 MOST_RUNS = 1_000_000  # of one call of ./hunt
-MOST_RESULTS = 8  # of an ending that the text has
-SHOWN_RESULTS = 2  # of an ending of which the text has the difference
 DIGEST = 16  # bytes
 COUNTED = ("runs", "first")
 OF_ENDINGS = ("places", "words")
@@ -21,10 +21,10 @@ OF_ENDINGS = ("places", "words")
 
 @dataclasses.dataclass
 class Told:
-    """A race, an ending or a missed line: its members, and its count. Of several parts that have it the members are those of the first run."""
+    """A race, an ending, a missed line or a finding: its members, and its count. Of several parts that have it the members are those of the first run."""
     members: Json
     count: Count
-    place: int  # among those of its part, for those of one first run
+    place: int  # among all that was read, for those of one first run
 
     @property
     def order(self) -> Tuple[int, int]:
@@ -32,13 +32,15 @@ class Told:
 
 
 class Tally:
-    """Races, endings or missed lines by what tells them apart."""
+    """Races, endings, missed lines or findings, by their keys."""
 
     def __init__(self) -> None:
         self.told: Dict[str, Told] = {}
+        self.taken = 0
 
-    def take(self, key: str, told: Told) -> None:
-        other = self.told.get(key)
+    def take(self, key: str, members: Json, count: Count) -> None:
+        other, told = self.told.get(key), Told(members, count, self.taken)
+        self.taken += 1
         if other:
             first = min(other, told, key=lambda each: each.order)
             told = Told(first.members, other.count.added(told.count), first.place)
@@ -89,23 +91,42 @@ class Results:
         return Count(self.runs[place], self.first[place])
 
 
+@dataclasses.dataclass
+class SourceLines:
+    """The lines of a source with an instruction: their numbers, and for each 1 if a run executed it, else 0. The name has a character a byte."""
+    name: str
+    numbers: "array.array[int]"
+    executed: bytearray
+
+    def add(self, executed: Sequence[int]) -> None:
+        """Adds what other runs executed."""
+        self.executed = bytearray(map(operator.or_, self.executed, executed))
+
+
 class Listener(Hearer):
     """Takes what a part has into the sum."""
 
     def __init__(self, hunt: "Hunt", file: int, part: Part) -> None:
         self.hunt, self.file = hunt, file
         self.kinds = hunt.kinds_of_part(part)
+        self.sources = 0
 
     def take_told(self, what: str, key: str, members: Json, count: Count) -> None:
-        tally = self.hunt.tallies[what]
-        tally.take(key, Told({name: value for name, value in members.items() if name not in COUNTED}, count, len(tally.told)))
+        self.hunt.tallies[what].take(key, {name: value for name, value in members.items() if name not in COUNTED}, count)
 
     def take_result(self, result: Result) -> None:
         self.hunt.results.take(result, self.file)
 
+    def take_source(self, name: str, numbers: List[int], executed: List[int]) -> None:
+        self.hunt.take_source(self.sources, SourceLines(name, array.array("I", numbers), bytearray(executed)))
+        self.sources += 1
+
     def take_kinds(self, digests: List[int], runs: List[int]) -> None:
         self.kinds[0].extend(digests)
         self.kinds[1].extend(runs)
+
+    def end(self) -> None:
+        self.hunt.refuse_fewer_sources(self.sources)
 
 
 Kinds = Tuple["array.array[int]", "array.array[int]"]
@@ -117,8 +138,9 @@ class Hunt:
     def __init__(self, files: Sequence[str], may_have_gaps: bool = False) -> None:
         self.names = ["standard input" if name == "-" else name for name in files]
         self.files: List[Optional[IO[bytes]]] = []
-        self.tallies = {what: Tally() for what in ("race", "end", "missed")}
+        self.tallies = {what: Tally() for what in ("race", "end", "missed", "finding")}
         self.results = Results()
+        self.sources: List[SourceLines] = []  # in the order of the machine file, each once
         self.kinds_of_parts: List[Tuple[int, Kinds]] = []
         self.parts: List[Part] = []
         for number, name in enumerate(files):
@@ -152,6 +174,21 @@ class Hunt:
         self.kinds_of_parts.append((part.head.start, kinds))
         return kinds
 
+    def take_source(self, place: int, source: SourceLines) -> None:
+        """Takes the source of a place among those of a part. Wrong if the parts before have another one."""
+        if not self.parts:
+            self.sources.append(source)
+            return
+        known = self.sources[place] if place < len(self.sources) else None
+        if not known or (known.name, known.numbers) != (source.name, source.numbers):
+            raise Wrong(f"the name or the line numbers of this source differ from those in {place_of(self.parts[0])}")
+        known.add(source.executed)
+
+    def refuse_fewer_sources(self, sources: int) -> None:
+        """Refuses a part with so many sources, if the parts before have more."""
+        if sources < len(self.sources):
+            raise Wrong(f"the part has {sources} of the {len(self.sources)} sources of {place_of(self.parts[0])}")
+
     # ---- what it has
 
     @property
@@ -171,6 +208,10 @@ class Hunt:
         explained = Explained()
         return [told if explained.takes(told.members["end"]) else unexplained(told) for told in self.tallies["end"].in_order()]
 
+    def findings(self) -> List[Told]:
+        """The findings by their kinds, those of a kind in the order of their first runs."""
+        return sorted(self.tallies["finding"].in_order(), key=lambda found: list(FINDING_KINDS).index(found.members["finding"]))
+
     def texts(self, places: Sequence[int]) -> Iterator[bytes]:
         """The texts of results. Refused if a file has changed since it was read. Each line is read once for places in the order of their first runs."""
         for number, of_file in itertools.groupby(places, self.results.file.__getitem__):
@@ -185,11 +226,9 @@ class Hunt:
         """The texts of results of one line. Wrong if it has others."""
         results = self.results
         file.seek(offset)
-        line = file.readline()
-        row = listed(line)
-        texts = None if row else columns_of(object_of(line))[-1]
+        texts = columns_of(object_of(file.readline()))[-1]
         for place in places:
-            found = texts.of(results.place[place]) if texts else row.text if row else b""
+            found = texts.of(results.place[place])
             if results.places.get(results.digest(results.ending[place], found)) != place:
                 raise Wrong
             yield found
@@ -202,20 +241,14 @@ def unexplained(told: Told) -> Told:
     return dataclasses.replace(told, members={**told.members, "places": places, "words": []})
 
 
-def added_steps(heads: Sequence[Head]) -> Optional[int]:
-    """How many steps all of them have, None where one doesn't say."""
-    steps = [head.steps for head in heads if head.steps is not None]
-    return sum(steps) if len(steps) == len(heads) else None
-
-
 def head_of(parts: Sequence[Part]) -> Head:
     """The head of all runs."""
     heads = [part.head for part in parts]
     flaws = {name: heads[0].flaws[name] for name in FLAWS}
     for head in heads[1:]:
         flaws = {name: flaws[name].added(head.flaws[name]) for name in FLAWS}
-    return dataclasses.replace(heads[0], runs=sum(head.runs for head in heads), all_stopped=sum(head.all_stopped for head in heads),
-                               left_out=sum(head.left_out for head in heads), steps=added_steps(heads), flaws=flaws)
+    sums = {name: sum(getattr(head, name) for head in heads) for name in ("runs", "all_stopped", "left_out", "steps")}
+    return dataclasses.replace(heads[0], flaws=flaws, **sums)
 
 
 # ---- what doesn't belong together
@@ -268,20 +301,20 @@ def missing(parts: Sequence[Part], runs: int) -> Iterator[Tuple[int, int]]:
 
 def json_lines(hunt: Hunt) -> Iterator[bytes]:
     """The lines that one hunt of all runs prints with --json, but for the last."""
-    yield written.line_of({**hunt.parts[0].opening, written.PART: written.FORM})
+    yield written.line_of(hunt.parts[0].opening)
     head = hunt.head
     counts: Json = {name: dataclasses.asdict(count) for name, count in head.flaws.items()}
     yield written.line_of({"hunt": FORM_OF_HUNT, "seed": head.seed, "from": head.start, "runs": head.runs, "expects": head.expects,
                            "all_stopped": head.all_stopped, "left_out": head.left_out, "steps": head.steps, **counts})
     numbers: Dict[str, int] = {}
-    for told in hunt.tallies["race"].in_order():
-        yield told_line(told)
+    yield from map(told_line, hunt.tallies["race"].in_order())
     for told in hunt.endings():
         numbers[told.members["end"]] = told.members["number"] = len(numbers)
         yield told_line(told)
     yield from written.result_lines(result_rows(hunt, numbers))
-    for told in hunt.tallies["missed"].in_order():
-        yield told_line(told)
+    for what in ("missed", "finding"):
+        yield from map(told_line, hunt.tallies[what].in_order())
+    yield from (written.source_line(source.name, source.numbers, source.executed) for source in hunt.sources)
     kinds = hunt.kinds()
     yield from written.kinds_lines(list(kinds), list(kinds.values()))
 

@@ -1,100 +1,204 @@
 """The text of a hunt, as `./hunt MACHINE` prints it, of the sum of its parts."""
-from typing import Dict, Iterable, Iterator, List
+import itertools
+import operator
+import re
+from typing import Dict, Iterable, Iterator, List, Optional
 
-from celltools.common.texts import decoded, lines_in
-from celltools.hunt.advice import advice
+from celltools.common.texts import decoded, lines_in, quoted
+from celltools.hunt.endings import STOPPED, end_word
+from celltools.hunt.findings import FINDING_KINDS
 from celltools.hunt.reading import Count
-from celltools.hunt.spent import folded
-from celltools.hunt.sums import MOST_RESULTS, SHOWN_RESULTS, Hunt, Told
-from celltools.hunt.words import with_places
+from celltools.hunt.sums import Hunt, SourceLines, Told
 
-FOUND = {
-    "race": "have a race", "stuck": "are stuck", "budget": "spent the budget", "fault": "have a fault", "halt": "have a halt", "missed": "miss a line",
-}  # fmt: skip
-NONE_FOUND = "none has a race, is stuck, spends the budget, faults or halts"
+FEW_FINDINGS = 4  # that are printed unless all are asked for
+MOST_ENDINGS = 8  # that begin with AllStopped, and are printed
+MOST_RESULTS = 8  # of an ending, of which the counts are printed
+MOST_SPANS = 8  # of lines of a source that no run executed
+COMPARED = 2  # results of an ending: the first line in which they differ is printed
+ONE_PERCENT = 100
+NOTHING = "nothing more"
+SHOWN = re.compile(r"(mem|ls (\d+)) 0x([0-9a-f]+) ([0-9a-f]+)", re.A)
+GUIDE = "docs/guide/hunting.md"
 
 
-def head_line(hunt: Hunt) -> str:
+# ---- words
+
+def counted(number: int, what: str, several: str = "") -> str:
+    return f"{number} {what}" if number == 1 else f"{number} {several or f'{what}s'}"
+
+
+def in_runs(count: Count) -> str:
+    return f"{counted(count.runs, 'run')} (first: run {count.first})"
+
+
+class Commands:
+    """The commands for runs of a hunt, with the folder of the tools as a user calls them."""
+
+    def __init__(self, hunt: Hunt, tools: str) -> None:
+        self.tools, self.machine, self.seed = tools, quoted(hunt.machine), hunt.head.seed
+
+    def of(self, tool: str, run: Optional[int]) -> str:
+        seed = "" if self.seed == 1 else f"--seed {self.seed} "
+        return f"{quoted(f'{self.tools}/{tool}')} --run {run} {seed}{self.machine}"
+
+
+# ---- the first line
+
+def outcome(hunt: Hunt) -> str:
+    """What was found, or what was looked for."""
+    flaws = hunt.head.flaws
+    found = [f"{kind.outcome} in {counted(flaws[kind.flaw].runs, 'run')}" for kind in FINDING_KINDS.values() if flaws[kind.flaw].runs]
+    if found:
+        return ", ".join(found)
+    return "no data race, halt, fault, deadlock" + (", spent budget or missing line" if hunt.head.expects else " or spent budget")
+
+
+def unexecuted_note(hunt: Hunt) -> str:
+    """How many lines no run executed, if there are any."""
+    lines, executed = sum(len(source.numbers) for source in hunt.sources), sum(sum(source.executed) for source in hunt.sources)
+    return f"; {lines - executed} of {lines} lines with instructions never executed" if executed < lines else ""
+
+
+def first_line(hunt: Hunt) -> str:
     head = hunt.head
     start = f" from run {head.start}" if head.start else ""
-    ends = f"{head.all_stopped} AllStopped, {head.flaws['stuck'].runs} Stuck, {head.flaws['budget'].runs} Budget"
-    return f"{head.runs} runs of seed {head.seed}{start}: {ends}"
+    return f"{hunt.machine}: {counted(head.runs, 'run')}{start}, seed {head.seed}: {outcome(hunt)}{unexecuted_note(hunt)}"
 
 
-def found_line(hunt: Hunt) -> str:
-    """What was found, or what was looked for."""
-    found = [f"{count.runs} {FOUND[name]}, the first is run {count.first}" for name, count in hunt.head.flaws.items() if count.runs]
-    if found:
-        return "; ".join(found)
-    return NONE_FOUND + (", and none misses a line" if hunt.head.expects else "")
+# ---- findings
+
+def finding_head(found: Told, runs: int) -> str:
+    return f"{FINDING_KINDS[found.members['finding']].name} in {found.count.runs} of {counted(runs, 'run')} (first: run {found.count.first})"
 
 
-def kinds_line(hunt: Hunt) -> str:
-    """How many kinds of runs there are, and the estimate of how many are still to be seen."""
-    kinds = hunt.kinds()
-    once = sum(runs == 1 for runs in kinds.values())
-    return f"kinds {len(kinds)}, seen once {once}: some {once} in {hunt.head.runs} further runs would be of a new kind"
+def finding_lines(found: Told, runs: int, commands: Commands) -> Iterator[str]:
+    """The head of a finding, its lines and its commands."""
+    yield ""
+    yield finding_head(found, runs)
+    yield from lines_in(found.members["shown"].encode("latin-1"))  # it has a character a byte
+    for label, tool in FINDING_KINDS[found.members["finding"]].commands:
+        yield f"  {label}: {commands.of(tool, found.count.first)}"
 
 
-def counted(count: Count) -> str:
-    return f"{count.runs} {count.first}"
+def findings_lines(hunt: Hunt, commands: Commands, are_all: bool) -> Iterator[str]:
+    """The findings by their kinds, or a few of them and how many more there are."""
+    findings = hunt.findings()
+    shown = findings if are_all else findings[:FEW_FINDINGS]
+    for found in shown:
+        yield from finding_lines(found, hunt.head.runs, commands)
+    if len(findings) > len(shown):
+        yield from ("", f"and {counted(len(findings) - len(shown), 'more finding')}: --all prints them")
 
 
-def difference_lines(first: bytes, second: bytes) -> Iterator[str]:
-    """The first line in which the second of two results differs from the first."""
+# ---- endings
+
+def ends_line(hunt: Hunt) -> str:
+    head = hunt.head
+    ends = {STOPPED: head.all_stopped, "Stuck": head.flaws["stuck"].runs, "Budget": head.flaws["budget"].runs}
+    found = [f"{runs} {word}" for word, runs in ends.items() if runs]
+    return f"ends: {'all ' if len(found) == 1 else ''}{', '.join(found)}"
+
+
+def ending_lines(endings: List[Told]) -> Iterator[str]:
+    """The endings of runs in which all SPUs stopped, if there are several."""
+    stopped = [told for told in endings if end_word(told.members["end"]) == STOPPED]
+    if len(stopped) < 2:
+        return
+    for told in stopped[:MOST_ENDINGS]:
+        yield f"  {in_runs(told.count)}: {told.members['end']}"
+    if len(stopped) > MOST_ENDINGS:
+        yield f"  and {len(stopped) - MOST_ENDINGS} more"
+
+
+# ---- results
+
+def differing(first: bytes, second: bytes) -> List[str]:
+    """The first line in which the second of two results differs from the first, of both."""
     ours, theirs = lines_in(first), lines_in(second)
     place = next((place for place, (one, other) in enumerate(zip(ours, theirs)) if one != other), min(len(ours), len(theirs)))
-    for word, lines in (("differs", theirs), ("from", ours)):
-        yield f"{word}: {lines[place] if place < len(lines) else 'nothing more'}"
+    return [lines[place] if place < len(lines) else NOTHING for lines in (ours, theirs)]
 
 
-def shown_texts(hunt: Hunt, results: Iterable[List[int]]) -> Dict[int, bytes]:
-    """The texts of which the text has the difference, by their places. They are read in the order in which they are in the files."""
-    shown = [place for places in results if len(places) >= SHOWN_RESULTS for place in places[:SHOWN_RESULTS]]
+def differing_byte(first: str, second: str) -> Optional[str]:
+    """The first byte in which two shown lines differ, as `last` of the debugger takes it; None if they don't show the same bytes."""
+    ours, theirs = SHOWN.fullmatch(first), SHOWN.fullmatch(second)
+    if not ours or not theirs or ours.group(1, 3) != theirs.group(1, 3):
+        return None
+    place = next((place for place, (one, other) in enumerate(zip(ours[4], theirs[4])) if one != other), 0) // 2
+    return f"mem 0x{int(ours[3], 16) + place:08x} 1" if ours[2] is None else f"x{ours[2]} 0x{int(ours[3], 16) + place:05x} 1"
+
+
+def compared_texts(hunt: Hunt, results: Iterable[List[int]]) -> Dict[int, bytes]:
+    """The texts of which the report has the difference, by their places. They are read in the order in which they are in the files."""
+    shown = [place for places in results if len(places) >= COMPARED for place in places[:COMPARED]]
     shown.sort(key=hunt.results.first.__getitem__)
     return dict(zip(shown, hunt.texts(shown)))
 
 
-def result_lines(hunt: Hunt, places: List[int], texts: Dict[int, bytes]) -> Iterator[str]:
-    """The results that the runs of an ending left, if there is more than one."""
-    if len(places) < SHOWN_RESULTS:
+def result_lines(hunt: Hunt, ending: str, places: List[int], texts: Dict[int, bytes], commands: Commands) -> Iterator[str]:
+    """The results that the runs of an ending in which all SPUs stopped left, if there are several."""
+    if len(places) < COMPARED:
         return
-    yield f"results {len(places)}"
-    for place in places[:MOST_RESULTS]:
-        yield f"result {counted(hunt.results.count(place))}"
-    if len(places) > MOST_RESULTS:
-        yield f"and {len(places) - MOST_RESULTS} more"
-    yield from difference_lines(*map(texts.pop, places[:SHOWN_RESULTS]))
+    counts = [hunt.results.count(place) for place in places[:MOST_RESULTS]]
+    more = [f"and {len(places) - MOST_RESULTS} more"] if len(places) > MOST_RESULTS else []
+    first, second = differing(*map(texts.pop, places[:COMPARED]))
+    byte = differing_byte(first, second)
+    yield f"results: {len(places)} different ones in the runs that end {ending}"
+    yield f"  {', '.join([*map(in_runs, counts), *more])}"
+    yield f"  run {counts[0].first}: {first}"
+    yield f"  run {counts[1].first}: {second}"
+    yield f"  who wrote it: {commands.of('debug', counts[0].first)}" + (f", then `run` and `last {byte}`" if byte else "")
 
 
-def finished(lines: List[str], machine: str, seed: int) -> List[str]:
-    """The text, whose lines have their places, as a user sees it."""
-    return [*folded(lines), *advice(lines, machine, seed)]
+# ---- coverage
+
+def coverage_line(hunt: Hunt) -> str:
+    """How many classes of equivalent runs there are, and the estimate of how many further runs would be of new ones."""
+    classes, runs = hunt.kinds(), hunt.head.runs
+    once = sum(count == 1 for count in classes.values())
+    known = f"coverage: {counted(len(classes), 'class', 'classes')} of equivalent runs"
+    if not once:
+        return f"{known}, each seen more than once"
+    percent = (ONE_PERCENT * once + runs // 2) // runs
+    some = "fewer than 1%" if 2 * ONE_PERCENT * once < runs else f"about {percent}%"
+    return f"{known}, {once} seen only once; {some} of further runs would be new"
 
 
-def lines_of_hunt(hunt: Hunt) -> List[str]:
-    """All lines of the text. What names a place in a source stands behind it, as ./hunt writes it."""
-    return finished(list(told_lines(hunt)), hunt.machine, hunt.head.seed)
+def spans_of(source: SourceLines) -> Iterator[str]:
+    """The spans of lines of a source that no run executed. Lines without an instruction don't end a span."""
+    name = decoded(source.name.encode("latin-1"))
+    for is_executed, lines in itertools.groupby(zip(source.numbers, source.executed), operator.itemgetter(1)):
+        numbers = [number for number, _ in lines]
+        if not is_executed:
+            yield f"{name}:{numbers[0]}" + (f"-{numbers[-1]}" if len(numbers) > 1 else "")
 
 
-def told_lines(hunt: Hunt) -> Iterator[str]:
-    yield head_line(hunt)
-    yield found_line(hunt)
-    yield kinds_line(hunt)
-    for race in hunt.tallies["race"].in_order():
-        yield f"race {counted(race.count)}{told_places('race', race)}"
-    results: Dict[str, List[int]] = hunt.results.by_ending()
-    texts = shown_texts(hunt, results.values())
-    for ending in hunt.endings():
-        yield f"end {counted(ending.count)} {told_places('end', ending)}"
-        yield from (f"    {word}" for word in ending.members["words"])
-        yield from result_lines(hunt, results.get(ending.members["end"], []), texts)
-    for line in hunt.tallies["missed"].in_order():
-        yield f"missed {counted(line.count)} {decoded(line.members['missed'].encode('latin-1'))}"  # it has a character a byte
+def unexecuted_lines(hunt: Hunt) -> Iterator[str]:
+    """For each source the first spans of lines that no run executed, and how many more there are."""
+    for source in hunt.sources:
+        spans = list(spans_of(source))
+        more = f" and {len(spans) - MOST_SPANS} more" if len(spans) > MOST_SPANS else ""
+        if spans:
+            yield f"never executed: {' '.join(spans[:MOST_SPANS])}{more}"
+
+
+# ---- all
+
+def lines_of_hunt(hunt: Hunt, tools: str, are_all: bool) -> Iterator[str]:
+    """All lines of the text."""
+    commands, endings = Commands(hunt, tools), hunt.endings()
+    yield first_line(hunt)
+    yield from findings_lines(hunt, commands, are_all)
+    yield ""
+    yield ends_line(hunt)
+    yield from ending_lines(endings)
+    results = {ending: places for ending, places in hunt.results.by_ending().items() if end_word(ending) == STOPPED}
+    texts = compared_texts(hunt, results.values())
+    for told in endings:
+        yield from result_lines(hunt, told.members["end"], results.get(told.members["end"], []), texts, commands)
+    yield coverage_line(hunt)
+    yield from unexecuted_lines(hunt)
     if hunt.head.left_out:
-        yield f"left out {hunt.head.left_out}"
-
-
-def told_places(what: str, told: Told) -> str:
-    """A line's parts with the places of their instructions, where these are known."""
-    return with_places(told.members[what], told.members["places"])
+        yield f"suppressed: {counted(hunt.head.left_out, 'run has', 'runs have')} a data race that --pass names"
+    if not any(count.runs for count in hunt.head.flaws.values()):
+        yield f"other runs may still fail: {GUIDE} says what such a hunt misses"

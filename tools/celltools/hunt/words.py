@@ -1,7 +1,7 @@
-"""What ./hunt adds to what its program prints: behind each place of an instruction the file and the line that placed it, and under each ending that isn't as it
-should be what its processors wait for, or what their faults were. Of the objects of --json it adds the same as members, `places` and `words`."""
+"""The members `places` and `words` that a part adds to the objects of the program: the file and the line of each instruction, and what the SPUs of an ending
+wait for or what their faults were."""
 import re
-from typing import Iterator, List, Mapping, NamedTuple, Optional, Sequence
+from typing import List, Mapping, NamedTuple, Optional, Sequence
 
 from celltools.hunt.endings import STOPPED, Explained, has_fault, has_halt
 from celltools.run.hunted import record_of_hunt
@@ -39,12 +39,6 @@ def places_of(sites: Sites, line: str) -> List[Optional[str]]:
     return [place_of(sites, part) for part in line.split(" | ")[1:]]
 
 
-def with_places(line: str, places: Sequence[Optional[str]]) -> str:
-    """The line with the places of its parts."""
-    head, *parts = line.split(" | ")
-    return " | ".join([head, *(f"{part} {place}" if place else part for part, place in zip(parts, places))])
-
-
 class Ending(NamedTuple):
     """What is added to an ending: lines of words, and the places of faults and halts, by the processors."""
     words: Sequence[str] = ()
@@ -71,20 +65,3 @@ class Explainer:
 def end_places(sites: Sites, ending: str, found: Ending) -> List[Optional[str]]:
     """The places of an ending's processors: of one that runs where it is, and of one with a fault or a halt where that came."""
     return [place or found.places.get(spe) for spe, place in enumerate(places_of(sites, ending))]
-
-
-def end_line(sites: Sites, line: str, found: Ending) -> str:
-    """The line of an ending with the places of its processors."""
-    return with_places(line, end_places(sites, line, found))
-
-
-def explained(lines: List[str], sites: Sites, explainer: Explainer) -> Iterator[str]:
-    """The lines of the text with their places, and with words under endings."""
-    for line in lines:
-        if line.startswith("end "):
-            _, _, run, ending = line.split(" ", 3)
-            found = explainer.of(ending, int(run), sites)
-            yield end_line(sites, line, found)
-            yield from (f"    {words}" for words in found.words)
-        else:
-            yield with_places(line, places_of(sites, line))

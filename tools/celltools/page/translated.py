@@ -2,7 +2,7 @@
 import ast
 import json
 import pathlib
-from typing import Dict, Iterator, List
+from typing import Dict, Iterator
 
 from celltools.common.repository import ROOT
 from celltools.page.bundle import Unmade
@@ -10,7 +10,6 @@ from celltools.translation.scopes import Untranslated
 from celltools.translation.statements import module_code
 
 TOOLS = ("explain", "picture", "states", "witness")  # those that the page asks
-MODULES = ("celltools.hunt.spent", "celltools.hunt.words")  # and the modules besides
 LEFT = {f"celltools.common.{name}" for name in ("starting", "ending", "words", "writing")}  # for which page/python/runtime.js stands
 READ = ("crates/spu_decode/specs/Table.antt", "tools/celltools/picture/picture.css", "tools/celltools/picture/picture.html")  # and picture's scripts
 
@@ -32,7 +31,7 @@ def file_of(name: str) -> pathlib.Path:
 def modules() -> Dict[str, str]:
     """The tools and all modules that they import, with their texts."""
     found: Dict[str, str] = {}
-    waiting: List[str] = [*TOOLS, *MODULES]
+    waiting = list(TOOLS)
     while waiting:
         name = waiting.pop()
         if name in found or name in LEFT or not (name in TOOLS or name.startswith("celltools.")) or not file_of(name).is_file():

@@ -5,11 +5,12 @@ import re
 from typing import TYPE_CHECKING, Iterable, List, Optional, Set, Tuple
 
 from celltools.order.graph import Order
+from celltools.order.others import race_of
 from celltools.order.reasons import Race
 from celltools.picture.ending import Ending, ending_of
 from celltools.picture.rows import own_rows
-from celltools.run.effects import Key, Trace, shared_bytes
-from celltools.run.runs import Path, Refused, ask_tracer, verdict
+from celltools.run.effects import Key, Trace
+from celltools.run.runs import Path, ask_tracer, verdict
 from celltools.source.sites import Sites
 from celltools.telling.words import Teller
 
@@ -84,17 +85,7 @@ class Run:
     @functools.cached_property
     def race(self) -> Optional[Race]:
         """The race that is drawn; None where there is none. Refused where the two steps that were asked for are none."""
-        if self.pair is None:
-            return None
-        first, second = self.pair
-        if not first < second < self.count:
-            raise Refused(f"--race {first} {second}: give two steps in order, from 0 to {self.count - 1}")
-        race = Race(self.teller, first, second, self.order.before(second), self.order)
-        if first in race.before:
-            raise Refused(f"steps {first} and {second} do not race: step {first} happens before step {second}")
-        if not shared_bytes(race.one, race.two):
-            raise Refused(f"steps {first} and {second} do not race: neither writes a byte that the other touches")
-        return race
+        return None if self.pair is None else race_of(self.teller, self.order, *self.pair)
 
     @functools.cached_property
     def ending(self) -> Ending:

@@ -2,8 +2,8 @@
 from typing import Iterable, List, Optional, Tuple
 
 from celltools.order.graph import Link, Past
+from celltools.order.others import other_races
 from celltools.order.reasons import BEFORE, REASONS, SHARED, Race, fix_title
-from celltools.picture.others import other_races
 from celltools.picture.run import Run
 from celltools.run.effects import shared_bytes
 
@@ -36,7 +36,7 @@ def race_pairs(race: Race) -> List[Link]:
 
 def other_words(run: Run, race: Race) -> Optional[List[Tuple[int, int, str]]]:
     """The other races, each as its two steps and what draws it; None where the record is too long to look for them."""
-    found = [] if run.whole else other_races(run, race)  # a short record is made for one race
+    found = [] if run.whole else other_races(race)  # a short record is made for one race
     return None if found is None else [(first, second, f"{run.teller.what(first)}; {run.teller.what(second)}") for first, second in found]
 
 

@@ -7,7 +7,7 @@ use Rattle.cell_forms.specs.declared.fault.FileId.TheVariants.{Source}
 use Rattle.cell_forms.specs.Forms.{with_image}
 use Rattle.cell_forms.proofs.Steps.{leads_on, leads_image, refuses_image, refuses_after}
 use Rattle.hunt_forms.specs.declared.sources.Assembled.{Assembled}
-use Rattle.hunt_forms.proofs.SourceLaws.{to_text, text_read, refuses_text, lines_read}
+use Rattle.hunt_forms.proofs.SourceLaws.{to_text, text_read, refuses_text, lines_read, statements_read}
 use Rattle.hunt_forms.proofs.sources.read_source.Goals as goal
 
 pub returns-in_err-text-clause-comes : goal.returns-in_err-text-clause-comes
@@ -26,6 +26,11 @@ returns-in-Ok-clause-lines g c = λ told is.
     lines_read told c.args.name.now c.in_ok-text.text.items c.in-Ok.source.lines.items
     (text_read told (Source c.args.number) c.args.name.now c.in_ok-text.text.items (c.in_ok-text.ensures.comes told is to_text))
     (rw c.as_slice.ensures.value at c.in-Ok.ensures.lines)
+
+pub returns-in-Ok-clause-statements : goal.returns-in-Ok-clause-statements
+returns-in-Ok-clause-statements g c = λ told is.
+    statements_read told c.args.name.now c.in_ok-text.text.items _ (text_read told (Source c.args.number) c.args.name.now c.in_ok-text.text.items (c.in_ok-text.ensures.comes told is to_text))
+    (rw c.as_slice.ensures.value at c.in-Ok.ensures.statements)
 
 pub returns-clause-comes : goal.returns-clause-comes
 returns-clause-comes g c = λ told is next.

@@ -41,8 +41,8 @@ loop-source-preserved g c = record {
       (c.in_ok-read.ensures.comes told (s.same ∙ is) go));
   listed = λ told is.
       let s = c.loop-source.invariant in
-      sources_more told c.args.names.now c.loop-source.source-index c.source-item.result c.name-name.result.now c.in_ok-read.read.lines.items c.loop-source.sources.listed.items _ (omega arith) c.source-item.is c.name-name.ensures
-      (c.in_ok-read.ensures.lines told (s.same ∙ is)) c.in-Ok.ensures.listed (s.listed told is);
+      sources_more told c.args.names.now c.loop-source.source-index c.source-item.result c.name-name.result.now c.in_ok-read.read.lines.items _ c.loop-source.sources.listed.items _ (omega arith) c.source-item.is c.name-name.ensures
+      (c.in_ok-read.ensures.lines told (s.same ∙ is)) (c.in_ok-read.ensures.statements told (s.same ∙ is)) c.in-Ok.ensures.listed (s.listed told is);
 }
 
 pub returns-clause-comes : goal.returns-clause-comes

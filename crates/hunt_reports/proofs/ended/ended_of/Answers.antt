@@ -2,14 +2,14 @@ use Rattle.std.proofs.Common.{◌++◌, ◌∷◌, [], map, length, sym, ap, ◌
 use Rattle.std.proofs.lemmas.List.{length_push}
 use Rattle.cell_machine.specs.Opening.{Opening}
 use Rattle.cell_machine.specs.Run.{state_of}
-use Rattle.hunt_reports.specs.declared.ended.Ended.{Ended}
+use Rattle.hunt_reports.specs.declared.ended.AtEnd.{AtEnd}
 use Rattle.hunt_reports.specs.Endings.{ended_in}
 use Rattle.hunt_reports.proofs.Ends.{ended_more, spe_at, of_state, take_past}
 use Rattle.hunt_reports.proofs.ended.ended_of.Goals as goal
 
 pub loop-p-preserved : goal.loop-p-preserved
 loop-p-preserved c =
-    let e : Ended = record { status = c.status.result; pc = c.pc.result } in
+    let e : AtEnd = record { status = c.status.result; pc = c.pc.result } in
     record {
       ended = λ M at.
           let here = spe_at (state_of c.args.m.now) c.loop-p.p _ _ M at c.status.ensures c.pc.ensures in

@@ -1,6 +1,6 @@
 use Rattle.std.proofs.Common.{sym, ap, ◌∙◌}
 use Rattle.cell_base.specs.Words.{lines_of}
-use Rattle.hunt_texts.specs.Texts.{next_line}
+use Rattle.hunt_texts.specs.Results.{next_line}
 use Rattle.hunt_texts.proofs.LineLemmas.{no_lines, is_nil}
 use Rattle.hunt_texts.proofs.results.next_line.Goals as goal
 

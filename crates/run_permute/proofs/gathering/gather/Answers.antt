@@ -6,7 +6,7 @@ use Rattle.cell_machine.specs.Run.{Ran}
 use Rattle.cell_machine.proofs.Same.{get-last}
 use Rattle.run_walk.specs.Walks.{walked}
 use Rattle.race_check.proofs.Prefixes.{first-all, may-make}
-use Rattle.reorder.specs.Gathered.{Gathers}
+use Rattle.run_permute.specs.Gathered.{Gathers}
 use Rattle.run_permute.proofs.gathering.gather.Goals as goal
 
 pub unreachable-requires : goal.unreachable-requires

@@ -1,7 +1,7 @@
 use Rattle.std.proofs.Common.{◌≡◌}
 use Rattle.run_walk.specs.Walks.{Stands, walked}
 use Rattle.race_check.proofs.Prefixes.{first_of}
-use Rattle.reorder.specs.Gathered.{Gathers}
+use Rattle.run_permute.specs.Gathered.{Gathers}
 use Rattle.run_permute.proofs.gathering.gather.Given as goal
 
 -- the first steps were made again

@@ -1,4 +1,4 @@
-use Rattle.std.proofs.Common.{◌≡◌, ◌+◌, length, None, sym, ap, ◌∙◌, subst, [], ◌∷◌, length-append}
+use Rattle.std.proofs.Common.{◌≡◌, ◌+◌, length, None, sym, ap, ◌∙◌, subst, [], ◌∷◌, ◌++◌, length-append}
 use Rattle.cell_machine.specs.Run.{Ran}
 use Rattle.race_check.specs.Races.{TellsLatest}
 use Rattle.race_check.specs.Searches.{Keeps, run_of}
@@ -7,13 +7,14 @@ use Rattle.race_check.proofs.Accepted.{search-told}
 use Rattle.cell_hunt.specs.declared.so_far.SoFar.{SoFar}
 use Rattle.cell_hunt.specs.Endings.{HasNote}
 use Rattle.cell_hunt.specs.Origins.{Knows}
+use Rattle.cell_hunt.specs.Executed.{executed_by, executed_in}
 use Rattle.cell_hunt.specs.Kinds.{touchable, touches_in}
 use Rattle.cell_hunt.specs.Runs.{with_step}
 use Rattle.cell_hunt.specs.SoFar.{AreEndingsTo, AreRacesTo, IsLeastTo, IsSearchedTo, made_by}
 use Rattle.cell_hunt.specs.Touched.{AreDigests, HasTouched}
 use Rattle.cell_hunt.proofs.AllEndings.{endings-on, last-note}
 use Rattle.cell_hunt.proofs.AllRaces.{least-none, least-on, races-none, races-on}
-use Rattle.cell_hunt.proofs.Touching.{touches_more}
+use Rattle.cell_hunt.proofs.Touching.{executed_more, touches_more}
 use Rattle.cell_hunt.proofs.so_far.SoFar.advance.Goals as goal
 use Rattle.cell_hunt.proofs.so_far.SoFar.advance.Goals.{In_ok-add_ending}
 
@@ -44,6 +45,7 @@ touched c =
     record {
       long = c.in_ok-add-2.ensures.long ∙ has.long ∙ ap (λ (r : Ran). touchable r.setup.lines) (sym made);
       are = subst (λ all. AreDigests all c.add-2.new.self.digests) (sym (ap touches_in made ∙ touches_more m c.args.step c.args.effect.now was effect)) (c.in_ok-add-2.ensures.more (touches_in m) has.are);
+      executed = c.in_ok-add-2.ensures.executed ∙ ap (λ xs. xs ++ executed_by c.args.step c.args.effect.now) has.executed ∙ sym (ap executed_in made ∙ executed_more m c.args.step c.args.effect.now was effect);
     }
 
 -- how many steps there are then

@@ -1,0 +1,38 @@
+-- The processors that run, one after the other.
+use Rattle.std.proofs.Common.{◌≡◌, ℕ, suc, ◌+◌, ◌<◌, ◌≤◌, List, [], ◌++◌, length, length-append, get_or, drop, drop-cons, sym, ap, ◌∙◌, append_assoc, append-nil, arith}
+use Rattle.std.proofs.lemmas.List.{nil_from_length, length-drop}
+use Rattle.cell_machine.specs.declared.status.Status.{Status}
+use Rattle.cell_machine.specs.declared.status.Status.TheVariants.{Running, Stopped, Halted, BadWord, BadChannel, DmaFault}
+use Rattle.hunt_reports.specs.declared.ended.AtEnd.{AtEnd}
+use Rattle.hunt_reports.specs.declared.locations.Location.{Location}
+use Rattle.hunt_reports.specs.Waits.{running_at, running_from}
+
+one_at_most : (p pc : ℕ) (status : Status) → length (running_at p pc status) ≤ 1
+one_at_most p pc Running = omega arith
+one_at_most p pc (Stopped code) = omega arith
+one_at_most p pc Halted = omega arith
+one_at_most p pc BadWord = omega arith
+one_at_most p pc BadChannel = omega arith
+one_at_most p pc (DmaFault kind) = omega arith
+
+pub few_more : (out new : List Location) (p pc i : ℕ) (status : Status) → new ≡ out ++ running_at p pc status → length out ≤ i → length new ≤ i + 1
+few_more out new p pc i status is few =
+    let one = one_at_most p pc status in
+    let all = ap length is ∙ length-append out (running_at p pc status) in
+    omega (arith, one, all, few)
+
+pub running_more : (out whole : List Location) (d : AtEnd) (p i : ℕ) (es : List AtEnd) → i < length es → out ++ running_from p (drop i es) ≡ whole
+    → (out ++ running_at p (get_or es i d).pc (get_or es i d).status) ++ running_from (p + 1) (drop (i + 1) es) ≡ whole
+unfolding running_from
+running_more out whole d p i es inside so_far =
+    let one : suc p ≡ p + 1 = omega arith in
+    let next : suc i ≡ i + 1 = omega arith in
+    let here : out ++ running_from p (drop i es) ≡ (out ++ running_at p (get_or es i d).pc (get_or es i d).status) ++ running_from (suc p) (drop (suc i) es)
+    = rw (drop-cons es i d inside) (sym (append_assoc out (running_at p (get_or es i d).pc (get_or es i d).status) (running_from (suc p) (drop (suc i) es)))) in
+    rw (← one, ← next) (sym here ∙ so_far)
+
+pub running_all : (out whole : List Location) (p i : ℕ) (es : List AtEnd) → length es ≤ i → out ++ running_from p (drop i es) ≡ whole → out ≡ whole
+unfolding running_from
+running_all out whole p i es past so_far =
+    let none : drop i es ≡ [] = nil_from_length (drop i es) (omega (arith, length-drop i es)) in
+    sym (append-nil out) ∙ (rw none at so_far)

@@ -1,0 +1,9 @@
+use Rattle.std.proofs.Common.{◌≡◌, ℕ, ◌+◌, ◌-◌, length}
+use Rattle.hunt_tally.specs.Executed.{is_marked}
+use Rattle.hunt_tally.proofs.executed.mark.Given as goal
+
+abbrev pub invariant-loop-marks : goal.invariant-loop-marks
+invariant-loop-marks l = (n : ℕ) → is_marked l.marks.items n ≡ is_marked l.initial.marks.items n
+
+abbrev pub decreases-loop-marks : goal.decreases-loop-marks
+decreases-loop-marks l = l.number + 1 - length l.marks.items

@@ -1,0 +1,60 @@
+//! The findings by kind.
+
+ghost use Rattle.std.specs.Prelude.{◌≡◌, ◌++◌, [], ◌∷◌, if◌then◌else◌, map, IfOk, OnOk};
+ghost use Rattle.hunt_tally.specs.Tallies.{told_in};
+ghost use Rattle.hunt_tally.specs.Lines.{told_by};
+ghost use Rattle.hunt_texts.specs.Findings.{is_of_kind, of_kind, by_kind};
+ghost use Rattle.hunt_texts.specs.Founds.{found_by};
+
+use crate::finding::Finding;
+use hunt_tally::{Line, Tally};
+use std::alloc::{AllocError, Global};
+
+/// A finding, and its kind.
+#[derive(Clone, Copy)]
+pub struct Found<'a> {
+    pub kind: Finding,
+    pub line: Line<'a>,
+}
+
+/// Adds a finding that is of a kind, and no other.
+fn add_if_of<'a>(
+    found: &mut Vec<Found<'a>>,
+    kind: Finding,
+    line: Line<'a>,
+) -> Result<(), AllocError>
+    ensures { OnOk result (map found_by found.new.items ≡ map found_by found.old.items ++ (if is_of_kind kind (told_by line.entry) then record { kind = kind; told = told_by line.entry } ∷ [] else [])) }
+{
+    if kind.is_of(line) {
+        found.push(Found { kind, line })?;
+    }
+    Ok(())
+}
+
+/// Adds the findings of a kind.
+fn add_kind<'a>(
+    found: &mut Vec<Found<'a>>,
+    kind: Finding,
+    findings: &'a Tally,
+) -> Result<(), AllocError>
+    ensures { OnOk result (map found_by found.new.items ≡ map found_by found.old.items ++ of_kind kind (told_in findings.now)) }
+{
+    for place in 0..findings.len() {
+        add_if_of(found, kind, findings.get(place))?;
+    }
+    Ok(())
+}
+
+/// The findings, by kind.
+pub fn by_kind<'a>(alloc: Global, findings: &'a Tally) -> Result<Vec<Found<'a>>, AllocError>
+    ensures { IfOk result (λ v. map found_by v.items ≡ by_kind (told_in findings.now)) }
+{
+    let mut found = Vec::new(alloc);
+    add_kind(&mut found, Finding::Race, findings)?;
+    add_kind(&mut found, Finding::Halt, findings)?;
+    add_kind(&mut found, Finding::Fault, findings)?;
+    add_kind(&mut found, Finding::Deadlock, findings)?;
+    add_kind(&mut found, Finding::Budget, findings)?;
+    add_kind(&mut found, Finding::Missed, findings)?;
+    Ok(found)
+}

@@ -1,0 +1,4 @@
+pub mod Losses
+pub mod Touches
+pub mod Keeping
+pub mod Failing

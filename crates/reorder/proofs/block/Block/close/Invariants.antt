@@ -1,4 +1,0 @@
-use Rattle.reorder.proofs.block.Block.close.Given as goal
-
-abbrev pub ghost-close_all : goal.ghost-close_all
-ghost-close_all g a = g.here

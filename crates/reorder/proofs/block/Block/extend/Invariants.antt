@@ -1,4 +1,0 @@
-use Rattle.reorder.proofs.block.Block.extend.Given as goal
-
-abbrev pub ghost-extend_at : goal.ghost-extend_at
-ghost-extend_at g a = g.here

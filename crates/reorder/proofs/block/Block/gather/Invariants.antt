@@ -1,4 +1,0 @@
-use Rattle.reorder.proofs.block.Block.gather.Given as goal
-
-abbrev pub ghost-gather_strands : goal.ghost-gather_strands
-ghost-gather_strands g a = g.here

@@ -1,4 +1,0 @@
-use Rattle.reorder.proofs.block.Block.may_extend.Given as goal
-
-abbrev pub ghost-may_extend : goal.ghost-may_extend
-ghost-may_extend g a = g.here

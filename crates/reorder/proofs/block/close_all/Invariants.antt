@@ -1,9 +1,0 @@
-use Rattle.settled.specs.Lists.{AreChanged}
-use Rattle.reorder.specs.Tracks.{IsClosed}
-use Rattle.reorder.proofs.block.close_all.Given as goal
-
-abbrev pub ghost-close : goal.ghost-close
-ghost-close g a = g.here
-
-abbrev pub invariant-loop-k : goal.invariant-loop-k
-invariant-loop-k g l = AreChanged (IsClosed g.here.run g.here.place l.index) l.k l.initial.strands l.strands

@@ -1,4 +1,0 @@
-use Rattle.reorder.proofs.block.extend_at.Given as goal
-
-abbrev pub ghost-extend : goal.ghost-extend
-ghost-extend g a = g.here

@@ -1,4 +1,0 @@
-use Rattle.reorder.proofs.chain.is_apart.Given as goal
-
-abbrev pub ghost-is_known : goal.ghost-is_known
-ghost-is_known g a = g.here

@@ -1,4 +1,0 @@
-use Rattle.reorder.proofs.strand.Strand.gather.Given as goal
-
-abbrev pub ghost-gather_last : goal.ghost-gather_last
-ghost-gather_last g a = g.here

@@ -1,4 +1,0 @@
-use Rattle.reorder.proofs.strand.Strand.is_behind.Given as goal
-
-abbrev pub ghost-is_before : goal.ghost-is_before
-ghost-is_before g a = g.here

@@ -1,4 +1,0 @@
-use Rattle.reorder.proofs.strand.Strand.may_extend.Given as goal
-
-abbrev pub ghost-is_behind : goal.ghost-is_behind
-ghost-is_behind g a = g.here

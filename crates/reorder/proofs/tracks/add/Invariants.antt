@@ -1,4 +1,0 @@
-use Rattle.reorder.proofs.tracks.add.Given as goal
-
-abbrev pub ghost-add : goal.ghost-add
-ghost-add g a = g.here

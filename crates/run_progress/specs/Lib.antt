@@ -1,0 +1,5 @@
+pub mod Made
+pub mod Changes
+pub mod Progress
+pub mod Repeats
+pub mod Tracks

@@ -1,5 +1,0 @@
-use Rattle.run_walk.specs.Walks.{walked}
-use Rattle.settled.proofs.before.is_before.Given as goal
-
-abbrev pub ghost-before : goal.ghost-before
-ghost-before g a = walked a.self.now

@@ -1,4 +1,0 @@
-use Rattle.settled.proofs.made.asked.Goals as goal
-
-pub asks-requires : goal.asks-requires
-asks-requires c = c.requires c.in-Exec.spe c.in-Exec.is

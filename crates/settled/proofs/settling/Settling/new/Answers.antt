@@ -1,6 +1,0 @@
-use Rattle.std.proofs.Common.{refl, sym, ◌∙◌}
-use Rattle.settled.proofs.Settlings.{begun-follows}
-use Rattle.settled.proofs.settling.Settling.new.Goals as goal
-
-pub returns : goal.returns
-returns c = λ setup many. begun-follows setup _ refl (c.in_ok-watches.ensures.many ∙ sym many) c.in_ok-watches.ensures.fresh

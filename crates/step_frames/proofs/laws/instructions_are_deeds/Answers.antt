@@ -1,6 +1,0 @@
-use Rattle.step_frames.proofs.laws.instructions_are_deeds.Goals as goal
-use Rattle.step_frames.proofs.Doing.{exec-does, exec-tells}
-use Rattle.step_frames.proofs.SameDeeds.{exec-same_deed, exec-finds, exec-kinds}
-
-pub returns : goal.returns
-returns c = record { does = exec-does; tells = exec-tells; same_deed = exec-same_deed; finds = exec-finds; kinds = exec-kinds }

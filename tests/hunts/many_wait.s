@@ -1,0 +1,4 @@
+# Waits for a message that nobody sends.
+	.text
+_start:	rdch	$3,$ch29
+	stop	1
