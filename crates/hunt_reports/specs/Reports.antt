@@ -43,11 +43,11 @@ flaws_by spes end livelock races missed = record {
   missed = is_some missed;
 }
 
--- by these flaws, how the processors ended, the end word, what is left, its races, findings and warnings, whether a race was left out, the lines that it misses, its kind, how many steps it has and the numbers of the instructions that it executed
-abbrev pub report_by : Flaws → List AtEnd → End → List ℕ → List Tells → List Tells → List Tells → Bool → List (List ℕ) → ℕ → ℕ → List ℕ → Reported
-report_by flaws spes end left races findings warnings leaves missed kind steps executed = record {
+-- by these flaws, how it ended, what is left, its races, findings and warnings, whether a race was left out, the lines that it misses, its kind, how many steps it has and the numbers of the instructions that it executed
+abbrev pub report_by : Flaws → List ℕ → List ℕ → List Tells → List Tells → List Tells → Bool → List (List ℕ) → ℕ → ℕ → List ℕ → Reported
+report_by flaws ending left races findings warnings leaves missed kind steps executed = record {
   flaws = flaws;
-  ending = ending_text end spes;
+  ending = ending;
   result = left;
   races = races;
   missed = missed;
@@ -73,7 +73,7 @@ abbrev pub report_in : State → List Show → End → Option Spent → List Rac
 report_in M shows end spent races endings warnings kind steps executed asked =
     report_by
     (flaws_by (map ended_in M.spes) end (has_livelock spent) (races_told asked.places (bytes_in asked.passed.items) races) (missed_of M shows end asked))
-    (map ended_in M.spes) end (result_of M shows) (races_told asked.places (bytes_in asked.passed.items) races)
+    (ending_text end (map ended_in M.spes)) (result_of M shows) (races_told asked.places (bytes_in asked.passed.items) races)
     (findings_in M end spent (missed_of M shows end asked) races endings asked) warnings (leaves_out asked.places (bytes_in asked.passed.items) races)
     (missed_of M shows end asked) kind steps executed
 

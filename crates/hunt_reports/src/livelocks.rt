@@ -7,7 +7,7 @@ use crate::locations::{Location, location_of, put_note_start, put_numbered, put_
 use crate::origins::Places;
 use crate::places::put_instruction;
 use crate::spent::{Loop, Polled, Spent};
-use crate::waits::{first_four, put_more};
+use crate::waits::{first_four, none_shown, put_more};
 use cell_base::line_text::{put_decimal, put_hex};
 use cell_hunt::Site;
 use hunt_tally::Telling;

@@ -113,7 +113,8 @@ fn first_in(here: Location, executed: Option<AddressRange>) -> Location
 
 /// What a processor did after the last change, if its PC is here.
 fn loop_of(run: &SeedRun, here: Location, progress: SpeProgress) -> Loop
-    requires { progress ≡ spe_progress (made_of run.now) here.spe }
+    requires progress { progress ≡ spe_progress (made_of run.now) here.spe }
+    requires long { length (made_of run.now) ≡ length run.now.steps }
     ensures { IsLoop run.now here result }
 {
     let last = match progress.executed {
@@ -135,6 +136,7 @@ fn spent_by(
     progress: &Progress,
 ) -> Result<Spent, AllocError>
     requires within { All (λ here. here.spe < length run.now.setup.entries) running.now }
+    requires long { length (made_of run.now) ≡ length run.now.steps }
     requires change { progress.now.last_change ≡ last_change (made_of run.now) }
     requires spes { progress.now.spes.items ≡ map (spe_progress (made_of run.now)) (range_with_len 0 (length run.now.setup.entries)) }
     ensures { IfOk result (IsSpent run.now running.now) }
