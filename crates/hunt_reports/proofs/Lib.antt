@@ -5,4 +5,5 @@ mod Spending
 pub mod Told
 pub mod Ends
 pub mod Lists
+mod Warned
 mod ReportParts
