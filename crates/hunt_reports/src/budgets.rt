@@ -50,11 +50,11 @@ pub fn take_spent(
     findings: &mut Vec<Telling>,
     places: &Places,
     running: &[Location],
-    spent: Option<&Spent>,
+    spent: &Option<Spent>,
 ) -> Result<(), AllocError>
     requires running { length running.now ≤ 16 }
-    requires loops { IfSome spent.entry (λ s. length s.loops.items ≤ 16) }
-    ensures { OnOk result (findings.new.items ≡ findings.old.items ++ spent_told places.now running.now spent.entry) }
+    requires loops { IfSome spent.now (λ s. length s.loops.items ≤ 16) }
+    ensures { OnOk result (findings.new.items ≡ findings.old.items ++ spent_told places.now running.now spent.now) }
 {
     let Some(spent) = spent else {
         return Ok(());

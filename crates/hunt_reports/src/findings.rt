@@ -46,12 +46,12 @@ pub fn take_end(
     places: &Places,
     running: &[Location],
     end: End,
-    spent: Option<&Spent>,
+    spent: &Option<Spent>,
     missed: &[Vec<u8>],
 ) -> Result<(), AllocError>
     requires running { length running.now ≤ 16 }
-    requires loops { IfSome spent.entry (λ s. length s.loops.items ≤ 16) }
-    ensures { OnOk result (findings.new.items ≡ findings.old.items ++ end_told places.now running.now end spent.entry (bytes_in missed.now)) }
+    requires loops { IfSome spent.now (λ s. length s.loops.items ≤ 16) }
+    ensures { OnOk result (findings.new.items ≡ findings.old.items ++ end_told places.now running.now end spent.now (bytes_in missed.now)) }
 {
     take_stuck(alloc, findings, places, running, end)?;
     take_spent(alloc, findings, places, running, spent)?;

@@ -44,11 +44,7 @@ fn put_written_by(
 }
 
 /// Writes who wrote bytes last, if a step did.
-fn put_written(
-    out: &mut Vec<u8>,
-    places: &Places,
-    writer: Option<Site>,
-) -> Result<(), AllocError>
+fn put_written(out: &mut Vec<u8>, places: &Places, writer: Option<Site>) -> Result<(), AllocError>
     ensures { OnOk result (out.new.items ≡ out.old.items ++ written_text places.now writer) }
 {
     match writer {
@@ -70,11 +66,7 @@ fn put_poll(out: &mut Vec<u8>, places: &Places, polled: Polled) -> Result<(), Al
 }
 
 /// Writes what an MFC polls, if it polls.
-fn put_polled(
-    out: &mut Vec<u8>,
-    places: &Places,
-    polled: Option<Polled>,
-) -> Result<(), AllocError>
+fn put_polled(out: &mut Vec<u8>, places: &Places, polled: Option<Polled>) -> Result<(), AllocError>
     ensures { OnOk result (out.new.items ≡ out.old.items ++ polled_text places.now polled) }
 {
     match polled {

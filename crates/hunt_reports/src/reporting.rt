@@ -64,11 +64,11 @@ fn steps_of(machine: &Machine) -> u32
 fn flaws_by(
     spes: &[AtEnd],
     end: End,
-    spent: Option<&Spent>,
+    spent: &Option<Spent>,
     races: &[Telling],
     missed: &[Vec<u8>],
 ) -> Flaws
-    ensures { result ≡ flaws_by spes.now end (has_livelock spent.entry) races.now (bytes_in missed.now) }
+    ensures { result ≡ flaws_by spes.now end (has_livelock spent.now) races.now (bytes_in missed.now) }
 {
     let livelock = has_livelock(spent);
     Flaws {
@@ -128,9 +128,29 @@ pub fn report_of(alloc: Global, run: &SeedRun, asked: &Asked) -> Result<Report, 
     let left = left_of(alloc, machine)?;
     let missed = missed_of(alloc, machine, asked.expected.as_slice())?;
     let mut found = races_of(alloc, run.races(), &asked.places, asked.passed.as_slice())?;
-    take_stops(alloc, &mut found.findings, &asked.places, machine, run.endings())?;
-    take_end(alloc, &mut found.findings, &asked.places, running.as_slice(), end, spent.as_ref(), missed.as_slice())?;
-    let flaws = flaws_by(spes.as_slice(), end, spent.as_ref(), found.races.as_slice(), missed.as_slice());
+    take_stops(
+        alloc,
+        &mut found.findings,
+        &asked.places,
+        machine,
+        run.endings(),
+    )?;
+    take_end(
+        alloc,
+        &mut found.findings,
+        &asked.places,
+        running.as_slice(),
+        end,
+        &spent,
+        missed.as_slice(),
+    )?;
+    let flaws = flaws_by(
+        spes.as_slice(),
+        end,
+        &spent,
+        found.races.as_slice(),
+        missed.as_slice(),
+    );
     Ok(report_by(
         flaws,
         ending_text(alloc, end, spes.as_slice())?,

@@ -63,8 +63,8 @@ pub fn is_livelock(spent: &Spent) -> bool
 }
 
 /// Whether the run spent its budget and is a livelock.
-pub fn has_livelock(spent: Option<&Spent>) -> bool
-    ensures { result ≡ has_livelock spent.entry }
+pub fn has_livelock(spent: &Option<Spent>) -> bool
+    ensures { result ≡ has_livelock spent.now }
 {
     match spent {
         Some(spent) => is_livelock(spent),

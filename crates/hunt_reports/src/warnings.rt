@@ -165,11 +165,7 @@ fn warnings_in(
 }
 
 /// The warnings of a run, if they are asked for.
-pub fn warnings_of(
-    alloc: Global,
-    run: &SeedRun,
-    asked: &Asked,
-) -> Result<Vec<Telling>, AllocError>
+pub fn warnings_of(alloc: Global, run: &SeedRun, asked: &Asked) -> Result<Vec<Telling>, AllocError>
     ensures { IfOk result (λ v. AreWarnings run.now asked.now.places asked.now.warns v.items) }
 {
     if !asked.warns {
