@@ -17,6 +17,9 @@ abbrev pub budget_told : Places → List Location → Spent → Tells
 budget_told places running s = record { key = codes "budget"; shown = running_shown places (codes " runs") running ++ progress_line s }
 
 -- the finding of a run in which these processors still run
+abbrev pub one_told : Places → List Location → Spent → Tells
+one_told places running s = if is_livelock s then livelock_told places s else budget_told places running s
+
 abbrev pub spent_told : Places → List Location → Option Spent → List Tells
-spent_told places running (Some s) = (if is_livelock s then livelock_told places s else budget_told places running s) ∷ []
+spent_told places running (Some s) = one_told places running s ∷ []
 spent_told places running None = []

@@ -30,10 +30,14 @@ abbrev pub first_in : Location → Option AddressRange → Location
 first_in here (Some range) = record { spe = here.spe; at = range.least }
 first_in here None = here
 
+-- the address of its last one
+abbrev pub last_in : Option AddressRange → Option ℕ
+last_in executed = option_map (λ (range : AddressRange). range.greatest) executed
+
 -- this is what the processor did that is here
 pub record DidLoop (progress : SpeProgress) (m : Ran) (here : Location) (o : Loop) : Type 0 where
   pub first : o.first ≡ first_in here progress.executed
-  pub last : o.last ≡ option_map (λ (range : AddressRange). range.greatest) progress.executed
+  pub last : o.last ≡ last_in progress.executed
   pub polled : BothOrNone (IsPoll m) progress.polled o.polled
 
 abbrev pub IsLoop : Ran → Location → Loop → Type 0

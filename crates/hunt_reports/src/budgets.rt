@@ -1,7 +1,7 @@
 //! The finding of a spent budget: a livelock, or a run that still progressed.
 
 ghost use Rattle.std.specs.Prelude.{◌≡◌, ◌≤◌, ◌<◌, ◌++◌, length, false, IfSome, IfOk, OnOk};
-ghost use Rattle.hunt_reports.specs.Budgets.{budget_told, progress_line, spent_told};
+ghost use Rattle.hunt_reports.specs.Budgets.{budget_told, one_told, progress_line, spent_told};
 ghost use Rattle.hunt_reports.specs.Spent.{is_livelock};
 
 use crate::livelocks::livelock_told;
@@ -44,6 +44,24 @@ fn budget_told(
     Ok(Telling { key, shown })
 }
 
+/// The finding of a spent budget.
+fn one_told(
+    alloc: Global,
+    places: &Places,
+    running: &[Location],
+    spent: &Spent,
+) -> Result<Telling, AllocError>
+    requires running { length running.now ≤ 16 }
+    requires loops { length spent.now.loops.items ≤ 16 }
+    ensures { IfOk result (λ t. t ≡ one_told places.now running.now spent.now) }
+{
+    if is_livelock(spent) {
+        livelock_told(alloc, places, spent)
+    } else {
+        budget_told(alloc, places, running, spent)
+    }
+}
+
 /// Takes in the finding of a spent budget, if it is spent.
 pub fn take_spent(
     alloc: Global,
@@ -56,14 +74,9 @@ pub fn take_spent(
     requires loops { IfSome spent.now (λ s. length s.loops.items ≤ 16) }
     ensures { OnOk result (findings.new.items ≡ findings.old.items ++ spent_told places.now running.now spent.now) }
 {
-    let Some(spent) = spent else {
-        return Ok(());
-    };
-    let finding = if is_livelock(spent) {
-        livelock_told(alloc, places, spent)?
-    } else {
-        budget_told(alloc, places, running, spent)?
-    };
-    findings.push(finding)?;
+    match spent {
+        Some(spent) => findings.push(one_told(alloc, places, running, spent)?)?,
+        None => {}
+    }
     Ok(())
 }

@@ -7,7 +7,7 @@ ghost use Rattle.cell_machine.specs.Run.{Ran};
 ghost use Rattle.run_progress.specs.Made.{made_of};
 ghost use Rattle.run_progress.specs.Progress.{last_change, spe_progress};
 ghost use Rattle.hunt_reports.specs.Lists.{BothOrNone};
-ghost use Rattle.hunt_reports.specs.Spent.{first_in, has_livelock, is_fair, is_livelock, IsLoop, IsPoll, IsSpent, IsSpentBy};
+ghost use Rattle.hunt_reports.specs.Spent.{first_in, has_livelock, is_fair, is_livelock, last_in, IsLoop, IsPoll, IsSpent, IsSpentBy};
 
 use crate::locations::Location;
 use cell_hunt::{SeedRun, Site};
@@ -111,21 +111,37 @@ fn first_in(here: Location, executed: Option<AddressRange>) -> Location
     }
 }
 
+/// The address of the last instruction of a loop.
+fn last_in(executed: Option<AddressRange>) -> Option<u32>
+    ensures { result ≡ last_in executed }
+{
+    match executed {
+        Some(range) => Some(range.greatest),
+        None => None,
+    }
+}
+
 /// What a processor did after the last change, if its PC is here.
 fn loop_of(run: &SeedRun, here: Location, progress: SpeProgress) -> Loop
     requires progress { progress ≡ spe_progress (made_of run.now) here.spe }
     requires long { length (made_of run.now) ≡ length run.now.steps }
     ensures { IsLoop run.now here result }
 {
-    let last = match progress.executed {
-        Some(range) => Some(range.greatest),
-        None => None,
-    };
     Loop {
         first: first_in(here, progress.executed),
-        last,
+        last: last_in(progress.executed),
         polled: polled_of(run, progress.polled),
     }
+}
+
+/// The progress of a processor.
+fn progress_at(progress: &Progress, spe: u8) -> SpeProgress
+    ghost m: { Ran }
+    requires spe { spe < length m.setup.entries }
+    requires spes { progress.now.spes.items ≡ map (spe_progress (made_of m)) (range_with_len 0 (length m.setup.entries)) }
+    ensures { result ≡ spe_progress (made_of m) spe }
+{
+    progress.spes[usize::from(spe)]
 }
 
 /// What the processors that run did after the last change.
@@ -143,8 +159,7 @@ fn spent_by(
 {
     let mut loops = Vec::new(alloc);
     for here in running {
-        let progress = progress.spes[usize::from(here.spe)];
-        loops.push(loop_of(run, *here, progress))?;
+        loops.push(loop_of(run, *here, progress_at(progress, here.spe)))?;
     }
     Ok(Spent {
         last_change: progress.last_change,

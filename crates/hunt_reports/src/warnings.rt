@@ -90,21 +90,19 @@ fn put_signal(out: &mut Vec<u8>, spe: u8, register: u8) -> Result<(), AllocError
     out.extend_from_slice(b" to a value that is never read")
 }
 
-/// What the step does that sets a value.
-fn set_text(alloc: Global, kind: LossKind) -> Result<Vec<u8>, AllocError>
-    ensures { IfOk result (λ v. v.items ≡ set_text kind) }
+/// Writes what the step does that sets a value.
+fn put_set(out: &mut Vec<u8>, kind: LossKind) -> Result<(), AllocError>
+    ensures { OnOk result (out.new.items ≡ out.old.items ++ set_text kind) }
 {
-    let mut out = Vec::new(alloc);
     match kind {
-        LossKind::Signal { spe, register } => put_signal(&mut out, spe, register)?,
+        LossKind::Signal { spe, register } => put_signal(out, spe, register),
         LossKind::FailedStore { .. } => {
-            out.extend_from_slice(b" stores nothing, and its status is never read")?
+            out.extend_from_slice(b" stores nothing, and its status is never read")
         }
         LossKind::TagStatus { .. } => {
-            out.extend_from_slice(b" sets a tag status that is never read")?
+            out.extend_from_slice(b" sets a tag status that is never read")
         }
     }
-    Ok(out)
 }
 
 /// Writes the line of the step that replaces a value.
@@ -121,7 +119,8 @@ fn put_by_line(out: &mut Vec<u8>, places: &Places, by: Option<Site>) -> Result<(
 fn lost_shown(alloc: Global, places: &Places, lost: Lost) -> Result<Vec<u8>, AllocError>
     ensures { IfOk result (λ v. v.items ≡ lost_shown places.now lost) }
 {
-    let does = set_text(alloc, lost.kind)?;
+    let mut does = Vec::new(alloc);
+    put_set(&mut does, lost.kind)?;
     let mut out = Vec::new(alloc);
     put_step_line(&mut out, places, lost.lost, does.as_slice())?;
     put_by_line(&mut out, places, lost.by)?;
