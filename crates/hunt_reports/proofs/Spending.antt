@@ -1,6 +1,6 @@
--- The writers of what processors poll are steps of the run.
-use Rattle.std.proofs.Common.{◌≡◌, ℕ, suc, ◌≤◌, ◌<◌, List, [], ◌∷◌, length, map, length-map, refl, sym, ap, ◌∙◌, arith, Option, Some, None}
-use Rattle.std.specs.Prelude.{IfSome, option_and_then, option_map}
+-- The writers of what processors poll are steps of the run, and a run that is no livelock has a last change.
+use Rattle.std.proofs.Common.{◌≡◌, ℕ, zero, suc, ◌≤◌, ◌<◌, Bool, false, true≢false, List, [], ◌∷◌, length, map, length-map, refl, sym, ap, ◌∙◌, arith, Option, Some, None}
+use Rattle.std.specs.Prelude.{◌==◌, ◌||◌, ◌-◌, IfSome, not, option_and_then, option_map}
 use Rattle.std.specs.Option.{option_map_or}
 use Rattle.cell_base.specs.declared.steps.Step.{Step}
 use Rattle.cell_machine.specs.declared.effect.Span.{Span}
@@ -13,6 +13,8 @@ use Rattle.run_progress.specs.declared.progress.Poll.{Poll}
 use Rattle.run_progress.specs.Made.{event_of, made_of}
 use Rattle.run_progress.specs.Progress.{last_place, poll_of, polled, spe_progress, writes_in}
 use Rattle.run_progress.proofs.Lists.{last_place-within}
+use Rattle.hunt_reports.specs.declared.spent.Spent.{Spent}
+use Rattle.hunt_reports.specs.Spent.{is_fair, is_livelock}
 
 trace_long : (M : State) (steps : List Step) (es : List Event) → trace_from M steps ≡ Some es → length es ≡ length steps
 trace_long M [] es e = let same : [] ≡ es = cc in ap length (sym same)
@@ -35,3 +37,10 @@ writer_within m p long = on (polled p (made_of m))
     on : (o : Option Span) → IfSome (option_map (poll_of (made_of m)) o) (λ (poll : Poll). IfSome poll.writer (λ i. i < length m.steps))
     on None = tt
     on (Some read) = within (last_place (writes_in read) (made_of m)) (last_place-within (writes_in read) (made_of m))
+
+pub progressed : (s : Spent) → is_livelock s ≡ false → 0 < s.last_change
+progressed s fails = on s.last_change (not (is_fair s.budget (s.last_change - 1))) fails
+  where
+    on : (n : ℕ) (b : Bool) → ((n == 0) || b) ≡ false → 0 < n
+    on zero b e = absurd (true≢false e)
+    on (suc n) b e = omega arith

@@ -123,22 +123,20 @@ pub fn report_of(alloc: Global, run: &SeedRun, asked: &Asked) -> Result<Report, 
     let machine = run.machine();
     let end = run.end();
     let spes = ended_of(alloc, machine)?;
+    let ending = ending_text(alloc, end, spes.as_slice())?;
     let running = running_of(alloc, spes.as_slice())?;
     let spent = spent_of(alloc, run, running.as_slice(), end)?;
     let left = left_of(alloc, machine)?;
     let missed = missed_of(alloc, machine, asked.expected.as_slice())?;
-    let mut found = races_of(alloc, run.races(), &asked.places, asked.passed.as_slice())?;
-    take_stops(
-        alloc,
-        &mut found.findings,
-        &asked.places,
-        machine,
-        run.endings(),
-    )?;
+    let warnings = warnings_of(alloc, run, asked)?;
+    let executed = numbers_of(alloc, run.executed())?;
+    let places = &asked.places;
+    let mut found = races_of(alloc, run.races(), places, asked.passed.as_slice())?;
+    take_stops(alloc, &mut found.findings, places, machine, run.endings())?;
     take_end(
         alloc,
         &mut found.findings,
-        &asked.places,
+        places,
         running.as_slice(),
         end,
         &spent,
@@ -153,13 +151,13 @@ pub fn report_of(alloc: Global, run: &SeedRun, asked: &Asked) -> Result<Report, 
     );
     Ok(report_by(
         flaws,
-        ending_text(alloc, end, spes.as_slice())?,
+        ending,
         left,
         found,
-        warnings_of(alloc, run, asked)?,
+        warnings,
         missed,
         run.kind(),
         steps_of(machine),
-        numbers_of(alloc, run.executed())?,
+        executed,
     ))
 }
