@@ -121,8 +121,7 @@ impl SoFar {
         self.origins
             .add(self.search.machine(), step, effect, place)?;
         self.touched.add(step, effect)?;
-        self.losses
-            .add(self.search.machine(), step, effect, place)?;
+        self.losses.add(self.search.machine(), step, effect, place)?;
         let latest = self.search.go_on(step, effect)?;
         self.add_ending(effect.note, place)?;
         let Some(latest) = latest else {
