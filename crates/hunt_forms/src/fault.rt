@@ -83,7 +83,7 @@ impl fmt::Display for Fault {
     fn fmt<W: fmt::Write>(&self, f: &mut fmt::Formatter<W>) -> fmt::Result {
         match *self {
             Fault::Usage => f.write_str(
-                "usage: hunt MACHINE [--runs N] [--time S] [--seed S] [--from K] [--jobs N] [--expect FILE] [--pass FILE] [--until FILE] [--all] [--tools DIR] [--json], hunt MACHINE RUNS [SEED], hunt MACHINE each [RUNS [SEED]] or hunt MACHINE record K [SEED]",
+                "usage: hunt MACHINE [--runs N] [--time S] [--seed S] [--from K] [--jobs N] [--expect FILE] [--pass FILE] [--warn none|print|error] [--until FILE] [--all] [--tools DIR] [--json], hunt MACHINE RUNS [SEED], hunt MACHINE each [RUNS [SEED]] or hunt MACHINE record K [SEED]",
             ),
             Fault::Machine(fault) => fault.fmt(f),
             Fault::ReadFault { file } => write!(f, "cannot read {file}"),

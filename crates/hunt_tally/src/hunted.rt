@@ -4,7 +4,7 @@ ghost use Rattle.std.specs.Prelude.{◌≡◌, ◌+◌, ◌^◌, ◌<◌, ◌≤
 ghost use Rattle.std.specs.List.{list_any};
 ghost use Rattle.cell_base.specs.Records.{line_feed};
 ghost use Rattle.hunt_tally.specs.Tallies.{Took};
-ghost use Rattle.hunt_tally.specs.Reports.{Reported, is_flawed, line_told, hunted};
+ghost use Rattle.hunt_tally.specs.Reports.{Reported, is_flawed, is_warned, line_told, hunted};
 
 use crate::executed::Executed;
 use crate::flaws::FlawCounts;
@@ -26,12 +26,13 @@ pub struct Hunted {
     steps: u64,
     flaws: FlawCounts,
     kinds: Kinds,
-    /// The different endings, results within an ending, races, expected lines that aren't there, and findings.
+    /// The different endings, results within an ending, races, expected lines that aren't there, findings, and warnings.
     endings: Tally,
     results: Tally,
     races: Tally,
     missed: Tally,
     findings: Tally,
+    warnings: Tally,
     /// The instructions that at least one of them executed.
     executed: Executed,
 }
@@ -42,9 +43,9 @@ impl Model for Hunted {
 
     ghost Value = { Sums };
 
-    ghost view = { λ h. record { runs = h.runs; all_stopped = h.all_stopped; left_out = h.left_out; steps = h.steps; flaws = h.flaws; kinds = h.kinds; endings = h.endings; results = h.results; races = h.races; missed = h.missed; findings = h.findings; executed = h.executed } };
+    ghost view = { λ h. record { runs = h.runs; all_stopped = h.all_stopped; left_out = h.left_out; steps = h.steps; flaws = h.flaws; kinds = h.kinds; endings = h.endings; results = h.results; races = h.races; missed = h.missed; findings = h.findings; warnings = h.warnings; executed = h.executed } };
 
-    ghost invariant = { λ h. IsWithin (record { runs = h.runs; all_stopped = h.all_stopped; left_out = h.left_out; steps = h.steps; flaws = h.flaws; kinds = h.kinds; endings = h.endings; results = h.results; races = h.races; missed = h.missed; findings = h.findings; executed = h.executed }) };
+    ghost invariant = { λ h. IsWithin (record { runs = h.runs; all_stopped = h.all_stopped; left_out = h.left_out; steps = h.steps; flaws = h.flaws; kinds = h.kinds; endings = h.endings; results = h.results; races = h.races; missed = h.missed; findings = h.findings; warnings = h.warnings; executed = h.executed }) };
 }
 
 /// One more, where it is so.
@@ -100,6 +101,7 @@ impl Hunted {
             races: Tally::new(alloc),
             missed: Tally::new(alloc),
             findings: Tally::new(alloc),
+            warnings: Tally::new(alloc),
             executed: Executed::new(alloc),
         }
     }
@@ -116,6 +118,7 @@ impl Hunted {
             races,
             missed,
             findings,
+            warnings,
             leaves_out,
             kind,
             steps,
@@ -132,6 +135,7 @@ impl Hunted {
         self.races.take(races)?;
         take_missed(&mut self.missed, alloc, missed)?;
         self.findings.take(findings)?;
+        self.warnings.take(warnings)?;
         self.executed.take(executed.as_slice())
     }
 
@@ -153,6 +157,7 @@ impl Hunted {
             races,
             missed,
             findings,
+            warnings,
             executed,
         } = other;
         self.flaws.join(self.runs, flaws);
@@ -166,6 +171,7 @@ impl Hunted {
         self.races.join(alloc, races)?;
         self.missed.join(alloc, missed)?;
         self.findings.join(alloc, findings)?;
+        self.warnings.join(alloc, warnings)?;
         self.executed.join(executed)
     }
 
@@ -251,6 +257,20 @@ impl Hunted {
         ensures { result.now ≡ self.now.findings }
     {
         &self.findings
+    }
+
+    /// The different warnings.
+    pub fn warnings(&self) -> &Tally
+        ensures { result.now ≡ self.now.warnings }
+    {
+        &self.warnings
+    }
+
+    /// Whether one has a warning.
+    pub fn has_warning(&self) -> bool
+        ensures { (reports : List Reported) → self.now ≡ hunted reports → result ≡ list_any is_warned reports }
+    {
+        self.warnings.len() > 0
     }
 
     /// The instructions that at least one of them executed.

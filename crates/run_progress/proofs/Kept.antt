@@ -20,8 +20,8 @@ use Rattle.run_progress.specs.declared.recent.Recent.{Recent}
 use Rattle.run_progress.specs.declared.writes.Write.{Write}
 use Rattle.run_progress.specs.Made.{Made}
 use Rattle.run_progress.specs.Changes.{changes, is_shared}
-use Rattle.run_progress.specs.Progress.{executed, is_copy_of, is_exec_of, is_read_by, last_change, last_ones, last_place, overlap, poll_of, polled, range_of, spe_progress, writes_in}
-use Rattle.run_progress.specs.Tracks.{AreNone, AreReads, AreRecent, AreWrites, copier, last_write}
+use Rattle.run_progress.specs.Progress.{after_change, executed, is_copy_of, is_exec_of, is_read_by, last_change, last_ones, last_place, overlap, poll_of, polled, range_of, spe_progress, writes_in}
+use Rattle.run_progress.specs.Tracks.{AreEmpty, AreNone, AreReads, AreRecent, AreWrites, copier, last_write}
 use Rattle.run_progress.proofs.Lists.{last_of-more, last_ones-more, last_place-more, last_place-within}
 
 -- ---- the last change
@@ -37,6 +37,18 @@ change-more run x = ap (λ o. option_map_or suc o 0) (last_place-more changes ru
 change-within : (run : List Made) → last_change run ≤ length run
 unfolding last_change
 change-within run = last_place-within changes run
+
+-- the steps after it
+after-changed : (run : List Made) (x : Made) → changes x ≡ true → after_change (run ++ x ∷ []) ≡ []
+after-changed run x holds =
+    let last : last_change (run ++ x ∷ []) ≡ suc (length run) = change-more run x ∙ ap (λ b. cond b (suc (length run)) (last_change run)) holds in
+    let long : length (run ++ x ∷ []) ≡ length run + 1 = length-append run (x ∷ []) in
+    drop_of_length-le (run ++ x ∷ []) (omega arith)
+
+after-same : (run : List Made) (x : Made) → changes x ≡ false → after_change (run ++ x ∷ []) ≡ after_change run ++ x ∷ []
+after-same run x fails =
+    let last : last_change (run ++ x ∷ []) ≡ last_change run = change-more run x ∙ ap (λ b. cond b (suc (length run)) (last_change run)) fails in
+    ap (λ n. drop n (run ++ x ∷ [])) last ∙ drop-append-le (last_change run) run (x ∷ []) (change-within run)
 
 -- ---- the last instructions
 
@@ -57,28 +69,36 @@ executed-other p run x other = executed-more p run x ∙ ap (λ b. executed p ru
 executed-own : (p : ℕ) (run : List Made) (x : Made) → is_exec_of p x.step ≡ true → executed p (run ++ x ∷ []) ≡ executed p run ++ x.effect.fetch.at ∷ []
 executed-own p run x own = executed-more p run x ∙ ap (λ b. executed p run ++ cond b (x.effect.fetch.at ∷ []) []) own
 
+-- the instructions after a change
+pub recent-changed : (run : List Made) (x : Made) (recent : List Recent) → changes x ≡ true → AreEmpty recent → AreRecent (run ++ x ∷ []) recent
+unfolding executed
+recent-changed run x recent holds none p r at = none p r at ∙ sym (ap (λ xs. last_ones 1000 (executed p xs)) (after-changed run x holds))
+
 -- a step that is no instruction of a processor that is there
-pub recent-same : (run : List Made) (x : Made) (recent : List Recent) → AreRecent run recent → ((p : ℕ) → p < length recent → is_exec_of p x.step ≡ false) → AreRecent (run ++ x ∷ []) recent
-recent-same run x recent kept other p r at = kept p r at ∙ ap (last_ones 1000) (sym (executed-other p run x (other p (slice_get_within recent p r at))))
+pub recent-same : (run : List Made) (x : Made) (recent : List Recent) → changes x ≡ false → AreRecent run recent → ((p : ℕ) → p < length recent → is_exec_of p x.step ≡ false) → AreRecent (run ++ x ∷ []) recent
+recent-same run x recent fails kept other p r at =
+    kept p r at
+    ∙ ap (last_ones 1000) (sym (ap (executed p) (after-same run x fails) ∙ executed-other p (after_change run) x (other p (slice_get_within recent p r at))))
 
 -- an instruction of processor q
-pub recent-more : (run : List Made) (x : Made) (recent : List Recent) (q : ℕ) (old new : Recent) → AreRecent run recent → x.step ≡ Exec q → slice_get recent q ≡ Some old
+pub recent-more : (run : List Made) (x : Made) (recent : List Recent) (q : ℕ) (old new : Recent) → changes x ≡ false → AreRecent run recent → x.step ≡ Exec q → slice_get recent q ≡ Some old
     → new.addresses.items ≡ last_ones 1000 (old.addresses.items ++ x.effect.fetch.at ∷ []) → AreRecent (run ++ x ∷ []) (slice_set recent q new)
-recent-more run x recent q old new kept step there made p r at = on (q == p) refl
+recent-more run x recent q old new fails kept step there made p r at = on (q == p) refl
   where
-    on : (b : Bool) → (q == p) ≡ b → r.addresses.items ≡ last_ones 1000 (executed p (run ++ x ∷ []))
+    on : (b : Bool) → (q == p) ≡ b → r.addresses.items ≡ last_ones 1000 (executed p (after_change (run ++ x ∷ [])))
     on true e =
         let same : q ≡ p = eq_is q p e in
         let is : new ≡ r = some_same new r (sym (set-here recent q new (slice_get_within recent q old there)) ∙ ap (slice_get (slice_set recent q new)) same ∙ at) in
         let own : is_exec_of q x.step ≡ true = ap (is_exec_of q) step ∙ eq_same q in
         ap (λ (y : Recent). y.addresses.items) (sym is) ∙ made
         ∙ ap (λ ats. last_ones 1000 (ats ++ x.effect.fetch.at ∷ [])) (kept q old there)
-        ∙ last_ones-more 1000 (executed q run) x.effect.fetch.at
-        ∙ ap (last_ones 1000) (sym (executed-own q run x own))
-        ∙ ap (λ n. last_ones 1000 (executed n (run ++ x ∷ []))) same
+        ∙ last_ones-more 1000 (executed q (after_change run)) x.effect.fetch.at
+        ∙ ap (last_ones 1000) (sym (ap (executed q) (after-same run x fails) ∙ executed-own q (after_change run) x own))
+        ∙ ap (λ n. last_ones 1000 (executed n (after_change (run ++ x ∷ [])))) same
     on false e =
         let other : is_exec_of p x.step ≡ false = ap (is_exec_of p) step ∙ e in
-        kept p r (sym (set-other recent q p new (eq_not q p e)) ∙ at) ∙ ap (last_ones 1000) (sym (executed-other p run x other))
+        kept p r (sym (set-other recent q p new (eq_not q p e)) ∙ at)
+        ∙ ap (last_ones 1000) (sym (ap (executed p) (after-same run x fails) ∙ executed-other p (after_change run) x other))
 
 -- an instruction of a processor that isn't there, and a step that is no instruction
 pub exec-past : (x : Made) (many q : ℕ) → x.step ≡ Exec q → many ≤ q → (p : ℕ) → p < many → is_exec_of p x.step ≡ false
@@ -96,23 +116,17 @@ not-exec Host none p = refl
 
 polled-changed : (p : ℕ) (run : List Made) (x : Made) → changes x ≡ true → polled p (run ++ x ∷ []) ≡ None
 unfolding polled
-polled-changed p run x holds =
-    let last : last_change (run ++ x ∷ []) ≡ suc (length run) = change-more run x ∙ ap (λ b. cond b (suc (length run)) (last_change run)) holds in
-    let long : length (run ++ x ∷ []) ≡ length run + 1 = length-append run (x ∷ []) in
-    let none : drop (last_change (run ++ x ∷ [])) (run ++ x ∷ []) ≡ [] = drop_of_length-le (run ++ x ∷ []) (omega arith) in
-    ap (λ (xs : List Made). option_map (λ (y : Made). y.effect.reads) (last_or None (filter (is_read_by p) xs))) none
+polled-changed p run x holds = ap (λ (xs : List Made). option_map (λ (y : Made). y.effect.reads) (last_or None (filter (is_read_by p) xs))) (after-changed run x holds)
 
 polled-more : (p : ℕ) (run : List Made) (x : Made) → changes x ≡ false → polled p (run ++ x ∷ []) ≡ cond (is_read_by p x) (Some x.effect.reads) (polled p run)
 unfolding polled
 polled-more p run x fails =
-    let last : last_change (run ++ x ∷ []) ≡ last_change run = change-more run x ∙ ap (λ b. cond b (suc (length run)) (last_change run)) fails in
-    let rest : drop (last_change (run ++ x ∷ [])) (run ++ x ∷ []) ≡ drop (last_change run) run ++ x ∷ [] = ap (λ n. drop n (run ++ x ∷ [])) last ∙ drop-append-le (last_change run) run (x ∷ []) (change-within run) in
-    ap (λ (xs : List Made). option_map (λ (y : Made). y.effect.reads) (last_or None (filter (is_read_by p) xs))) rest
-    ∙ ap (option_map (λ (y : Made). y.effect.reads)) (last_of-more (is_read_by p) (drop (last_change run) run) x)
+    ap (λ (xs : List Made). option_map (λ (y : Made). y.effect.reads) (last_or None (filter (is_read_by p) xs))) (after-same run x fails)
+    ∙ ap (option_map (λ (y : Made). y.effect.reads)) (last_of-more (is_read_by p) (after_change run) x)
     ∙ on (is_read_by p x)
   where
-    on : (b : Bool) → option_map (λ (y : Made). y.effect.reads) (cond b (Some x) (last_or None (filter (is_read_by p) (drop (last_change run) run))))
-        ≡ cond b (Some x.effect.reads) (option_map (λ (y : Made). y.effect.reads) (last_or None (filter (is_read_by p) (drop (last_change run) run))))
+    on : (b : Bool) → option_map (λ (y : Made). y.effect.reads) (cond b (Some x) (last_or None (filter (is_read_by p) (after_change run))))
+        ≡ cond b (Some x.effect.reads) (option_map (λ (y : Made). y.effect.reads) (last_or None (filter (is_read_by p) (after_change run))))
     on true = refl
     on false = refl
 
@@ -199,7 +213,7 @@ last_write-found read writes w holds = last_write-more read writes w ∙ ap (λ 
 
 -- ---- the progress of a processor
 
-pub spe-is : (run : List Made) (p : ℕ) (range : Option AddressRange) (poll : Option Poll) → range ≡ range_of (last_ones 1000 (executed p run)) → poll ≡ option_map (poll_of run) (polled p run)
+pub spe-is : (run : List Made) (p : ℕ) (range : Option AddressRange) (poll : Option Poll) → range ≡ range_of (last_ones 1000 (executed p (after_change run))) → poll ≡ option_map (poll_of run) (polled p run)
     → (record { executed = range; polled = poll }) ≡ spe_progress run p
 unfolding spe_progress
 spe-is run p range poll is_range is_poll = rw (is_range, is_poll) refl

@@ -20,6 +20,10 @@ last_place f (x ∷ xs) = option_map_or (λ i. Some (suc i)) (last_place f xs) (
 unfoldable pub last_change : List Made → ℕ
 last_change run = option_map_or suc (last_place changes run) 0
 
+-- the steps after it
+abbrev pub after_change : List Made → List Made
+after_change run = drop (last_change run) run
+
 -- ---- the loop of a processor
 
 abbrev pub is_exec_of : ℕ → Step → Bool
@@ -60,7 +64,7 @@ is_read_by p x = is_copy_of p x.step && is_shared x.effect.reads
 
 -- what it read last after the last change, None if nothing
 unfoldable pub polled : ℕ → List Made → Option Span
-polled p run = option_map (λ (x : Made). x.effect.reads) (last_or None (filter (is_read_by p) (drop (last_change run) run)))
+polled p run = option_map (λ (x : Made). x.effect.reads) (last_or None (filter (is_read_by p) (after_change run)))
 
 -- both have a byte, if they are of one place
 abbrev pub overlap : Span → Span → Bool
@@ -75,5 +79,6 @@ poll_of run read = record { at = read.at; len = read.len; writer = last_place (w
 
 -- ---- both
 
+-- of its instructions after the last change, the last 1,000 are its loop
 unfoldable pub spe_progress : List Made → ℕ → SpeProgress
-spe_progress run p = record { executed = range_of (last_ones 1000 (executed p run)); polled = option_map (poll_of run) (polled p run) }
+spe_progress run p = record { executed = range_of (last_ones 1000 (executed p (after_change run))); polled = option_map (poll_of run) (polled p run) }

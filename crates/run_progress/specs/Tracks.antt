@@ -1,5 +1,5 @@
 -- What is kept of a run while it is made again. Contracts of private functions use it.
-use Rattle.std.specs.Prelude.{◌≡◌, ℕ, List, length, filter, Option, Some, None, slice_get}
+use Rattle.std.specs.Prelude.{◌≡◌, ℕ, List, [], length, filter, Option, Some, None, slice_get}
 use Rattle.std.specs.List.{last_or}
 use Rattle.std.specs.Option.{option_map}
 use Rattle.cell_base.specs.declared.steps.Step.{Step}
@@ -9,11 +9,14 @@ use Rattle.run_progress.specs.declared.recent.Recent.{Recent}
 use Rattle.run_progress.specs.declared.writes.Write.{Write}
 use Rattle.run_progress.specs.declared.tracks.Tracks.{Tracks}
 use Rattle.run_progress.specs.Made.{Made}
-use Rattle.run_progress.specs.Progress.{executed, last_change, last_ones, last_place, overlap, polled, writes_in}
+use Rattle.run_progress.specs.Progress.{after_change, executed, last_change, last_ones, last_place, overlap, polled, writes_in}
 
--- the last instructions of each processor
+-- the last instructions of each processor after the last change
 abbrev pub AreRecent : List Made → List Recent → Type 0
-AreRecent run recent = (p : ℕ) (r : Recent) → slice_get recent p ≡ Some r → r.addresses.items ≡ last_ones 1000 (executed p run)
+AreRecent run recent = (p : ℕ) (r : Recent) → slice_get recent p ≡ Some r → r.addresses.items ≡ last_ones 1000 (executed p (after_change run))
+
+abbrev pub AreEmpty : List Recent → Type 0
+AreEmpty recent = (p : ℕ) (r : Recent) → slice_get recent p ≡ Some r → r.addresses.items ≡ []
 
 -- the processor whose MFC copies bytes in a step
 abbrev pub copier : Step → Option ℕ

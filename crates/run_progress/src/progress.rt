@@ -34,7 +34,7 @@ pub struct Poll {
 /// What a processor did at the end of a run.
 #[derive(Clone, Copy, Debug, PartialEq, Eq, Drop)]
 pub struct SpeProgress {
-    /// The addresses of its last 1,000 instructions, or of all if it executed fewer. None if it executed none.
+    /// The addresses of the last 1,000 instructions that it executed after the last change, or of all if there are fewer. None if it executed none.
     pub executed: Option<AddressRange>,
     /// What its MFC read of main memory last, after the last change. None if it read nothing since then.
     pub polled: Option<Poll>,

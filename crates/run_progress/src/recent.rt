@@ -1,4 +1,4 @@
-//! The last instructions that a processor executed.
+//! The last instructions that a processor executed after the last change.
 
 ghost use Rattle.std.specs.Prelude.{◌≡◌, ◌≤◌, [], ◌∷◌, ◌++◌, length, OnOk};
 ghost use Rattle.run_progress.specs.Progress.{last_ones, range_of};
@@ -10,7 +10,7 @@ use std::collections::VecDeque;
 /// How many of a processor's last instructions are kept.
 const KEPT: usize = 1000;
 
-/// The addresses of a processor's last 1,000 instructions, or of all if there are fewer, in their order.
+/// The addresses of the last 1,000 instructions that a processor executed after the last change, or of all if there are fewer, in their order.
 #[derive(Drop)]
 pub struct Recent {
     addresses: VecDeque<u32>,
@@ -25,6 +25,13 @@ impl Recent {
         Recent {
             addresses: VecDeque::new(alloc),
         }
+    }
+
+    /// Forgets them.
+    pub fn forget(&mut self)
+        ensures { self.new.addresses.items ≡ [] }
+    {
+        self.addresses.clear();
     }
 
     /// Adds the address of an instruction.
