@@ -1,5 +1,4 @@
 use Rattle.std.proofs.Common.{◌≡◌, ◌+◌, cond, map, refl, ap, ◌∙◌, List, [], ◌∷◌, ◌++◌, subst, rules}
-use Rattle.hunt_tally.specs.Tallies.{Took}
 use Rattle.hunt_tally.specs.Executed.{set_of}
 use Rattle.hunt_tally.specs.Reports.{Reported, Sums, hunted}
 use Rattle.hunt_tally.proofs.Hunting.{IsMore, took_report, on_ok}
