@@ -1,5 +1,5 @@
 -- What a tally tells is what its runs tell.
-use Rattle.std.proofs.Common.{◌≡◌, ◌||◌, true, List, [], ◌∷◌, ◌++◌, length, map, refl, ap, ◌∙◌, arith}
+use Rattle.std.proofs.Common.{◌≡◌, ◌||◌, true, List, [], ◌∷◌, ◌++◌, length, map, refl, sym, ap, ◌∙◌, arith}
 use Rattle.std.specs.Prelude.{nat_lt}
 use Rattle.std.specs.List.{list_any}
 use Rattle.hunt_tally.specs.Tallies.{Tells, Entry, firsts, told_of, entry_of, told, entries_of, tallied, told_in, distinct, all_of}
@@ -26,13 +26,14 @@ some_told runs = by (all_of runs)
 
 some_warned : (reports : List Reported) → nat_lt 0 (length (all_of (map (λ (r : Reported). r.warnings) reports))) ≡ list_any is_warned reports
 some_warned [] = refl
-some_warned (r ∷ reports) = by r.warnings
+some_warned (r ∷ reports) = by r.warnings (some_warned reports)
   where
-    by : (ts : List Tells) → nat_lt 0 (length (ts ++ all_of (map (λ (x : Reported). x.warnings) reports))) ≡ (nat_lt 0 (length ts) || list_any is_warned reports)
-    by [] = some_warned reports
-    by (t ∷ ts) = let here : nat_lt 0 (length ((t ∷ ts) ++ all_of (map (λ (x : Reported). x.warnings) reports))) ≡ true = grind arith in
+    by : (ts : List Tells) → nat_lt 0 (length (all_of (map (λ (x : Reported). x.warnings) reports))) ≡ list_any is_warned reports
+        → nat_lt 0 (length (ts ++ all_of (map (λ (x : Reported). x.warnings) reports))) ≡ (nat_lt 0 (length ts) || list_any is_warned reports)
+    by [] rest = rest
+    by (t ∷ ts) rest = let here : nat_lt 0 (length ((t ∷ ts) ++ all_of (map (λ (x : Reported). x.warnings) reports))) ≡ true = grind arith in
         let own : nat_lt 0 (length (t ∷ ts)) ≡ true = grind arith in
-        rw (here, own) refl
+        here ∙ sym (ap (λ b. b || list_any is_warned reports) own)
 
 pub warned_is : (reports : List Reported) → nat_lt 0 (length (told_in (hunted reports).warnings)) ≡ list_any is_warned reports
 unfolding hunted
