@@ -13,7 +13,7 @@ file_text file_id.Pass = codes "pass file"
 
 unfoldable pub fault_text : Fault → List ℕ
 fault_text Usage =
-    codes "usage: hunt MACHINE [--runs N] [--time S] [--seed S] [--from K] [--jobs N] [--expect FILE] [--pass FILE] [--until FILE] [--all] [--tools DIR] [--json], hunt MACHINE RUNS [SEED], hunt MACHINE each [RUNS [SEED]] or hunt MACHINE record K [SEED]"
+    codes "usage: hunt MACHINE [--runs N] [--time S] [--seed S] [--from K] [--jobs N] [--expect FILE] [--pass FILE] [--warn none|print|error] [--until FILE] [--all] [--tools DIR] [--json], hunt MACHINE RUNS [SEED], hunt MACHINE each [RUNS [SEED]] or hunt MACHINE record K [SEED]"
 fault_text (Machine fault) = input_text fault
 fault_text (ReadFault file) = codes "cannot read " ++ file_text file
 fault_text (TooLong file) = file_text file ++ codes " is too long"
