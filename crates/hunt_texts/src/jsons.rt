@@ -110,7 +110,8 @@ fn put_head(
     put_sums(out, hunted.all_stopped(), hunted.left_out(), hunted.steps())?;
     put_ended(out, from, flaws)?;
     put_faulted(out, from, flaws)?;
-    out.extend_from_slice(b"}\n")
+    out.extend_from_slice(b"}\n")?;
+    Ok(())
 }
 
 /// What runs of a seed tell together, as JSON, one object a line: of the hunt, of each race, ending, result, missed line, finding and warning, of each source, and of all kinds.
