@@ -1,5 +1,6 @@
 -- Tests over lists of texts, and the lines of no text.
-use Rattle.std.proofs.Common.{◌≡◌, ℕ, suc, ◌+◌, ◌<◌, Bool, true, false, not, ◌||◌, eqb, List, [], ◌∷◌, ◌++◌, length, map, filter, take, get_or, append-nil, Vec, if◌then◌else◌, refl, sym, ap, ◌∙◌, subst, arith, append_assoc, true≢false}
+use Rattle.std.proofs.Common.{◌≡◌, ℕ, suc, ◌+◌, ◌<◌, Bool, true, false, not, ◌||◌, eqb, List, [], ◌∷◌, ◌++◌, length, map, filter, take, get_or, append-nil, Vec, if◌then◌else◌, refl, sym, ap, ◌∙◌, subst, arith, append_assoc, true≢false, Result, Ok, Err}
+use Rattle.std.specs.Prelude.{OnOk}
 use Rattle.std.specs.declared.alloc.Global.{Global}
 use Rattle.std.specs.List.{AllZip, list_any, flat_map}
 use Rattle.std.proofs.lemmas.List.Concat.{flat_map-append}
@@ -42,6 +43,13 @@ missed_more text es i v inside =
     by false line = refl
 
 -- ---- texts written one after the other
+
+pub more : (out one two a b : List ℕ) → one ≡ out ++ a → two ≡ one ++ b → two ≡ out ++ (a ++ b)
+more out one two a b first second = second ∙ ap (λ x. x ++ b) first ∙ append_assoc out a b
+
+pub on_more : {E : Type 0} (r : Result (Unit {0}) E) (out one all a b : List ℕ) → one ≡ out ++ a → OnOk r (all ≡ one ++ b) → OnOk r (all ≡ out ++ (a ++ b))
+on_more (Ok u) out one all a b first second = more out one all a b first second
+on_more (Err e) out one all a b first second = tt
 
 pub three : (out a b c one two all : List ℕ) → one ≡ out ++ a → two ≡ one ++ b → all ≡ two ++ c → all ≡ out ++ ((a ++ b) ++ c)
 three out a b c one two all first second third =

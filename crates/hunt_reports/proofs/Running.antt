@@ -1,5 +1,5 @@
 -- The processors that run, one after the other.
-use Rattle.std.proofs.Common.{◌≡◌, ℕ, suc, ◌+◌, ◌<◌, ◌≤◌, List, [], ◌++◌, length, length-append, get_or, drop, drop-cons, sym, ap, subst, ◌∙◌, append_assoc, append-nil, arith}
+use Rattle.std.proofs.Common.{◌∷◌, ◌≡◌, ℕ, suc, ◌+◌, ◌<◌, ◌≤◌, List, [], ◌++◌, length, length-append, get_or, drop, drop-cons, sym, ap, subst, ◌∙◌, append_assoc, append-nil, arith}
 use Rattle.std.specs.Prelude.{All}
 use Rattle.std.proofs.lemmas.List.{nil_from_length, length-drop}
 use Rattle.std.proofs.lemmas.List.Elements.{All-append, All-cons, All-nil, All-weaker}
@@ -56,3 +56,8 @@ running_within p (e ∷ es) =
     All-append (λ (l : Location). l.spe < p + suc (length es)) (running_at p e.pc e.status) (running_from (suc p) es)
     (All-weaker (λ (l : Location). l.spe < suc p) (λ (l : Location). l.spe < p + suc (length es)) (λ l h. omega (arith, h)) (running_at p e.pc e.status) (one_within p e.pc e.status))
     (subst (λ n. All (λ (l : Location). l.spe < n) (running_from (suc p) es)) one (running_within (suc p) es))
+
+pub running_below : (es : List AtEnd) → All (λ (l : Location). l.spe < length es) (running_from 0 es)
+running_below es =
+    let same : 0 + length es ≡ length es = omega arith in
+    subst (λ n. All (λ (l : Location). l.spe < n) (running_from 0 es)) same (running_within 0 es)

@@ -1,5 +1,6 @@
 -- The writers of what processors poll are steps of the run, and a run that is no livelock has a last change.
-use Rattle.std.proofs.Common.{◌≡◌, ℕ, zero, suc, ◌≤◌, ◌<◌, Bool, false, true≢false, List, [], ◌∷◌, length, map, length-map, refl, sym, ap, ◌∙◌, arith, Option, Some, None}
+use Rattle.std.proofs.Common.{◌≡◌, ℕ, zero, suc, ◌≤◌, ◌<◌, Bool, false, true≢false, List, [], ◌∷◌, length, map, refl, sym, ap, ◌∙◌, arith, Option, Some, None, subst}
+use Rattle.std.proofs.lemmas.List.{length-map}
 use Rattle.std.specs.Prelude.{◌==◌, ◌||◌, ◌-◌, IfSome, not, option_and_then, option_map}
 use Rattle.std.specs.Option.{option_map_or}
 use Rattle.cell_base.specs.declared.steps.Step.{Step}
@@ -14,7 +15,11 @@ use Rattle.run_progress.specs.Made.{event_of, made_of}
 use Rattle.run_progress.specs.Progress.{last_place, poll_of, polled, spe_progress, writes_in}
 use Rattle.run_progress.proofs.Lists.{last_place-within}
 use Rattle.hunt_reports.specs.declared.spent.Spent.{Spent}
-use Rattle.hunt_reports.specs.Spent.{is_fair, is_livelock}
+use Rattle.hunt_reports.specs.declared.locations.Location.{Location}
+use Rattle.hunt_reports.specs.Spent.{is_fair, is_livelock, IsLoop, IsSpentBy}
+use Rattle.cell_machine.specs.declared.status.End.{End}
+use Rattle.cell_machine.specs.declared.status.End.TheVariants.{AllStopped, Stuck, Budget}
+use Rattle.std.proofs.lemmas.Slice.Zip.{AllZip-long}
 
 trace_long : (M : State) (steps : List Step) (es : List Event) → trace_from M steps ≡ Some es → length es ≡ length steps
 trace_long M [] es e = let same : [] ≡ es = cc in ap length (sym same)
@@ -24,7 +29,7 @@ trace_long M (s ∷ steps) es e =
     of_map (λ events. x ∷ events) (trace_from N steps) es (λ es. length es ≡ suc (length steps)) more (λ events traced. ap suc (trace_long N steps events traced))))
 
 pub made_long : (m : Ran) → trace_of m ≡ Some (map event_of (made_of m)) → length (made_of m) ≡ length m.steps
-made_long m traced = sym (length-map event_of (made_of m)) ∙ trace_long _ m.steps (map event_of (made_of m)) traced
+made_long m traced = sym (length-map (made_of m) event_of) ∙ trace_long _ m.steps (map event_of (made_of m)) traced
 
 pub writer_within : (m : Ran) (p : ℕ) → length (made_of m) ≡ length m.steps → IfSome (spe_progress (made_of m) p).polled (λ (poll : Poll). IfSome poll.writer (λ i. i < length m.steps))
 unfolding spe_progress
@@ -44,3 +49,10 @@ progressed s fails = on s.last_change (not (is_fair s.budget (s.last_change - 1)
     on : (n : ℕ) (b : Bool) → ((n == 0) || b) ≡ false → 0 < n
     on zero b e = absurd (true≢false e)
     on (suc n) b e = omega arith
+
+-- as many loops as processors that run
+pub few_spent : (m : Ran) (running : List Location) (end : End) (spent : Option Spent) → length running ≤ 16 → IsSpentBy m running end spent → IfSome spent (λ s. length s.loops.items ≤ 16)
+few_spent m running Budget None few h = tt
+few_spent m running Budget (Some s) few h = subst (λ n. n ≤ 16) (sym (AllZip-long (IsLoop m) running s.loops.items h.loops)) few
+few_spent m running AllStopped spent few h = subst (λ (o : Option Spent). IfSome o (λ s. length s.loops.items ≤ 16)) (sym h) tt
+few_spent m running Stuck spent few h = subst (λ (o : Option Spent). IfSome o (λ s. length s.loops.items ≤ 16)) (sym h) tt

@@ -10,7 +10,7 @@ use Rattle.hunt_reports.specs.Livelocks.{livelock_told}
 use Rattle.hunt_reports.specs.Spent.{is_livelock}
 use Rattle.hunt_reports.specs.Waits.{running_shown}
 
-abbrev pub progress_line : Spent → List ℕ
+unfoldable pub progress_line : Spent → List ℕ
 progress_line s = codes "  still progressing: the last change is step " ++ decimal (s.last_change - 1) ++ codes " of " ++ decimal s.budget ++ line_feed
 
 abbrev pub budget_told : Places → List Location → Spent → Tells

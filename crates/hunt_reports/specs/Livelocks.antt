@@ -18,9 +18,12 @@ use Rattle.hunt_reports.specs.Waits.{location_key, lines_shown}
 abbrev pub bytes_text : ℕ → List ℕ
 bytes_text n = if n == 1 then codes "1 byte" else decimal n ++ codes " bytes"
 
+unfoldable pub written_at : Places → Location → List ℕ
+written_at places l = codes "last written at " ++ short_shown places l ++ codes " by " ++ spu_text l.spe
+
 -- who wrote them last: an instruction of a processor, or the host
 abbrev pub written_by : Places → Option Location → List ℕ
-written_by places (Some l) = codes "last written at " ++ short_shown places l ++ codes " by " ++ spu_text l.spe
+written_by places (Some l) = written_at places l
 written_by places None = codes "last written by the host"
 
 abbrev pub written_text : Places → Option Site → List ℕ
@@ -46,10 +49,16 @@ loop_line places o = note_line places o.first (spu_text o.first.spe ++ does_text
 
 -- ---- the finding
 
+-- no step was a change
+unfoldable pub never_text : ℕ → List ℕ
+never_text budget = codes "  no progress in " ++ decimal budget ++ codes " steps"
+
+-- this step was the last change
+unfoldable pub after_text : ℕ → ℕ → List ℕ
+after_text step budget = codes "  no progress after step " ++ decimal step ++ codes " of " ++ decimal budget
+
 abbrev pub since_text : ℕ → ℕ → List ℕ
-since_text change budget =
-    if change == 0 then codes "  no progress in " ++ decimal budget ++ codes " steps"
-    else codes "  no progress after step " ++ decimal (change - 1) ++ codes " of " ++ decimal budget
+since_text change budget = if change == 0 then never_text budget else after_text (change - 1) budget
 
 abbrev pub no_progress_line : Spent → List ℕ
 no_progress_line s = since_text s.last_change s.budget ++ codes ": no mailbox, signal, status or byte of memory changed\n"

@@ -25,9 +25,15 @@ loss_word (Signal p r) = codes "lost-signal"
 loss_word (FailedStore p) = codes "unread-putllc"
 loss_word (TagStatus p) = codes "unread-tags"
 
+abbrev pub register_text : ℕ → List ℕ
+register_text r = codes " sets signal register " ++ decimal r
+
+unfoldable pub signal_text : ℕ → ℕ → List ℕ
+signal_text p r = register_text r ++ codes " of " ++ spu_text p ++ codes " to a value that is never read"
+
 -- what the step did that set the value
 abbrev pub set_text : LossKind → List ℕ
-set_text (Signal p r) = codes " sets signal register " ++ decimal r ++ codes " of " ++ spu_text p ++ codes " to a value that is never read"
+set_text (Signal p r) = signal_text p r
 set_text (FailedStore p) = codes " stores nothing, and its status is never read"
 set_text (TagStatus p) = codes " sets a tag status that is never read"
 

@@ -9,10 +9,12 @@ use crate::locations::{Location, put_numbered};
 use crate::origins::Places;
 use crate::spent::{Spent, is_livelock};
 use crate::waits::running_shown;
+use cell_base::line_text::put_decimal;
 use hunt_tally::Telling;
 use std::alloc::{AllocError, Global};
 
 /// Writes the last change of a run that still progressed.
+#[tactic(auto, unfolding(crate::specs::Budgets::progress_line))]
 fn put_progress(out: &mut Vec<u8>, spent: &Spent) -> Result<(), AllocError>
     requires { 0 < spent.now.last_change }
     ensures { OnOk result (out.new.items ≡ out.old.items ++ progress_line spent.now) }
@@ -22,7 +24,8 @@ fn put_progress(out: &mut Vec<u8>, spent: &Spent) -> Result<(), AllocError>
         b"  still progressing: the last change is step ",
         spent.last_change - 1,
     )?;
-    put_numbered(out, b" of ", spent.budget)?;
+    out.extend_from_slice(b" of ")?;
+    put_decimal(out, spent.budget)?;
     out.push(b'\n')?;
     Ok(())
 }

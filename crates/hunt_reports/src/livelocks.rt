@@ -1,7 +1,7 @@
 //! The finding of a livelock.
 
 ghost use Rattle.std.specs.Prelude.{◌≡◌, ◌≤◌, ◌++◌, flat_map, length, IfOk, OnOk};
-ghost use Rattle.hunt_reports.specs.Livelocks.{bytes_text, does_text, livelock_told, loop_key, loop_line, loops_shown, no_progress_line, poll_text, polled_text, since_text, written_by, written_text};
+ghost use Rattle.hunt_reports.specs.Livelocks.{after_text, bytes_text, does_text, livelock_told, loop_key, loop_line, loops_shown, never_text, no_progress_line, poll_text, polled_text, since_text, written_at, written_by, written_text};
 
 use crate::locations::{Location, location_of, put_note_start, put_numbered, put_short, put_spu};
 use crate::origins::Places;
@@ -24,6 +24,17 @@ fn put_bytes(out: &mut Vec<u8>, n: u32) -> Result<(), AllocError>
     out.extend_from_slice(b" bytes")
 }
 
+/// Writes the instruction that wrote bytes last.
+#[tactic(auto, unfolding(crate::specs::Livelocks::written_at))]
+fn put_written_at(out: &mut Vec<u8>, places: &Places, location: Location) -> Result<(), AllocError>
+    ensures { OnOk result (out.new.items ≡ out.old.items ++ written_at places.now location) }
+{
+    out.extend_from_slice(b"last written at ")?;
+    put_short(out, places, location)?;
+    out.extend_from_slice(b" by ")?;
+    put_spu(out, location.spe)
+}
+
 /// Writes who wrote bytes last.
 fn put_written_by(
     out: &mut Vec<u8>,
@@ -33,12 +44,7 @@ fn put_written_by(
     ensures { OnOk result (out.new.items ≡ out.old.items ++ written_by places.now location) }
 {
     match location {
-        Some(location) => {
-            out.extend_from_slice(b"last written at ")?;
-            put_short(out, places, location)?;
-            out.extend_from_slice(b" by ")?;
-            put_spu(out, location.spe)
-        }
+        Some(location) => put_written_at(out, places, location),
         None => out.extend_from_slice(b"last written by the host"),
     }
 }
@@ -138,16 +144,33 @@ fn put_loop_keys(out: &mut Vec<u8>, places: &Places, loops: &[Loop]) -> Result<(
     Ok(())
 }
 
+/// Writes that no step was a change.
+#[tactic(auto, unfolding(crate::specs::Livelocks::never_text))]
+fn put_never(out: &mut Vec<u8>, budget: u32) -> Result<(), AllocError>
+    ensures { OnOk result (out.new.items ≡ out.old.items ++ never_text budget) }
+{
+    put_numbered(out, b"  no progress in ", budget)?;
+    out.extend_from_slice(b" steps")
+}
+
+/// Writes that this step was the last change.
+#[tactic(auto, unfolding(crate::specs::Livelocks::after_text))]
+fn put_after(out: &mut Vec<u8>, step: u32, budget: u32) -> Result<(), AllocError>
+    ensures { OnOk result (out.new.items ≡ out.old.items ++ after_text step budget) }
+{
+    put_numbered(out, b"  no progress after step ", step)?;
+    out.extend_from_slice(b" of ")?;
+    put_decimal(out, budget)
+}
+
 /// Writes since when nothing changed.
 fn put_since(out: &mut Vec<u8>, change: u32, budget: u32) -> Result<(), AllocError>
     ensures { OnOk result (out.new.items ≡ out.old.items ++ since_text change budget) }
 {
     if change == 0 {
-        put_numbered(out, b"  no progress in ", budget)?;
-        return out.extend_from_slice(b" steps");
+        return put_never(out, budget);
     }
-    put_numbered(out, b"  no progress after step ", change - 1)?;
-    put_numbered(out, b" of ", budget)
+    put_after(out, change - 1, budget)
 }
 
 /// Writes since when nothing changed, and what a change is.

@@ -3,7 +3,6 @@
 ghost use Rattle.std.specs.Prelude.{◌≡◌, ◌<◌, length, map, All, IfSome, IfOk};
 ghost use Rattle.std.specs.List.{range_with_len};
 ghost use Rattle.cell_hunt.specs.Sites.{IsSite};
-ghost use Rattle.cell_machine.specs.Run.{Ran};
 ghost use Rattle.run_progress.specs.Made.{made_of};
 ghost use Rattle.run_progress.specs.Progress.{last_change, spe_progress};
 ghost use Rattle.hunt_reports.specs.Lists.{BothOrNone};
@@ -12,7 +11,7 @@ ghost use Rattle.hunt_reports.specs.Spent.{first_in, has_livelock, is_fair, is_l
 use crate::locations::Location;
 use cell_hunt::{SeedRun, Site};
 use cell_machine::End;
-use run_progress::{AddressRange, Poll, Progress, SpeProgress, progress_of};
+use run_progress::{AddressRange, Poll, Progress, progress_of};
 use std::alloc::{AllocError, Global};
 
 /// The bytes of main memory that an MFC polls.
@@ -122,26 +121,18 @@ fn last_in(executed: Option<AddressRange>) -> Option<u32>
 }
 
 /// What a processor did after the last change, if its PC is here.
-fn loop_of(run: &SeedRun, here: Location, progress: SpeProgress) -> Loop
-    requires progress { progress ≡ spe_progress (made_of run.now) here.spe }
+fn loop_of(run: &SeedRun, progress: &Progress, here: Location) -> Loop
+    requires spe { here.spe < length run.now.setup.entries }
     requires long { length (made_of run.now) ≡ length run.now.steps }
+    requires spes { progress.now.spes.items ≡ map (spe_progress (made_of run.now)) (range_with_len 0 (length run.now.setup.entries)) }
     ensures { IsLoop run.now here result }
 {
+    let did = progress.spes[usize::from(here.spe)];
     Loop {
-        first: first_in(here, progress.executed),
-        last: last_in(progress.executed),
-        polled: polled_of(run, progress.polled),
+        first: first_in(here, did.executed),
+        last: last_in(did.executed),
+        polled: polled_of(run, did.polled),
     }
-}
-
-/// The progress of a processor.
-fn progress_at(progress: &Progress, spe: u8) -> SpeProgress
-    ghost m: { Ran }
-    requires spe { spe < length m.setup.entries }
-    requires spes { progress.now.spes.items ≡ map (spe_progress (made_of m)) (range_with_len 0 (length m.setup.entries)) }
-    ensures { result ≡ spe_progress (made_of m) spe }
-{
-    progress.spes[usize::from(spe)]
 }
 
 /// What the processors that run did after the last change.
@@ -159,7 +150,7 @@ fn spent_by(
 {
     let mut loops = Vec::new(alloc);
     for here in running {
-        loops.push(loop_of(run, *here, progress_at(progress, here.spe)))?;
+        loops.push(loop_of(run, progress, *here))?;
     }
     Ok(Spent {
         last_change: progress.last_change,

@@ -1,12 +1,11 @@
 //! The warnings of a run: the values that it loses.
 
-ghost use Rattle.std.specs.Prelude.{◌≡◌, ◌<◌, ◌++◌, length, All, IfSome, IfOk, OnOk};
+ghost use Rattle.std.specs.Prelude.{◌≡◌, ◌<◌, ◌++◌, codes, length, All, IfSome, IfOk, OnOk};
 ghost use Rattle.cell_hunt.specs.Sites.{IsSite};
-ghost use Rattle.lost_values.specs.declared.loss.LossKind.TheVariants.{Signal};
 ghost use Rattle.lost_values.specs.Losses.{IsLoss};
 ghost use Rattle.hunt_reports.specs.Lists.{BothOrNone};
 ghost use Rattle.hunt_reports.specs.Taking.{with_telling};
-ghost use Rattle.hunt_reports.specs.Warnings.{by_line, by_text, loss_word, lost_key, lost_shown, lost_told, set_text, AreTold, AreWarnings, IsLostAt};
+ghost use Rattle.hunt_reports.specs.Warnings.{by_line, by_text, loss_word, lost_key, lost_shown, lost_told, register_text, set_text, signal_text, AreTold, AreWarnings, IsLostAt};
 
 use crate::asked::Asked;
 use crate::locations::{put_numbered, put_spu};
@@ -80,14 +79,29 @@ fn put_lost_key(out: &mut Vec<u8>, places: &Places, lost: Lost) -> Result<(), Al
     put_by(out, places, lost.by)
 }
 
-/// Writes that a step sets a signal register.
-fn put_signal(out: &mut Vec<u8>, spe: u8, register: u8) -> Result<(), AllocError>
-    ensures { OnOk result (out.new.items ≡ out.old.items ++ set_text (Signal spe register)) }
+/// Writes which signal register a step sets.
+fn put_register(out: &mut Vec<u8>, register: u8) -> Result<(), AllocError>
+    ensures { OnOk result (out.new.items ≡ out.old.items ++ register_text register) }
 {
-    put_numbered(out, b" sets signal register ", u32::from(register))?;
+    put_numbered(out, b" sets signal register ", u32::from(register))
+}
+
+/// Writes that nobody reads the value of a signal register.
+fn put_unread(out: &mut Vec<u8>) -> Result<(), AllocError>
+    ensures { OnOk result (out.new.items ≡ out.old.items ++ codes " to a value that is never read") }
+{
+    out.extend_from_slice(b" to a value that is never read")
+}
+
+/// Writes that a step sets a signal register.
+#[tactic(auto, unfolding(crate::specs::Warnings::signal_text))]
+fn put_signal(out: &mut Vec<u8>, spe: u8, register: u8) -> Result<(), AllocError>
+    ensures { OnOk result (out.new.items ≡ out.old.items ++ signal_text spe register) }
+{
+    put_register(out, register)?;
     out.extend_from_slice(b" of ")?;
     put_spu(out, spe)?;
-    out.extend_from_slice(b" to a value that is never read")
+    put_unread(out)
 }
 
 /// Writes what the step does that sets a value.

@@ -1,4 +1,4 @@
-use Rattle.std.proofs.Common.{Some, ◌++◌, ◌≡◌, ◌≤◌, length, map, sym, ap, subst, append_assoc, ◌∙◌}
+use Rattle.std.proofs.Common.{rules, Some, ◌++◌, ◌≡◌, ◌≤◌, length, map, sym, ap, subst, append_assoc, ◌∙◌}
 use Rattle.std.specs.List.{flat_map}
 use Rattle.cell_machine.specs.Run.{EndsAs}
 use Rattle.cell_report.specs.States.{states_of}
@@ -18,7 +18,11 @@ use Rattle.hunt_reports.specs.Waits.{running_from}
 use Rattle.hunt_reports.specs.Warnings.{AreWarnings}
 use Rattle.hunt_reports.specs.Reports.{IsReport, flaws_by, report_by}
 use Rattle.hunt_reports.proofs.ReportParts.{reported}
+use Rattle.hunt_reports.proofs.Spending.{few_spent}
 use Rattle.hunt_reports.proofs.reporting.report_of.Goals as goal
+
+pub take_end-requires-clause-loops : goal.take_end-requires-clause-loops
+take_end-requires-clause-loops c = few_spent c.args.run.now c.as_slice-3.result.now c.end-end.result c.in_ok-spent.spent (search rules) c.in_ok-spent.ensures
 
 pub returns : goal.returns
 returns c =
@@ -61,6 +65,6 @@ returns c =
     c.steps_of.ensures
     (c.in_ok-executed.ensures ∙ ap (map number_of) (c.executed.ensures ∙ ap executed_in (sym run)))
     (c.report_by.ensures ∙ (λ i. report_by
-    ((c.flaws_by.ensures ∙ (λ j. flaws_by (c.as_slice-8.ensures.value j) end (has_livelock spent) (c.as_slice-9.ensures.value j) (bytes_in (c.as_slice-10.ensures.value j)))) i)
+    ((c.flaws_by-flaws.ensures ∙ (λ j. flaws_by (c.as_slice-8.ensures.value j) end (has_livelock spent) (c.as_slice-9.ensures.value j) (bytes_in (c.as_slice-10.ensures.value j)))) i)
     ((c.in_ok-ending.ensures ∙ ap (ending_text end) c.as_slice.ensures.value) i)
     c.in_ok-left.left.items told c.take_end.new.findings.items c.in_ok-warnings.warnings.items c.in_ok-found.found.leaves_out missed c.kind.result c.steps_of.result c.in_ok-executed.executed.items)))

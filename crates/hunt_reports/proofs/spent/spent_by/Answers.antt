@@ -9,14 +9,12 @@ use Rattle.hunt_reports.proofs.Ends.{take_past}
 use Rattle.hunt_reports.proofs.Lists.{zip_more}
 use Rattle.hunt_reports.proofs.spent.spent_by.Goals as goal
 
-pub progress_at-requires : goal.progress_at-requires
-progress_at-requires c = record {
+pub loop_of-requires : goal.loop_of-requires
+loop_of-requires c = record {
   spe = All-get_or (λ (here : Location). here.spe < length c.args.run.now.setup.entries) c.args.running.now c.loop-here.here-index _ c.loop-here-test.true c.requires.within;
+  long = c.requires.long;
   spes = c.requires.spes;
 }
-
-pub loop_of-requires : goal.loop_of-requires
-loop_of-requires c = record { progress = c.progress_at.ensures; long = c.requires.long }
 
 pub loop-here-preserved : goal.loop-here-preserved
 loop-here-preserved c =
@@ -26,6 +24,6 @@ loop-here-preserved c =
 pub returns : goal.returns
 returns c = record {
   change = c.requires.change;
-  budget = c.budget.ensures ∙ ap (λ (S : Opening). S.budget) c.setup.ensures.setup ∙ ap (λ (m : Ran). m.setup.budget) c.machine.ensures.run;
+  budget = c.budget.ensures.budget ∙ ap (λ (S : Opening). S.budget) c.setup.ensures.setup ∙ ap (λ (m : Ran). m.setup.budget) c.machine.ensures.run;
   loops = subst (λ running. AllZip (IsLoop c.args.run.now) running c.loop-here.loops.items) (take_past c.args.running.now c.loop-here.here-index c.loop-here-test.false) c.loop-here.invariant;
 }

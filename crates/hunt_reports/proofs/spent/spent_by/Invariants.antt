@@ -5,6 +5,3 @@ use Rattle.hunt_reports.proofs.spent.spent_by.Given as goal
 
 abbrev pub invariant-loop-here : goal.invariant-loop-here
 invariant-loop-here l = AllZip (IsLoop l.run) (take l.here-index l.running) l.loops.items
-
-abbrev pub ghost-progress_at : goal.ghost-progress_at
-ghost-progress_at a = a.run.now

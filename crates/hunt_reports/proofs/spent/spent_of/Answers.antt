@@ -12,7 +12,7 @@ spent_by-requires c =
     let run = c.machine.ensures.run in
     record {
       within = c.requires;
-      long = made_long c.args.run.now (subst (λ m. trace_of m ≡ Some (map event_of (made_of m))) run c.in_ok-progress.ensures.trace);
-      change = c.in_ok-progress.ensures.change ∙ ap (λ (m : Ran). last_change (made_of m)) run;
-      spes = subst (λ (m : Ran). c.in_ok-progress.progress.spes.items ≡ map (spe_progress (made_of m)) (range_with_len 0 (length m.setup.entries))) run c.in_ok-progress.ensures.spes;
+      long = made_long c.args.run.now (subst (λ m. trace_of m ≡ Some (map event_of (made_of m))) run c.in_ok-progress-in-Budget.ensures.trace);
+      change = c.in_ok-progress-in-Budget.ensures.change ∙ ap (λ (m : Ran). last_change (made_of m)) run;
+      spes = c.in_ok-progress-in-Budget.ensures.spes ∙ ap (λ (m : Ran). map (spe_progress (made_of m)) (range_with_len 0 (length m.setup.entries))) run;
     }

@@ -5,7 +5,7 @@ use Rattle.hunt_reports.proofs.Warned.{none_warned, warned_more}
 use Rattle.hunt_reports.proofs.warnings.warnings_in.Goals as goal
 
 pub loop-loss-init : goal.loop-loss-init
-loop-loss-init c = none_warned c.args.run.now c.args.places.now _ c.new.ensures.items
+loop-loss-init c = none_warned c.args.run.now c.args.places.now _ c.new-warnings.ensures.items
 
 pub loop-loss-preserved : goal.loop-loss-preserved
 loop-loss-preserved c =
