@@ -60,7 +60,7 @@ pub record IsQuarry (files : List File) (machine : Word) (expect pass : Option W
   pub places : HasPlaces files machine q.asked.places
   pub expected : Expects files expect (bytes_in q.asked.expected.items)
   pub passed : Passes files pass q.setup q.asked.places (bytes_in q.asked.passed.items)
-  pub warns : q.asked.warns ≡ warns
+  pub warning : q.asked.warns ≡ warns
 
 -- ---- refusals
 

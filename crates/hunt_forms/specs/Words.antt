@@ -141,9 +141,13 @@ is_on Error = true
 
 -- ---- forms
 
+-- no option of hunts alone names a file or a folder
+abbrev pub names_nothing : Said → Bool
+names_nothing s = is_none s.expect && is_none s.pass && is_none s.until && is_none s.tools
+
 -- no option of hunts alone is given
 abbrev pub is_plain : Said → Bool
-is_plain s = is_none s.time && is_none s.jobs && is_none s.expect && is_none s.pass && is_none s.warn && is_none s.until && is_none s.tools && not s.all && not s.json
+is_plain s = names_nothing s && is_none s.time && is_none s.jobs && is_none s.warn && not s.all && not s.json
 
 abbrev pub hunt_said : Said → Word → Option Word → Option Word → Option Spoken
 hunt_said s machine runs seed =

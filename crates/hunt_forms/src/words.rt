@@ -3,7 +3,7 @@
 ghost use Rattle.std.specs.Prelude.{◌≡◌, ◌≤◌, ◌<◌, ◌+◌, Some, IfSome, map, option_and_then, string_bytes};
 ghost use Rattle.std.specs.Option.{option_map};
 ghost use Rattle.hunt_forms.specs.Heard.{heard, texts_of, silent, said_on};
-ghost use Rattle.hunt_forms.specs.Words.{asks_help, count_within, either, number_or, runs_asked, runs_said, time_said, most_made, told_runs, seed_said, from_said, jobs_said, tools_said, warn_named, warn_said, is_on, is_plain, hunt_said, each_said, record_said, placed, form_said, spoken, said, most_runs, most_run, most_jobs, IsWithin};
+ghost use Rattle.hunt_forms.specs.Words.{asks_help, count_within, either, number_or, runs_asked, runs_said, time_said, most_made, told_runs, seed_said, from_said, jobs_said, tools_said, warn_named, warn_said, is_on, is_plain, names_nothing, hunt_said, each_said, record_said, placed, form_said, spoken, said, most_runs, most_run, most_jobs, IsWithin};
 
 use crate::heard::{Heard, hear};
 use crate::numbers::{number_of, seconds_of};
@@ -240,17 +240,21 @@ fn warn_of(word: Option<&str>) -> Option<Warn>
     }
 }
 
+/// Whether no option of hunts alone names a file or a folder.
+fn names_nothing(words: &Heard) -> bool
+    ensures { result ≡ names_nothing (heard words.now) }
+{
+    words.expect.is_none() && words.pass.is_none() && words.until.is_none() && words.tools.is_none()
+}
+
 /// Whether no option of hunts alone is given.
 fn is_plain(words: &Heard) -> bool
     ensures { result ≡ is_plain (heard words.now) }
 {
-    words.time.is_none()
+    names_nothing(words)
+        && words.time.is_none()
         && words.jobs.is_none()
-        && words.expect.is_none()
-        && words.pass.is_none()
         && words.warn.is_none()
-        && words.until.is_none()
-        && words.tools.is_none()
         && !words.all
         && !words.json
 }

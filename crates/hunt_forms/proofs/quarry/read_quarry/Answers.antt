@@ -39,5 +39,5 @@ returns-clause-comes g c = λ told is.
       expected = expects told (texts_of c.args.expect) c.in_ok-expected.expected (c.in_ok-expected.ensures.comes told (c.read_machine.ensures.same ∙ is));
       passed = passes told (texts_of c.args.pass) c.in_ok-setup.setup c.in_ok-setup.places c.in_ok-passed.passed
           (c.in_ok-passed.ensures.comes told (c.expected_by.ensures.same ∙ c.read_machine.ensures.same ∙ is));
-      warns = refl;
+      warning = refl;
     }
