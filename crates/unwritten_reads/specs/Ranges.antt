@@ -1,0 +1,35 @@
+-- Bytes of the local stores, numbered through all stores in their order.
+use Rattle.std.specs.Prelude.{◌≡◌, ℕ, ◌+◌, ◌*◌, ◌<◌, ◌≤◌, Bool, true, ◌&&◌, nat_le, nat_lt, length}
+use Rattle.cell_machine.specs.declared.effect.Place.{Place}
+use Rattle.cell_machine.specs.declared.effect.Place.TheVariants.{Memory, Local}
+use Rattle.cell_machine.specs.declared.effect.Span.{Span}
+use Rattle.cell_machine.specs.Opening.{Placed}
+use Rattle.unwritten_reads.specs.declared.range.ByteRange.{ByteRange}
+use Rattle.unwritten_reads.specs.Reads.{is_in}
+
+-- the number of byte x of processor p's local store
+abbrev pub number : ℕ → ℕ → ℕ
+number p x = 262144 * p + x
+
+abbrev pub in_range : ByteRange → ℕ → Bool
+in_range r b = nat_le r.from b && nat_lt b r.end
+
+-- so many bytes of processor p's local store
+abbrev pub range_in : ℕ → ℕ → ℕ → ByteRange
+range_in p at len = record { from = number p at; end = number p at + len }
+
+-- the bytes of a span: none if it is one of main memory
+abbrev pub range_at : Place → ℕ → ℕ → ByteRange
+range_at Memory at len = record { from = 0; end = 0 }
+range_at (Local p) at len = range_in p at len
+
+abbrev pub range_of : Span → ByteRange
+range_of span = range_at span.place span.at span.len
+
+-- the local stores have so many pages of 4,096 bytes, 64 each, and the bytes of the span are in them
+abbrev pub IsInside : ℕ → Span → Type 0
+IsInside pages span = (p x : ℕ) → is_in span p x ≡ true → (64 * p + 64 ≤ pages) × (x < 262144)
+
+-- and so are those of the range
+abbrev pub IsWithin : ℕ → ByteRange → Type 0
+IsWithin pages r = r.from < r.end → r.end ≤ 4096 * pages
