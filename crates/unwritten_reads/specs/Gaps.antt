@@ -10,7 +10,7 @@ use Rattle.unwritten_reads.specs.Reads.{is_in, is_instruction}
 
 -- whether byte x of processor p's local store is in the set
 abbrev pub has : Known → ℕ → ℕ → Bool
-has known p x = is_marked known (number p x)
+has known p x = is_marked known.marks (number p x)
 
 -- a step that reads this span reads unwritten bytes, and this one is the first of them
 pub record IsGapAt (known : Known) (s : Step) (span : Span) (p at : ℕ) : Type 0 where

@@ -15,7 +15,7 @@ use Rattle.unwritten_reads.specs.Reads.{AreAllUnwritten, IsKnown}
 -- all unwritten reads of the run so far, and all known bytes
 pub record Knows (m : Ran) (o : UnwrittenReads) : Type 0 where
   pub opening : IsOpening m.setup
-  pub long : length o.known.pages.items ≡ 64 * length m.setup.entries
+  pub long : length o.known.marks ≡ 4096 * length m.setup.entries
   pub bytes : (p x : ℕ) → x < 262144 → (has o.known p x ≡ true) ↔ IsKnown m (length m.steps) p x
   pub found : AreAllUnwritten m o.found.items
 
@@ -24,5 +24,5 @@ pub record Adds (s : Step) (e : Effect) (place : ℕ) (old new : UnwrittenReads)
   pub gap : Option Unwritten
   pub is : IsGap old.known s e.reads place gap
   pub found : new.found.items ≡ old.found.items ++ option_to_list gap
-  pub long : length new.known.pages.items ≡ length old.known.pages.items
-  pub marks : (b : ℕ) → is_marked new.known b ≡ (is_marked old.known b || (in_range (range_of e.reads) b || in_range (range_of e.writes) b))
+  pub long : length new.known.marks ≡ length old.known.marks
+  pub marks : (b : ℕ) → is_marked new.known.marks b ≡ (is_marked old.known.marks b || (in_range (range_of e.reads) b || in_range (range_of e.writes) b))

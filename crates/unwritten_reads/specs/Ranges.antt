@@ -26,10 +26,10 @@ range_at (Local p) at len = range_in p at len
 abbrev pub range_of : Span → ByteRange
 range_of span = range_at span.place span.at span.len
 
--- the local stores have so many pages of 4,096 bytes, 64 each, and the bytes of the span are in them
+-- there are so many words of 64 bytes, 4,096 for each local store, and the bytes of the span are in them
 abbrev pub IsInside : ℕ → Span → Type 0
-IsInside pages span = (p x : ℕ) → is_in span p x ≡ true → (64 * p + 64 ≤ pages) × (x < 262144)
+IsInside words span = (p x : ℕ) → is_in span p x ≡ true → (4096 * p + 4096 ≤ words) × (x < 262144)
 
 -- and so are those of the range
 abbrev pub IsWithin : ℕ → ByteRange → Type 0
-IsWithin pages r = r.from < r.end → r.end ≤ 4096 * pages
+IsWithin words r = r.from < r.end → r.end ≤ 64 * words

@@ -2,7 +2,6 @@
 #![tactic(auto)]
 
 mod known;
-mod page;
 mod placed;
 mod range;
 mod reads;

@@ -11,8 +11,8 @@ use crate::range::{ByteRange, range_in};
 use cell_machine::{PlacedBytes, Setup};
 use std::alloc::{AllocError, Global};
 
-/// How many pages of 4 KiB a local store has.
-const STORE_PAGES: usize = 64;
+/// How many words of marks a local store has.
+const STORE_WORDS: usize = 4096;
 
 /// The numbers of placed bytes.
 fn range_of_placed(placed: &PlacedBytes) -> ByteRange
@@ -24,13 +24,14 @@ fn range_of_placed(placed: &PlacedBytes) -> ByteRange
 
 /// The set of the bytes that the machine file placed.
 pub(crate) fn placed_bytes(alloc: Global, setup: &Setup) -> Result<Known, AllocError>
-    ensures long { IfOk result (λ known. length known.pages.items ≡ 64 * length setup.now.entries) }
+    ensures long { IfOk result (λ known. length known.marks ≡ 4096 * length setup.now.entries) }
     ensures placed { IfOk result (λ known. (p x : ℕ) → x < 262144 → has known p x ≡ is_placed setup.now p x) }
     ensures opening { IsOpening setup.now }
 {
-    let mut known = Known::new(alloc, STORE_PAGES * usize::from(setup.spes()))?;
-    for placed in setup.placed() {
-        known.add(range_of_placed(placed))?;
+    let mut known = Known::new(alloc, STORE_WORDS * usize::from(setup.spes()));
+    let pieces = setup.placed();
+    for piece in pieces {
+        known.add(range_of_placed(piece))?;
     }
     Ok(known)
 }

@@ -1,6 +1,6 @@
 //! Ranges of bytes of the local stores.
 
-ghost use Rattle.std.specs.Prelude.{◌≡◌};
+ghost use Rattle.std.specs.Prelude.{◌≡◌, ◌*◌};
 ghost use Rattle.unwritten_reads.specs.Ranges.{range_in as range_in_store, range_of as range_of_span};
 
 use cell_machine::{Place, Span};
@@ -14,12 +14,20 @@ pub(crate) struct ByteRange {
     pub(crate) end: usize,
 }
 
+/// The number of the first byte of a processor's local store.
+#[inline(always)]
+pub(crate) fn start_of(spe: u8) -> usize
+    ensures { result ≡ 262144 * spe }
+{
+    STORE_BYTES * usize::from(spe)
+}
+
 /// So many bytes of a local store, from an address on.
 #[inline(always)]
 pub(crate) fn range_in(spe: u8, at: u32, len: u32) -> ByteRange
     ensures { result ≡ range_in_store spe at len }
 {
-    let from = STORE_BYTES * usize::from(spe) + at as usize;
+    let from = start_of(spe) + at as usize;
     ByteRange {
         from,
         end: from + len as usize,

@@ -1,15 +1,17 @@
 //! The unwritten reads of a run as it is made.
 
-ghost use Rattle.std.specs.Prelude.{◌≡◌, ℕ, ◌<◌, ◌≤◌, ◌*◌, [], length, Some, IfOk, OnOk};
+ghost use Rattle.std.specs.Prelude.{◌≡◌, ℕ, [], ◌++◌, true, false, length, Some, IfOk, OnOk};
+ghost use Rattle.std.specs.Option.{option_to_list};
 ghost use Rattle.cell_machine.specs.Effects.{effect_in};
 ghost use Rattle.cell_machine.specs.Run.{Ran};
-ghost use Rattle.unwritten_reads.specs.Ranges.{IsInside};
+ghost use Rattle.unwritten_reads.specs.Marks.{HasMarked, is_marked};
+ghost use Rattle.unwritten_reads.specs.Ranges.{IsInside, in_range, range_of as range_of_span};
 ghost use Rattle.unwritten_reads.specs.Gaps.{IsGap};
 ghost use Rattle.unwritten_reads.specs.Reads.{AreAllUnwritten, is_instruction as is_instruction_step, with_step};
 
 use crate::known::Known;
 use crate::placed::placed_bytes;
-use crate::range::range_of;
+use crate::range::{ByteRange, range_in, range_of, start_of};
 use crate::unwritten::Unwritten;
 use cell_base::Step;
 use cell_machine::{Effect, Machine, Place, Setup, Span};
@@ -25,23 +27,60 @@ fn is_instruction(step: Step) -> bool
     }
 }
 
+/// Whether a step neither reads nor writes a byte, as most instructions.
+#[inline(always)]
+fn touches_none(effect: &Effect) -> bool
+    ensures reads { result ≡ true → effect.now.reads.len ≡ 0 }
+    ensures writes { result ≡ true → effect.now.writes.len ≡ 0 }
+{
+    effect.reads.len == 0 && effect.writes.len == 0
+}
+
+/// Whether all bytes of local stores that a step reads or writes are known, as mostly.
+#[inline(always)]
+fn touches_known(known: &Known, effect: &Effect) -> bool
+    ensures reads { result ≡ true → (b : ℕ) → in_range (range_of_span effect.now.reads) b ≡ true → is_marked known.now.marks b ≡ true }
+    ensures writes { result ≡ true → (b : ℕ) → in_range (range_of_span effect.now.writes) b ≡ true → is_marked known.now.marks b ≡ true }
+{
+    known.has_all(range_of(&effect.reads)) && known.has_all(range_of(&effect.writes))
+}
+
+/// Adds an unwritten read, if there is one.
+fn keep(found: &mut Vec<Unwritten>, gap: Option<Unwritten>) -> Result<(), AllocError>
+    ensures { OnOk result (found.new.items ≡ found.old.items ++ option_to_list gap) }
+{
+    if let Some(gap) = gap {
+        found.push(gap)?;
+    }
+    Ok(())
+}
+
+/// Whether a step is an instruction that loads a known byte of the range.
+fn loads_known(known: &Known, step: Step, range: ByteRange) -> bool
+    ensures yes { result ≡ true → (is_instruction_step step ≡ true) × HasMarked known.now.marks range }
+    ensures no { result ≡ false → is_instruction_step step ≡ true → (b : ℕ) → in_range range b ≡ true → is_marked known.now.marks b ≡ false }
+{
+    is_instruction(step) && known.has_any(range)
+}
+
 /// The unwritten read by a step that reads this span, at this place of the run.
 fn gap_of(known: &Known, step: Step, span: &Span, place: u32) -> Option<Unwritten>
-    requires { IsInside (length known.now.pages.items) span.now }
+    requires { IsInside (length known.now.marks) span.now }
     ensures { IsGap known.now step span.now place result }
 {
     let Place::Local(spe) = span.place else {
         return None;
     };
-    let range = range_of(span);
+    let range = range_in(spe, span.at, span.len);
     let first = known.first(range, false)?;
-    if is_instruction(step) && known.first(range, true).is_some() {
+    if loads_known(known, step, range) {
         return None;
     }
+    let at = first - start_of(spe);
     Some(Unwritten {
         place,
         spe,
-        at: span.at + (first - range.from) as u32,
+        at: at as u32,
     })
 }
 
@@ -59,8 +98,9 @@ impl UnwrittenReads {
     pub fn new(alloc: Global, setup: &Setup) -> Result<UnwrittenReads, AllocError>
         ensures { IfOk result (λ reads. (m : Ran) → m.setup ≡ setup.now → m.steps ≡ [] → Knows m reads) }
     {
+        let known = placed_bytes(alloc, setup)?;
         Ok(UnwrittenReads {
-            known: placed_bytes(alloc, setup)?,
+            known,
             found: Vec::new(alloc),
         })
     }
@@ -68,13 +108,12 @@ impl UnwrittenReads {
     /// Adds a step that touches bytes that aren't known.
     #[inline(never)]
     fn add_new(&mut self, step: Step, effect: &Effect, place: u32) -> Result<(), AllocError>
-        requires reads { IsInside (length self.old.known.pages.items) effect.now.reads }
-        requires writes { IsInside (length self.old.known.pages.items) effect.now.writes }
+        requires reads { IsInside (length self.old.known.marks) effect.now.reads }
+        requires writes { IsInside (length self.old.known.marks) effect.now.writes }
         ensures { OnOk result (Adds step effect.now place self.old self.new) }
     {
-        if let Some(gap) = gap_of(&self.known, step, &effect.reads, place) {
-            self.found.push(gap)?;
-        }
+        let gap = gap_of(&self.known, step, &effect.reads, place);
+        keep(&mut self.found, gap)?;
         self.known.add(range_of(&effect.reads))?;
         self.known.add(range_of(&effect.writes))?;
         Ok(())
@@ -82,12 +121,11 @@ impl UnwrittenReads {
 
     /// Adds a step that touches bytes.
     fn add_touches(&mut self, step: Step, effect: &Effect, place: u32) -> Result<(), AllocError>
-        requires reads { IsInside (length self.old.known.pages.items) effect.now.reads }
-        requires writes { IsInside (length self.old.known.pages.items) effect.now.writes }
+        requires reads { IsInside (length self.old.known.marks) effect.now.reads }
+        requires writes { IsInside (length self.old.known.marks) effect.now.writes }
         ensures { OnOk result (Adds step effect.now place self.old self.new) }
     {
-        // Most touch only bytes that are known.
-        if self.known.has_all(range_of(&effect.reads)) && self.known.has_all(range_of(&effect.writes)) {
+        if touches_known(&self.known, effect) {
             return Ok(());
         }
         self.add_new(step, effect, place)
@@ -108,7 +146,7 @@ impl UnwrittenReads {
         requires place { length machine.now.steps ≡ place }
         ensures { OnOk result (Knows (with_step machine.now step) self.new) }
     {
-        if effect.reads.len == 0 && effect.writes.len == 0 {
+        if touches_none(effect) {
             return Ok(());
         }
         self.add_touches(step, effect, place)
