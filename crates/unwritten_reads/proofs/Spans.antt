@@ -42,7 +42,7 @@ pub same-local : (place : Place) (p : ℕ) → same_place place (Local p) ≡ tr
 same-local Memory p h = absurd (true≢false (sym h))
 same-local (Local q) p h = ap Local ((Decides-eqb q p).0 h)
 
-local-is : (p q : ℕ) → (let v : Place = Local p in v) ≡ (let w : Place = Local q in w) → p ≡ q
+pub local-is : (p q : ℕ) → (let v : Place = Local p in v) ≡ (let w : Place = Local q in w) → p ≡ q
 local-is p q h = cc
 
 -- what is known of a byte in a span

@@ -16,7 +16,7 @@ use Rattle.unwritten_reads.specs.Reads.{AreAllUnwritten, IsKnown}
 pub record Knows (m : Ran) (o : UnwrittenReads) : Type 0 where
   pub opening : IsOpening m.setup
   pub long : length o.known.marks ≡ 4096 * length m.setup.entries
-  pub bytes : (p x : ℕ) → x < 262144 → (has o.known p x ≡ true) ↔ IsKnown m (length m.steps) p x
+  pub bytes : (p x : ℕ) → x < 262144 → ((has o.known p x ≡ true) ↔ IsKnown m (length m.steps) p x)
   pub found : AreAllUnwritten m o.found.items
 
 -- what the step at this place of the run adds
