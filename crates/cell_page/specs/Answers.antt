@@ -57,7 +57,7 @@ Tells put code answer = (put ≡ Some (text_of answer)) × (answer.code ≡ code
 
 -- a line: the program's name, and what it tells
 abbrev pub told_line : List ℕ → List ℕ → List ℕ
-told_line program told = program ++ codes ": " ++ told ++ line_feed
+told_line program told = program ++ codes ": " ++ (told ++ line_feed)
 
 -- a program refuses with this text and this status; or memory was short
 abbrev pub Refuses : List ℕ → List ℕ → ℕ → Answer → Type 0
