@@ -26,7 +26,7 @@ MACHINE = "examples/races/mail_race.cell"
 PROCESSORS = (2, 6, 16)
 RUNS = 1_000_000
 NONE = '{"runs":0,"first":null}'
-FLAWS = ("race", "stuck", "budget", "fault", "halt", "missed")
+FLAWS = ("race", "stuck", "livelock", "budget", "fault", "halt", "missed")
 
 
 def lines(runs: int, spes: int) -> Iterator[str]:

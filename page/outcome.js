@@ -58,7 +58,7 @@ export function outcomeOf({ word, steps, incidents }, race) {
 }
 
 /** What can go wrong in a run of a hunt, by the names of the counts. */
-const FOUND = { race: 'race', stuck: 'deadlock', budget: 'spent budget', fault: 'fault', halt: 'halt' };
+const FOUND = { race: 'race', stuck: 'deadlock', livelock: 'livelock', budget: 'spent budget', fault: 'fault', halt: 'halt' };
 
 /**
  * The outcome of a hunt.

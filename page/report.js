@@ -11,9 +11,13 @@
 /** By the kinds of findings their count, and how the first line and their own lines name them. */
 const FINDINGS = {
   race: ['race', 'DATA RACE', 'data race'], halt: ['halt', 'HALT', 'halt'], fault: ['fault', 'FAULT', 'fault'], deadlock: ['stuck', 'DEADLOCK', 'deadlock'],
-  budget: ['budget', 'BUDGET SPENT', 'spent budget'],
+  livelock: ['livelock', 'LIVELOCK', 'livelock'], budget: ['budget', 'BUDGET SPENT', 'spent budget'],
 };
-const NOTHING = 'no data race, halt, fault, deadlock or spent budget';
+/** How the first line of a warning names it, by the kinds of warnings. */
+const WARNINGS = {
+  'lost-signal': 'warning: lost signal', 'unread-putllc': 'warning: unread status of a PUTLLC', 'unread-tags': 'warning: unread tag status',
+};
+const NOTHING = 'no data race, halt, fault, deadlock, livelock or spent budget';
 const MOST_ENDINGS = 8, MOST_RESULTS = 8; // that are listed: endings in which all SPUs stopped, and results of an ending
 const MOST_SPANS = 8; // of lines of a source that no run executed
 
@@ -27,18 +31,25 @@ const line = (text, run = null, kind = 'plain') => ({ kind, text, run });
 const deeper = (text, run = null) => line(`  ${text}`, run, 'deeper');
 
 /** The first line: which runs were made of a machine file, and what was found. @param {Sum} sum @param {string} machine */
-export function headOf({ runs, flaws, lineCounts: { lines, unexecuted } }, machine) {
+export function headOf(sum, machine) {
+  const { runs, flaws, lineCounts: { lines, unexecuted } } = sum, warnings = sum.of('warning').length;
   const found = Object.values(FINDINGS).filter(([flaw]) => flaws[flaw].runs).map(([flaw, words]) => `${words} in ${inRuns(flaws[flaw].runs)}`);
-  const note = unexecuted ? `; ${unexecuted} of ${lines} lines with instructions never executed` : '';
+  const warned = warnings ? `; ${warnings} ${warnings === 1 ? 'warning' : 'warnings'}` : '';
+  const note = warned + (unexecuted ? `; ${unexecuted} of ${lines} lines with instructions never executed` : '');
   return `${machine}: ${inRuns(runs)}, seed 1: ${found.join(', ') || NOTHING}${note}`;
 }
 
-/** The findings, by their kinds. @param {Sum} sum @returns {Line[]} */
+/** The failures, by their kinds, and then the warnings. @param {Sum} sum @returns {Line[]} */
 export function findingLines(sum) {
-  const found = sum.of('finding');
-  return Object.entries(FINDINGS).flatMap(([kind, [, , words]]) => found.filter(({ finding }) => finding === kind).flatMap(({ runs, first, shown }) => [
-    line(`${words} in ${runs} of ${inRuns(sum.runs)} (first: run ${first})`, first, kind), ...shownLines(shown)]));
+  const failures = sum.of('finding'), warnings = sum.of('warning');
+  return [
+    ...Object.entries(FINDINGS).flatMap(([kind, [, , words]]) => foundLines(sum, failures.filter(({ finding }) => finding === kind), words, kind)),
+    ...Object.entries(WARNINGS).flatMap(([kind, words]) => foundLines(sum, warnings.filter(({ warning }) => warning === kind), words, 'warning')),
+  ];
 }
+/** The lines of findings, which these words name. @param {Sum} sum @param {Entry[]} found @param {string} words @param {string} kind @returns {Line[]} */
+const foundLines = (sum, found, words, kind) => found.flatMap(({ runs, first, shown }) => [
+  line(`${words} in ${runs} of ${inRuns(sum.runs)} (first: run ${first})`, first, kind), ...shownLines(shown)]);
 /** A text that has a character a byte. @param {string} text */
 const decoded = text => new TextDecoder().decode(Uint8Array.from(Array.from(text, character => character.charCodeAt(0))));
 
@@ -50,7 +61,8 @@ function shownLines(shown) {
 
 /** How the runs ended, and which results they left. @param {Sum} sum @returns {Line[]} */
 export function endLines(sum) {
-  const { stuck, budget } = sum.flaws, ends = [[sum.allStopped, 'AllStopped'], [stuck.runs, 'Stuck'], [budget.runs, 'Budget']].filter(([runs]) => runs);
+  const { stuck, livelock, budget } = sum.flaws, spent = livelock.runs + budget.runs; // a livelock is a spent budget, too
+  const ends = [[sum.allStopped, 'AllStopped'], [stuck.runs, 'Stuck'], [spent, 'Budget']].filter(([runs]) => runs);
   const endings = sum.of('end'), stopped = endings.filter(({ end }) => end.startsWith('AllStopped'));
   const listed = stopped.length > 1 ? stopped.slice(0, MOST_ENDINGS) : [], more = stopped.length - MOST_ENDINGS;
   return [

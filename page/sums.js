@@ -3,7 +3,7 @@
 
 /**
  * @typedef {{ runs: number, first: number | null }} Count how many runs, and the number of the first
- * @typedef {Record<string, any> & Count} Entry a race, an ending, a result or a finding, as `hunt --json` prints it
+ * @typedef {Record<string, any> & Count} Entry a race, an ending, a result, a finding or a warning, as `hunt --json` prints it
  * @typedef {object} Part what `hunt --json` prints of some runs
  * @property {Record<string, any>} head
  * @property {Entry[]} entries
@@ -14,9 +14,9 @@
  *   the lines of a source with an instruction, in their order: the number of each, and 1 if a run executed it, else 0. The name has a character a byte
  */
 
-const FLAWS = ['race', 'stuck', 'budget', 'fault', 'halt', 'missed'];
+const FLAWS = ['race', 'stuck', 'livelock', 'budget', 'fault', 'halt', 'missed'];
 /** The members that tell two entries of a name apart. The first of these names that a line has as a member is its name. */
-const KEYS = { race: ['key'], result: ['end', 'result'], end: ['end'], missed: ['missed'], finding: ['key'] };
+const KEYS = { race: ['key'], result: ['end', 'result'], end: ['end'], missed: ['missed'], finding: ['key'], warning: ['key'] };
 
 /** The name of a line of `hunt --json`. @param {Record<string, any>} line @returns {string} */
 const nameOf = line => Object.keys(KEYS).find(name => name in line) || '';

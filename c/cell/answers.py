@@ -168,8 +168,9 @@ class Race:
 
 @dataclasses.dataclass(frozen=True)
 class Finding:
-    """A failure that `runs` runs have, and the number of the first of them. `kind` is race, halt, fault, deadlock, budget or missed; `lines` are those that a
-    report prints of it: source lines for most kinds, and for a race the suppression too."""
+    """A failure or a warning that `runs` runs have, and the number of the first of them. The `kind` of a failure is race, halt, fault, deadlock, livelock, missed or
+    budget, that of a warning lost-signal, unread-putllc or unread-tags; `lines` are those that a report prints of it: source lines for most kinds, and for a race
+    the suppression too."""
     kind: str
     runs: int
     first: int
@@ -184,9 +185,9 @@ class Lines(NamedTuple):
 
 @dataclasses.dataclass(frozen=True)
 class Hunt:
-    """The report on many runs. `flaws` has how many have a race, are stuck, spent the budget, have a fault or a halt, or miss an expected line, and `findings`
-    each failure; `endings` how they end, and `results` what those of an ending leave, by both, each with how many. `coverage` has the lines of each source by its
-    name; a line counts as executed if one SPU executed it. `text` is what `hunt --json` prints."""
+    """The report on many runs. `flaws` has how many have a race, are stuck, livelocked, spent the budget while still progressing, have a fault or a halt, or miss
+    an expected line, `findings` each failure, and `warnings` each warning; `endings` how they end, and `results` what those of an ending leave, by both, each with
+    how many. `coverage` has the lines of each source by its name; a line counts as executed if one SPU executed it. `text` is what `hunt --json` prints."""
     text: str
     runs: int
     seed: int
@@ -196,10 +197,11 @@ class Hunt:
     endings: Dict[str, Count]
     results: Dict[Tuple[str, str], Count]
     coverage: Dict[str, Lines]
+    warnings: Tuple[Finding, ...]
 
     @property
     def is_clean(self) -> bool:
-        """Whether no run has a flaw."""
+        """Whether no run has a flaw. Warnings are none."""
         return not any(count.runs for count in self.flaws.values())
 
 
@@ -217,8 +219,9 @@ def race_of(line: Json) -> Race:
     return Race(first, second, count_of(line))
 
 
-def finding_of(line: Json) -> Finding:
-    return Finding(line["finding"], line["runs"], line["first"], tuple(text[2:] for text in decoded(line["shown"]).split("\n")[:-1]))
+def finding_of(line: Json, name: str) -> Finding:
+    """The failure or the warning of a line, which has its kind under this name."""
+    return Finding(line[name], line["runs"], line["first"], tuple(text[2:] for text in decoded(line["shown"]).split("\n")[:-1]))
 
 
 def decoded(text: str) -> str:
@@ -238,8 +241,9 @@ def hunt_of(text: str) -> Hunt:
     races = tuple(race_of(line) for line in told if "race" in line)
     endings = {line["end"]: count_of(line) for line in told if "end" in line and "result" not in line}
     results = {(line["end"], line["result"]): count_of(line) for line in told if "result" in line}
-    findings = tuple(finding_of(line) for line in told if "finding" in line)
-    return Hunt(text, head["runs"], head["seed"], flaws, races, findings, endings, results, coverage_of([line for line in told if "source" in line]))
+    findings, warnings = (tuple(finding_of(line, name) for line in told if name in line) for name in ("finding", "warning"))
+    coverage = coverage_of([line for line in told if "source" in line])
+    return Hunt(text, head["runs"], head["seed"], flaws, races, findings, endings, results, coverage, warnings)
 
 
 # ---- traces

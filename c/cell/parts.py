@@ -4,9 +4,9 @@ import re
 from typing import Any, Dict, Iterator, List, Tuple
 
 COUNTED = re.compile(r'(.*),"runs":(\d+),"first":(\d+|null)\}')
-ORDER = ("race", "end", "result", "missed", "finding")  # of the lines between the first and those of the sources
+ORDER = ("race", "end", "result", "missed", "finding", "warning")  # of the lines between the first and those of the sources
 SOURCE = '{"source":'  # begins the line of a source
-KEYED = ("race", "finding")  # lines with a member `key`, by which two of them are the same
+KEYED = ("race", "finding", "warning")  # lines with a member `key`, by which two of them are the same
 SUMS = ("runs", "all_stopped", "left_out", "steps")  # numbers of the first line that are added; others are the same in each part
 
 Json = Dict[str, Any]

@@ -88,7 +88,10 @@ def found_by_hunt(machine: pathlib.Path) -> Optional[Findings]:
     if done.returncode not in (0, 1):
         return None
     head, *told = map(json.loads, done.stdout.splitlines())
-    flaws: Seen = {(name,): (head[name]["runs"], head[name]["first"]) for name in FLAWS if head[name]["runs"]}
+    spent = [head[name] for name in ("livelock", "budget") if head[name]["runs"]]  # the loop doesn't tell them apart
+    flaws: Seen = {(name,): (head[name]["runs"], head[name]["first"]) for name in FLAWS if head[name]["runs"] and name != "budget"}
+    if spent:
+        flaws[("budget",)] = sum(count["runs"] for count in spent), min(count["first"] for count in spent)
     ends: Seen = {(one["end"],): (one["runs"], one["first"]) for one in told if "end" in one and "result" not in one}
     results: Seen = {(one["end"], one["result"]): (one["runs"], one["first"]) for one in told if "result" in one}
     if head["runs"] != RUNS or done.returncode != bool(flaws):

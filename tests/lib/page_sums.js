@@ -31,7 +31,7 @@ function reportOf(sum, machine) {
   return [report.headOf(sum, machine), ...lines, report.coverageLine(sum), ...report.unexecutedLines(sum)];
 }
 /** All that a sum has; of the classes of runs the order doesn't matter. */
-const told = sum => JSON.stringify([sum.runs, sum.allStopped, sum.flaws, ...['race', 'end', 'result', 'finding'].map(name => sum.of(name)), sum.coverage,
+const told = sum => JSON.stringify([sum.runs, sum.allStopped, sum.flaws, ...['race', 'end', 'result', 'finding', 'warning'].map(name => sum.of(name)), sum.coverage,
   [...sum.kinds].sort(), sum.sources]);
 
 for (const { machine, files, runs, cuts } of JSON.parse(fs.readFileSync(0, 'utf8'))) {

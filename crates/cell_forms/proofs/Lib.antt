@@ -16,3 +16,4 @@ pub mod Reordered
 pub mod Judged
 pub mod Answered
 pub mod Summaries
+pub mod HexTexts

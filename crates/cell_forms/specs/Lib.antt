@@ -7,6 +7,7 @@ pub mod Output
 pub mod Answer
 pub mod Causes
 pub mod Code
+pub mod FaultTexts
 pub mod Runs
 pub mod Reordered
 pub mod Summaries

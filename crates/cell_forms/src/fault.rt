@@ -1,7 +1,9 @@
 //! The answers of the program.
 
-ghost use Rattle.std.specs.Prelude.{◌≡◌};
+ghost use Rattle.std.specs.Prelude.{◌≡◌, ◌++◌, codes};
+ghost use Rattle.std.specs.Fmt.{decimal, WritesOnOk};
 ghost use Rattle.cell_forms.specs.Code.{code_of, status_of};
+ghost use Rattle.cell_forms.specs.FaultTexts.{file_text, kind_text, hex_text};
 
 use race_check::Verdict;
 use spu_asm::AsmKind;
@@ -118,13 +120,37 @@ impl From<Verdict> for Status {
 }
 
 impl fmt::Display for FileId {
+    ghost use Rattle.std.specs.Prelude.{Some};
+    ghost use Rattle.cell_forms.specs.FaultTexts.{file_text};
+
+    ghost output = { λ file. Some (file_text file) };
+
     fn fmt<W: fmt::Write>(&self, f: &mut fmt::Formatter<W>) -> fmt::Result {
-        match self {
+        match *self {
             FileId::Machine => f.write_str("machine file"),
-            FileId::Source(number) => put_number(f, "source ", *number, ""),
+            FileId::Source(number) => put_number(f, "source ", number, ""),
             FileId::Rec => f.write_str("record file"),
             FileId::Script => f.write_str("script file"),
         }
+    }
+}
+
+/// The name of a fault of the assembler.
+fn kind_text(kind: AsmKind) -> &'static str
+    ensures { result.now ≡ kind_text kind }
+{
+    match kind {
+        AsmKind::BadChar => "BadChar",
+        AsmKind::BadNumber => "BadNumber",
+        AsmKind::UnknownName => "UnknownName",
+        AsmKind::BadDirective => "BadDirective",
+        AsmKind::BadOperand => "BadOperand",
+        AsmKind::Twice => "Twice",
+        AsmKind::NotMultiple => "NotMultiple",
+        AsmKind::Overlap => "Overlap",
+        AsmKind::OutsideStore => "OutsideStore",
+        AsmKind::Undefined => "Undefined",
+        AsmKind::OutOfRange => "OutOfRange",
     }
 }
 
@@ -134,7 +160,9 @@ fn put_number<W: fmt::Write>(
     before: &str,
     number: u32,
     behind: &str,
-) -> fmt::Result {
+) -> fmt::Result
+    ensures { WritesOnOk W.write_str_gives f.old result (before.now ++ decimal number ++ behind.now) f.new }
+{
     write!(f, "{before}{number}{behind}")
 }
 
@@ -144,7 +172,9 @@ fn put_file<W: fmt::Write>(
     before: &str,
     file: FileId,
     behind: &str,
-) -> fmt::Result {
+) -> fmt::Result
+    ensures { WritesOnOk W.write_str_gives f.old result (before.now ++ file_text file ++ behind.now) f.new }
+{
     write!(f, "{before}{file}{behind}")
 }
 
@@ -153,23 +183,51 @@ fn put_source<W: fmt::Write>(
     file: FileId,
     line: u32,
     kind: AsmKind,
-) -> fmt::Result {
-    write!(f, "{file}, line {line}: {kind:?}")
+) -> fmt::Result
+    ensures { WritesOnOk W.write_str_gives f.old result (file_text file ++ codes ", line " ++ decimal line ++ codes ": " ++ kind_text kind) f.new }
+{
+    let kind = kind_text(kind);
+    write!(f, "{file}, line {line}: {kind}")
 }
 
-fn put_word<W: fmt::Write>(
+/// An address of a local store.
+#[tactic(auto, unfolding(crate::specs::FaultTexts::hex_text))]
+fn put_address<W: fmt::Write>(f: &mut fmt::Formatter<W>, address: u32) -> fmt::Result
+    ensures { WritesOnOk W.write_str_gives f.old result (hex_text 5 address) f.new }
+{
+    write!(f, "0x{address:05x}")
+}
+
+/// An instruction word.
+#[tactic(auto, unfolding(crate::specs::FaultTexts::hex_text))]
+fn put_word<W: fmt::Write>(f: &mut fmt::Formatter<W>, word: u32) -> fmt::Result
+    ensures { WritesOnOk W.write_str_gives f.old result (hex_text 8 word) f.new }
+{
+    write!(f, "0x{word:08x}")
+}
+
+fn put_not_in_table<W: fmt::Write>(
     f: &mut fmt::Formatter<W>,
     spe: u8,
     address: u32,
     word: u32,
-) -> fmt::Result {
-    write!(
-        f,
-        "processor {spe}, 0x{address:05x}: 0x{word:08x} is not in the table"
-    )
+) -> fmt::Result
+    ensures { WritesOnOk W.write_str_gives f.old result (codes "processor " ++ decimal spe ++ codes ", " ++ hex_text 5 address ++ codes ": " ++ hex_text 8 word ++ codes " is not in the table") f.new }
+{
+    write!(f, "processor {spe}, ")?;
+    put_address(f, address)?;
+    f.write_str(": ")?;
+    put_word(f, word)?;
+    f.write_str(" is not in the table")
 }
 
 impl fmt::Display for Fault {
+    ghost use Rattle.std.specs.Prelude.{Some};
+    ghost use Rattle.cell_forms.specs.FaultTexts.{fault_text};
+
+    ghost output = { λ fault. Some (fault_text fault) };
+
+    #[tactic(auto, unfolding(crate::specs::FaultTexts::fault_text))]
     fn fmt<W: fmt::Write>(&self, f: &mut fmt::Formatter<W>) -> fmt::Result {
         match *self {
             Fault::Usage => f.write_str(
@@ -180,7 +238,7 @@ impl fmt::Display for Fault {
             Fault::TooLong { file } => put_file(f, "", file, " is too long"),
             Fault::Machine { line } => put_number(f, "machine file, line ", line, ""),
             Fault::Source { file, line, kind } => put_source(f, file, line, kind),
-            Fault::NotInTable { spe, address, word } => put_word(f, spe, address, word),
+            Fault::NotInTable { spe, address, word } => put_not_in_table(f, spe, address, word),
             Fault::BadRecord { line } => put_number(f, "record file, line ", line, ""),
             Fault::NotARun { at } => put_number(f, "step ", at, " is not allowed"),
             Fault::StatesDiffer { at } => put_number(f, "states differ at byte ", at, ""),

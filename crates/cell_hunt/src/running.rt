@@ -2,6 +2,7 @@
 
 ghost use Rattle.std.specs.Prelude.{◌≡◌, ◌<◌, [], length, Some, IfOk, OnOk};
 ghost use Rattle.cell_machine.specs.Run.{Ran, EndsAs};
+ghost use Rattle.lost_values.specs.Losses.{AreAllLosses};
 ghost use Rattle.race_check.specs.declared.check.Verdict.{Verdict as AVerdict};
 ghost use Rattle.race_check.specs.Races.{IsVerdict};
 ghost use Rattle.cell_hunt.specs.Endings.{AreAllEndings};
@@ -11,6 +12,7 @@ ghost use Rattle.cell_hunt.specs.Outcomes.{TellsRace};
 ghost use Rattle.cell_hunt.specs.SoFar.{IsSearchedTo, made_by};
 ghost use Rattle.cell_hunt.specs.Racings.{AreAllRaces};
 ghost use Rattle.cell_hunt.specs.Runs.{IsRunOfSeed};
+ghost use Rattle.cell_hunt.specs.Sites.{IsSite};
 ghost use Rattle.cell_hunt.specs.Goings.{Goes};
 ghost use Rattle.cell_hunt.specs.Kinds.{kind_of};
 
@@ -18,10 +20,12 @@ use crate::chooser::Chooser;
 use crate::ending::Ended;
 use crate::error::HuntError;
 use crate::executed::Executed;
+use crate::origins::Origins;
 use crate::racing::Racing;
-use crate::site::Sites;
+use crate::site::{Site, Sites};
 use crate::so_far::SoFar;
 use cell_machine::{End, Machine, Setup};
+use lost_values::Loss;
 use std::alloc::Global;
 use std::marker::Model;
 
@@ -33,6 +37,8 @@ pub struct SeedRun {
     races: Vec<Racing>,
     endings: Vec<Ended>,
     executed: Vec<Executed>,
+    losses: Vec<Loss>,
+    origins: Origins,
     kind: u64,
 }
 
@@ -48,8 +54,10 @@ impl Model for SeedRun {
     ghost use Rattle.cell_hunt.specs.Endings.{AreAllEndings};
     ghost use Rattle.cell_hunt.specs.Executed.{executed_in};
     ghost use Rattle.cell_hunt.specs.Kinds.{kind_of};
+    ghost use Rattle.cell_hunt.specs.Origins.{Knows};
+    ghost use Rattle.lost_values.specs.Losses.{AreAllLosses};
 
-    ghost invariant = { λ r. IsSearched r.machine r.least r.races.items × (r.kind ≡ kind_of r.machine) × AreAllEndings r.machine r.endings.items × (r.executed.items ≡ executed_in r.machine) };
+    ghost invariant = { λ r. IsSearched r.machine r.least r.races.items × (r.kind ≡ kind_of r.machine) × AreAllEndings r.machine r.endings.items × (r.executed.items ≡ executed_in r.machine) × AreAllLosses r.machine r.losses.items × Knows r.machine r.origins };
 }
 
 impl SeedRun {
@@ -99,6 +107,21 @@ impl SeedRun {
         self.executed.as_slice()
     }
 
+    /// The values that it loses: each of them is replaced before a step reads it, or is the status of a failed PUTLLC that is unread at its end.
+    pub fn losses(&self) -> &[Loss]
+        ensures { AreAllLosses self.now result.now }
+    {
+        self.losses.as_slice()
+    }
+
+    /// The site of its step at a place, counted from 0.
+    pub fn site(&self, place: u32) -> Site
+        requires { place < length self.now.steps }
+        ensures { IsSite self.now place result }
+    {
+        self.origins.site(&self.machine, place)
+    }
+
     /// The digest of its kind.
     pub fn kind(&self) -> u64
         ensures { result ≡ kind_of self.now }
@@ -139,12 +162,15 @@ pub fn run_of_seed(alloc: Global, setup: &Setup, seed: u64, run: u32) -> Result<
     make_all(&mut so_far, &mut chooser)?;
     let kind = so_far.touched.kind();
     let executed = so_far.touched.into_executed();
+    let losses = so_far.losses.finish()?;
     Ok(SeedRun {
         machine: so_far.search.into_machine(),
         least: so_far.least,
         races: so_far.races,
         endings: so_far.endings,
         executed,
+        losses,
+        origins: so_far.origins,
         kind,
     })
 }

@@ -17,6 +17,7 @@ use crate::racing::Racing;
 use crate::touched::Touched;
 use cell_base::Step;
 use cell_machine::{Effect, Note, Setup};
+use lost_values::Losses;
 use race_check::Search;
 use std::alloc::Global;
 
@@ -29,6 +30,7 @@ pub struct SoFar {
     pub races: Vec<Racing>,
     pub touched: Touched,
     pub endings: Vec<Ended>,
+    pub losses: Losses,
 }
 
 impl SoFar {
@@ -48,6 +50,7 @@ impl SoFar {
             races: Vec::new(alloc),
             touched: Touched::new(alloc, setup.lines()),
             endings: Vec::new(alloc),
+            losses: Losses::new(alloc),
         })
     }
 
@@ -118,6 +121,7 @@ impl SoFar {
         self.origins
             .add(self.search.machine(), step, effect, place)?;
         self.touched.add(step, effect)?;
+        self.losses.add(self.search.machine(), step, effect, place)?;
         let latest = self.search.go_on(step, effect)?;
         self.add_ending(effect.note, place)?;
         let Some(latest) = latest else {

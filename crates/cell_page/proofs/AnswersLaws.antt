@@ -1,6 +1,6 @@
 -- What the calls of the programs promise, told of an answer.
-use Rattle.std.proofs.Common.{◌≡◌, ◌≢◌, ◌∙◌, ℕ, false, List, [], ◌++◌, codes, Vec, String, Option, Some, Result, Ok, Err, refl, sym, ap, subst, inl, inr}
-use Rattle.std.specs.Prelude.{IfOk}
+use Rattle.std.proofs.Common.{◌≡◌, ◌≢◌, ◌∙◌, ℕ, false, List, [], ◌++◌, codes, Vec, String, Option, Some, None, Result, Ok, Err, refl, sym, ap, subst, inl, inr}
+use Rattle.std.specs.Prelude.{IfSome}
 use Rattle.std.proofs.lemmas.Option.{same_Some}
 use Rattle.std.specs.declared.alloc.Global.{Global}
 use Rattle.cell_base.specs.Words.{lines_of}
@@ -32,7 +32,10 @@ use Rattle.trace_forms.specs.declared.fault.Status.TheVariants as trace_status
 use Rattle.cell_page.specs.declared.answer.Answer.{Answer}
 use Rattle.cell_page.specs.declared.bundle.BundleError.{BundleError}
 use Rattle.cell_page.specs.declared.bundle.BundleError.TheVariants.{Form, Memory}
-use Rattle.cell_page.specs.Answers.{IsOf, IsOfCell, IsOfHunt, IsOfTrace, IsAnswerTo, IsLineOf, Refuses, RefusesCell, RefusesHunt, RefusesTrace, Tells, TellsCell, TellsHunt, TellsTrace, unused}
+use Rattle.cell_forms.specs.FaultTexts.{fault_text as cell_text}
+use Rattle.hunt_forms.specs.FaultTexts.{fault_text as hunt_text}
+use Rattle.trace_forms.specs.FaultTexts.{fault_text as trace_text}
+use Rattle.cell_page.specs.Answers.{IsOf, IsOfCell, IsOfHunt, IsOfTrace, IsAnswerTo, IsShort, Refuses, RefusesCell, RefusesHunt, RefusesTrace, Tells, TellsCell, TellsHunt, TellsTrace, told_line, unused}
 use Rattle.cell_page.specs.Asked.{Asked, by_cell, asked_by, without_runs}
 use Rattle.cell_page.specs.Missing.{IsMissing}
 use Rattle.cell_page.specs.Question.{IsQuestion}
@@ -40,31 +43,36 @@ use Rattle.cell_page.specs.Reading.{ReadsWords, ReadsFiles, ReadsBoth}
 
 -- ---- answers
 
-pub some_line : {E : Type 0} (program told : List ℕ) (result : Result (Vec ℕ Global) E) → IfOk result (λ text. text.items ≡ program ++ codes ": " ++ told) → IfOk result (λ text. IsLineOf program text.items)
-some_line program told (Ok text) e = (told, e)
-some_line program told (Err error) e = tt
+pub refused : (program told : List ℕ) (code : ℕ) (text : Vec ℕ Global) (answer : Answer) → answer ≡ record { text = Some text; code = code } → text.items ≡ told_line program told → Refuses program told code answer
+refused program told code text answer is line = subst (Refuses program told code) (sym is) (inr (line, refl))
 
-pub refused : (program : List ℕ) (code : ℕ) (text : Vec ℕ Global) (answer : Answer) → answer ≡ record { text = Some text; code = code } → IsLineOf program text.items → Refuses program code answer
-refused program code text answer is told = subst (Refuses program code) (sym is) (inr (told, refl))
+-- what its output is told by
+pub refused_with : (program : List ℕ) (code : ℕ) (output : Option (List ℕ)) (text : Vec ℕ Global) (answer : Answer) → answer ≡ record { text = Some text; code = code } → IfSome output (λ told. text.items ≡ told_line program told) → IfSome output (λ told. Refuses program told code answer)
+refused_with program code (Some told) text answer is line = refused program told code text answer is line
+refused_with program code None text answer is line = tt
+
+pub short_with : (program : List ℕ) (code : ℕ) (output : Option (List ℕ)) (answer : Answer) → IsShort answer → IfSome output (λ told. Refuses program told code answer)
+short_with program code (Some told) answer short = inl short
+short_with program code None answer short = tt
 
 pub tells : (text put : Vec ℕ Global) (code : ℕ) (answer : Answer) → answer ≡ record { text = Some text; code = code } → text ≡ put → Tells (Some put.items) code answer
 tells text put code answer is same = subst (Tells (Some put.items) code) (sym is) (ap (λ (v : Vec ℕ Global). Some v.items) (sym same), refl)
 
 -- a fault that is none of memory
-pub cell_refused : (fault : CellFault) (code : ℕ) (answer : Answer) → fault ≢ cell_fault.Memory → fault ≢ cell_fault.WriteFault → code ≡ cell_code (cell_status.Refused fault) → Refuses (codes "cell") code answer → RefusesCell fault answer
+pub cell_refused : (fault : CellFault) (code : ℕ) (answer : Answer) → fault ≢ cell_fault.Memory → fault ≢ cell_fault.WriteFault → code ≡ cell_code (cell_status.Refused fault) → Refuses (codes "cell") (cell_text fault) code answer → RefusesCell fault answer
 cell_refused cell_fault.Memory code answer memory write is h = absurd (memory refl)
 cell_refused cell_fault.WriteFault code answer memory write is h = absurd (write refl)
-cell_refused fault code answer memory write is h = subst (λ (c : ℕ). Refuses (codes "cell") c answer) is h
+cell_refused fault code answer memory write is h = subst (λ (c : ℕ). Refuses (codes "cell") (cell_text fault) c answer) is h
 
-pub hunt_refused : (fault : HuntFault) (code : ℕ) (answer : Answer) → fault ≢ hunt_fault.Memory → fault ≢ hunt_fault.WriteFault → code ≡ hunt_code (hunt_status.Refused fault) → Refuses (codes "hunt") code answer → RefusesHunt fault answer
+pub hunt_refused : (fault : HuntFault) (code : ℕ) (answer : Answer) → fault ≢ hunt_fault.Memory → fault ≢ hunt_fault.WriteFault → code ≡ hunt_code (hunt_status.Refused fault) → Refuses (codes "hunt") (hunt_text fault) code answer → RefusesHunt fault answer
 hunt_refused hunt_fault.Memory code answer memory write is h = absurd (memory refl)
 hunt_refused hunt_fault.WriteFault code answer memory write is h = absurd (write refl)
-hunt_refused fault code answer memory write is h = subst (λ (c : ℕ). Refuses (codes "hunt") c answer) is h
+hunt_refused fault code answer memory write is h = subst (λ (c : ℕ). Refuses (codes "hunt") (hunt_text fault) c answer) is h
 
-pub trace_refused : (fault : TraceFault) (code : ℕ) (answer : Answer) → fault ≢ trace_fault.Memory → fault ≢ trace_fault.WriteFault → code ≡ trace_code (trace_status.Refused fault) → Refuses (codes "run_trace") code answer → RefusesTrace fault answer
+pub trace_refused : (fault : TraceFault) (code : ℕ) (answer : Answer) → fault ≢ trace_fault.Memory → fault ≢ trace_fault.WriteFault → code ≡ trace_code (trace_status.Refused fault) → Refuses (codes "run_trace") (trace_text fault) code answer → RefusesTrace fault answer
 trace_refused trace_fault.Memory code answer memory write is h = absurd (memory refl)
 trace_refused trace_fault.WriteFault code answer memory write is h = absurd (write refl)
-trace_refused fault code answer memory write is h = subst (λ (c : ℕ). Refuses (codes "run_trace") c answer) is h
+trace_refused fault code answer memory write is h = subst (λ (c : ℕ). Refuses (codes "run_trace") (trace_text fault) c answer) is h
 
 -- a status that is no refusal
 pub cell_told : (status : CellStatus) (code : ℕ) (put : Option (List ℕ)) (answer : Answer) → ((fault : CellFault) → status ≡ cell_status.Refused fault → ⊥) → code ≡ cell_code status → Tells put code answer → TellsCell status put answer

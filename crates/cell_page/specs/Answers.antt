@@ -5,6 +5,7 @@ use Rattle.cell_io.specs.Files.{File}
 use Rattle.cell_io.specs.Store.{clean}
 use Rattle.cell_forms.specs.Answer.{Sinks}
 use Rattle.cell_forms.specs.Code.{code_of as cell_code}
+use Rattle.cell_forms.specs.FaultTexts.{fault_text as cell_text}
 use Rattle.cell_forms.specs.Promises.{Stores, Promises as CellPromises}
 use Rattle.cell_forms.specs.Words.{Spoken as CellSpoken}
 use Rattle.cell_forms.specs.declared.fault.Fault.{Fault as CellFault}
@@ -13,6 +14,7 @@ use Rattle.cell_forms.specs.declared.fault.Status.{Status as CellStatus}
 use Rattle.cell_forms.specs.declared.fault.Status.TheVariants as cell_status
 use Rattle.hunt_forms.specs.Answers.{Stores as HuntStores, Promises as HuntPromises}
 use Rattle.hunt_forms.specs.Code.{code_of as hunt_code}
+use Rattle.hunt_forms.specs.FaultTexts.{fault_text as hunt_text}
 use Rattle.hunt_forms.specs.Words.{Spoken as HuntSpoken}
 use Rattle.hunt_forms.specs.declared.fault.Fault.{Fault as HuntFault}
 use Rattle.hunt_forms.specs.declared.fault.Fault.TheVariants as hunt_fault
@@ -20,6 +22,7 @@ use Rattle.hunt_forms.specs.declared.fault.Status.{Status as HuntStatus}
 use Rattle.hunt_forms.specs.declared.fault.Status.TheVariants as hunt_status
 use Rattle.trace_forms.specs.Answers.{Promises as TracePromises}
 use Rattle.trace_forms.specs.Code.{code_of as trace_code}
+use Rattle.trace_forms.specs.FaultTexts.{fault_text as trace_text}
 use Rattle.trace_forms.specs.Words.{Spoken as TraceSpoken}
 use Rattle.trace_forms.specs.declared.fault.Fault.{Fault as TraceFault}
 use Rattle.trace_forms.specs.declared.fault.Fault.TheVariants as trace_fault
@@ -30,6 +33,7 @@ use Rattle.cell_page.specs.Missing.{IsMissing}
 use Rattle.cell_page.specs.Question.{IsQuestion, IsNoQuestion}
 use Rattle.cell_page.specs.declared.answer.Answer.{Answer}
 use Rattle.cell_page.specs.declared.answer.TheConstants.{OUT_OF_MEMORY}
+use Rattle.cell_base.specs.Records.{line_feed}
 use Rattle.cell_base.specs.Words.{lines_of}
 
 -- ---- answers
@@ -51,13 +55,13 @@ IsShort answer = (answer.text ≡ None) × (answer.code ≡ 7)
 abbrev pub Tells : Option (List ℕ) → ℕ → Answer → Type 0
 Tells put code answer = (put ≡ Some (text_of answer)) × (answer.code ≡ code)
 
--- what a program tells, behind its name
-abbrev pub IsLineOf : List ℕ → List ℕ → Type 0
-IsLineOf program text = (told : List ℕ) × (text ≡ program ++ codes ": " ++ told)
+-- a line: the program's name, and what it tells
+abbrev pub told_line : List ℕ → List ℕ → List ℕ
+told_line program told = program ++ codes ": " ++ (told ++ line_feed)
 
--- a program refuses with this status; or memory was short
-abbrev pub Refuses : List ℕ → ℕ → Answer → Type 0
-Refuses program code answer = IsShort answer ⊎ (IsLineOf program (text_of answer) × (answer.code ≡ code))
+-- a program refuses with this text and this status; or memory was short
+abbrev pub Refuses : List ℕ → List ℕ → ℕ → Answer → Type 0
+Refuses program told code answer = IsShort answer ⊎ ((text_of answer ≡ told_line program told) × (answer.code ≡ code))
 
 -- ---- what a program answers
 
@@ -69,7 +73,7 @@ unused = record { taken = Some []; faults = 0 }
 abbrev pub RefusesCell : CellFault → Answer → Type 0
 RefusesCell cell_fault.Memory answer = IsShort answer
 RefusesCell cell_fault.WriteFault answer = IsShort answer
-RefusesCell fault answer = Refuses (codes "cell") (cell_code (cell_status.Refused fault)) answer
+RefusesCell fault answer = Refuses (codes "cell") (cell_text fault) (cell_code (cell_status.Refused fault)) answer
 
 -- how a status is told, where this was put
 abbrev pub TellsCell : CellStatus → Option (List ℕ) → Answer → Type 0
@@ -90,7 +94,7 @@ pub record IsOfCell (files : List File) (spoken : CellSpoken) (answer : Answer) 
 abbrev pub RefusesHunt : HuntFault → Answer → Type 0
 RefusesHunt hunt_fault.Memory answer = IsShort answer
 RefusesHunt hunt_fault.WriteFault answer = IsShort answer
-RefusesHunt fault answer = Refuses (codes "hunt") (hunt_code (hunt_status.Refused fault)) answer
+RefusesHunt fault answer = Refuses (codes "hunt") (hunt_text fault) (hunt_code (hunt_status.Refused fault)) answer
 
 abbrev pub TellsHunt : HuntStatus → Option (List ℕ) → Answer → Type 0
 TellsHunt (hunt_status.Refused fault) put answer = RefusesHunt fault answer
@@ -108,7 +112,7 @@ pub record IsOfHunt (files : List File) (spoken : HuntSpoken) (answer : Answer) 
 abbrev pub RefusesTrace : TraceFault → Answer → Type 0
 RefusesTrace trace_fault.Memory answer = IsShort answer
 RefusesTrace trace_fault.WriteFault answer = IsShort answer
-RefusesTrace fault answer = Refuses (codes "run_trace") (trace_code (trace_status.Refused fault)) answer
+RefusesTrace fault answer = Refuses (codes "run_trace") (trace_text fault) (trace_code (trace_status.Refused fault)) answer
 
 abbrev pub TellsTrace : TraceStatus → Option (List ℕ) → Answer → Type 0
 TellsTrace (trace_status.Refused fault) put answer = RefusesTrace fault answer
@@ -135,7 +139,7 @@ IsOf files (by_trace spoken) answer = IsOfTrace files spoken answer
 abbrev pub IsAnswerTo : List ℕ → List ℕ → Answer → Type 0
 IsAnswerTo words files answer =
     IsShort answer ⊎ ((given : List File) × IsQuestion words files given × IsOf given (asked_by (lines_of words)) answer)
-    ⊎ (IsNoQuestion words files × Refuses (codes "cell") 2 answer)
+    ⊎ (IsNoQuestion words files × Refuses (codes "cell") (cell_text cell_fault.Usage) 2 answer)
 
 -- The text was put into the room, whose other bytes stay, and this is the status; or the room is too small for it, stays as it was, and the status is 4. How
 -- many bytes the text has is told.

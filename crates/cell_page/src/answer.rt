@@ -1,7 +1,7 @@
 //! What is answered: a text, and the exit status.
 
-ghost use Rattle.std.specs.Prelude.{◌≡◌, ◌++◌, IfOk, Some, codes};
-ghost use Rattle.cell_page.specs.Answers.{IsLineOf, IsShort, Refuses, text_of};
+ghost use Rattle.std.specs.Prelude.{◌≡◌, ◌++◌, IfOk, IfSome, Some, codes};
+ghost use Rattle.cell_page.specs.Answers.{IsShort, Refuses, text_of, told_line};
 
 use std::alloc::{AllocError, Global};
 use std::fmt::Display;
@@ -31,7 +31,7 @@ fn line_with(alloc: Global, program: &str, told: &str) -> Result<Vec<u8>, AllocE
 
 /// The line of a refusal by a program.
 fn line_of<F: Display + Drop>(alloc: Global, program: &str, fault: F) -> Result<Vec<u8>, AllocError>
-    ensures { IfOk result (λ text. IsLineOf program.now text.items) }
+    ensures { IfOk result (λ text. IfSome (F.Display.output fault) (λ told. text.items ≡ told_line program.now told)) }
 {
     let told = format!(in alloc; "{fault}\n")?;
     line_with(alloc, program, told.as_str())
@@ -57,9 +57,9 @@ impl Answer {
         }
     }
 
-    /// A program does nothing, for this fault.
+    /// A program does nothing, for this fault: its name, and the fault's text.
     pub fn refusal<F: Display + Drop>(alloc: Global, program: &str, fault: F, code: u8) -> Answer
-        ensures { Refuses program.now code result }
+        ensures { IfSome (F.Display.output fault) (λ told. Refuses program.now told code result) }
     {
         match line_of(alloc, program, fault) {
             Ok(text) => Answer::new(text, code),

@@ -111,10 +111,11 @@ impl<'a> Look<'a> {
         let a_second = u128::from(hunted.runs()) * 1000 / passed;
         let flaws = hunted.flaws();
         let _ = eprint!(rt;
-            "\rrun {} of {runs}, {a_second} a second: {} with a race, {} stuck, {} over budget, {} with a fault, {} halted, {} missing a line\x1b[K",
+            "\rrun {} of {runs}, {a_second} a second: {} with a race, {} stuck, {} livelocked, {} over budget, {} with a fault, {} halted, {} missing a line\x1b[K",
             hunted.runs(),
             flaws.race.runs,
             flaws.stuck.runs,
+            flaws.livelock.runs,
             flaws.budget.runs,
             flaws.fault.runs,
             flaws.halt.runs,

@@ -8,13 +8,13 @@ use Rattle.std.proofs.lemmas.List.Folds.{list_any-append}
 use Rattle.std.proofs.lemmas.List.Concat.{flat_map-append}
 use Rattle.cell_machine.specs.Opening.{Opening}
 use Rattle.cell_machine.specs.Run.{Ran}
-use Rattle.hunt_tally.specs.Reports.{Reported, Sums, steps_of, hunted, is_flawed}
+use Rattle.hunt_tally.specs.Reports.{Reported, Sums, steps_of, hunted}
 use Rattle.hunt_reports.specs.declared.asked.Asked.{Asked as Question}
 use Rattle.hunt_forms.specs.declared.each.Told.{Told}
 use Rattle.hunt_forms.specs.declared.input.Quarry.{Quarry}
 use Rattle.hunt_forms.specs.declared.parts.Part.{Part}
 use Rattle.hunt_forms.specs.Words.{Asked}
-use Rattle.hunt_forms.specs.Hunts.{Each, status_of, text_by, ends_at, ends_with, TellsHunt, TellsEach, HasTaken, HasMade, IsReportOfSeed, AreReports, IsPart, IsTold, TellsRuns, told_line, is_racy}
+use Rattle.hunt_forms.specs.Hunts.{Each, status_of, text_by, ends_at, ends_with, is_found, TellsHunt, TellsEach, HasTaken, HasMade, IsReportOfSeed, AreReports, IsPart, IsTold, TellsRuns, told_line, is_racy}
 use Rattle.hunt_forms.proofs.Eaches.{each-none, each-append, each-snoc}
 
 pub runs_of : (reports : List Reported) → (hunted reports).runs ≡ length reports
@@ -173,7 +173,7 @@ has_all q seed from made asked stopped h taken none some ends =
 -- ---- a hunt
 
 pub hunt_tells : (q : Quarry) (a : Asked) (stopped : Bool) (h : Sums) (text : List ℕ) (found : Bool) → HasMade q a.seed a.from a.runs stopped h
-    → ((reports : List Reported) → h ≡ hunted reports → found ≡ list_any is_flawed reports) → text ≡ text_by q.asked.places a h → TellsHunt q.setup q.asked a stopped (status_of found) text
+    → ((reports : List Reported) → h ≡ hunted reports → found ≡ is_found a.warn reports) → text ≡ text_by q.asked.places a h → TellsHunt q.setup q.asked a stopped (status_of found) text
 hunt_tells q a stopped h text found has finds is = record {
   reports = has.taken.reports;
   made = has.all;

@@ -1,5 +1,5 @@
 -- What the files that the words name stand for, or the first refusal.
-use Rattle.std.specs.Prelude.{◌≡◌, ℕ, List, [], map, Vec, Option, Some, None, Result, Ok, Err}
+use Rattle.std.specs.Prelude.{◌≡◌, ℕ, Bool, List, [], map, Vec, Option, Some, None, Result, Ok, Err}
 use Rattle.std.specs.declared.alloc.Global.{Global}
 use Rattle.cell_io.specs.Files.{File}
 use Rattle.cell_io.specs.Store.{Ledger, FailedAt}
@@ -55,11 +55,12 @@ Passes files None setup places keys = keys ≡ []
 Passes files (Some name) setup places keys = PassesIn files name setup places keys
 
 -- the files stand for this machine, and ask this of each run
-pub record IsQuarry (files : List File) (machine : Word) (expect pass : Option Word) (q : Quarry) : Type 0 where
+pub record IsQuarry (files : List File) (machine : Word) (expect pass : Option Word) (warns : Bool) (q : Quarry) : Type 0 where
   pub setup : StandsFor files machine q.setup
   pub places : HasPlaces files machine q.asked.places
   pub expected : Expects files expect (bytes_in q.asked.expected.items)
   pub passed : Passes files pass q.setup q.asked.places (bytes_in q.asked.passed.items)
+  pub warning : q.asked.warns ≡ warns
 
 -- ---- refusals
 
@@ -137,9 +138,9 @@ RefusesFiles files machine expect pass old new Memory = Unit {0}
 RefusesFiles files machine expect pass old new other = ⊥
 
 -- the files stand for what is hunted, or they are refused
-abbrev pub Comes : List File → Word → Option Word → Option Word → Ledger → Ledger → Result Quarry Fault → Type 0
-Comes files machine expect pass old new (Ok q) = IsQuarry files machine expect pass q
-Comes files machine expect pass old new (Err fault) = RefusesFiles files machine expect pass old new fault
+abbrev pub Comes : List File → Word → Option Word → Option Word → Bool → Ledger → Ledger → Result Quarry Fault → Type 0
+Comes files machine expect pass warns old new (Ok q) = IsQuarry files machine expect pass warns q
+Comes files machine expect pass warns old new (Err fault) = RefusesFiles files machine expect pass old new fault
 
 -- whatever the store tells: a reading is said to fail only where it did, under the name of that file
 abbrev pub FailsBy : Word → Option Word → Option Word → Ledger → Ledger → Fault → Type 0

@@ -5,7 +5,7 @@ use Rattle.std.specs.Option.{option_map}
 use Rattle.std.specs.Cmp.Lexicographic.{pointwise}
 use Rattle.cell_base.specs.Numbers.{◌>>=◌}
 use Rattle.hunt_forms.specs.declared.heard.Key.{Key}
-use Rattle.hunt_forms.specs.declared.heard.Key.TheVariants.{Runs, Time, Seed, From, Jobs, Expect, Pass, Until, Tools}
+use Rattle.hunt_forms.specs.declared.heard.Key.TheVariants.{Runs, Time, Seed, From, Jobs, Expect, Pass, Warn, Until, Tools}
 use Rattle.hunt_forms.specs.declared.heard.Heard.{Heard}
 
 abbrev pub Word : Type 0
@@ -33,6 +33,7 @@ pub record Said : Type 0 where
   pub jobs : Option Word
   pub expect : Option Word
   pub pass : Option Word
+  pub warn : Option Word
   pub until : Option Word
   pub tools : Option Word
   pub all : Bool
@@ -53,6 +54,7 @@ silent = record {
   jobs = None;
   expect = None;
   pass = None;
+  warn = None;
   until = None;
   tools = None;
   all = false;
@@ -74,6 +76,7 @@ with_value s From word = option_map (λ w. record s { from = w; awaited = None }
 with_value s Jobs word = option_map (λ w. record s { jobs = w; awaited = None }) (once s.jobs word)
 with_value s Expect word = option_map (λ w. record s { expect = w; awaited = None }) (once s.expect word)
 with_value s Pass word = option_map (λ w. record s { pass = w; awaited = None }) (once s.pass word)
+with_value s Warn word = option_map (λ w. record s { warn = w; awaited = None }) (once s.warn word)
 with_value s Until word = option_map (λ w. record s { until = w; awaited = None }) (once s.until word)
 with_value s Tools word = option_map (λ w. record s { tools = w; awaited = None }) (once s.tools word)
 
@@ -87,6 +90,7 @@ key_of word =
     else if is_word word (codes "--jobs") then Some Jobs
     else if is_word word (codes "--expect") then Some Expect
     else if is_word word (codes "--pass") then Some Pass
+    else if is_word word (codes "--warn") then Some Warn
     else if is_word word (codes "--until") then Some Until
     else if is_word word (codes "--tools") then Some Tools
     else None
@@ -151,6 +155,7 @@ heard h = record {
   jobs = texts_of h.jobs;
   expect = texts_of h.expect;
   pass = texts_of h.pass;
+  warn = texts_of h.warn;
   until = texts_of h.until;
   tools = texts_of h.tools;
   all = h.all;

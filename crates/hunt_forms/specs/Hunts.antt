@@ -15,7 +15,7 @@ use Rattle.cell_hunt.specs.Outcomes.{IsOutcome}
 use Rattle.cell_hunt.specs.declared.site.Sites.{Sites}
 use Rattle.reorder_laws.specs.Settled.{IsSettled}
 use Rattle.hunt_tally.specs.Coverage.{SourceLines}
-use Rattle.hunt_tally.specs.Reports.{Reported, Sums, steps_of, hunted, is_flawed}
+use Rattle.hunt_tally.specs.Reports.{Reported, Sums, steps_of, hunted, is_flawed, is_warned}
 use Rattle.hunt_texts.specs.About.{Facts}
 use Rattle.hunt_texts.specs.Texts.{hunt_text}
 use Rattle.hunt_texts.specs.Jsons.{hunt_json}
@@ -30,6 +30,8 @@ use Rattle.hunt_forms.specs.declared.each.Told.{Told}
 use Rattle.hunt_forms.specs.declared.parts.Part.{Part}
 use Rattle.hunt_forms.specs.declared.team.Round.{Round}
 use Rattle.hunt_forms.specs.declared.words.Hunt.{Hunt}
+use Rattle.hunt_forms.specs.declared.words.Warn.{Warn}
+use Rattle.hunt_forms.specs.declared.words.Warn.TheVariants.{Off, Print, Error}
 use Rattle.hunt_forms.specs.Words.{Asked, most_made}
 
 -- it holds of each element with its number, of which the first is n
@@ -94,14 +96,20 @@ text_with a h coverage = if a.json then hunt_json h a.seed a.from (is_some a.exp
 abbrev pub text_by : Places → Asked → Sums → List ℕ
 text_by places a h = text_with a h (coverage_of places h.executed)
 
--- The text tells the reports of the runs that are asked for, of the first ones alone where somebody ended the hunt, and the status whether one of
--- them has a flaw.
+-- whether something was found: a failure, or a warning if these count as failures
+abbrev pub is_found : Warn → List Reported → Bool
+is_found Error reports = list_any is_flawed reports || list_any is_warned reports
+is_found Print reports = list_any is_flawed reports
+is_found Off reports = list_any is_flawed reports
+
+-- The text tells the reports of the runs that are asked for, of the first ones alone where somebody ended the hunt, and the status whether something
+-- was found in one of them.
 pub record TellsHunt (setup : Opening) (question : Question) (a : Asked) (stopped : Bool) (status : Status) (text : List ℕ) : Type 0 where
   pub reports : List Reported
   pub made : AreMade stopped a.runs reports
   pub each : AreReports setup question a.seed a.from reports
   pub says : text ≡ text_by question.places a (hunted reports)
-  pub found : status ≡ status_of (list_any is_flawed reports)
+  pub found : status ≡ status_of (is_found a.warn reports)
 
 -- ---- each run
 

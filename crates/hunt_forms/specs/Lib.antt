@@ -9,6 +9,7 @@ pub mod Placings
 pub mod Statements
 pub mod Sources
 pub mod Code
+pub mod FaultTexts
 pub mod Files
 pub mod Hunts
 pub mod Answers

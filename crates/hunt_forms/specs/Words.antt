@@ -1,10 +1,12 @@
 -- The forms of words.
-use Rattle.std.specs.Prelude.{ℕ, ◌+◌, ◌-◌, ◌≤◌, ◌<◌, ◌^◌, nat_le, nat_lt, Bool, ◌&&◌, List, if◌then◌else◌, codes, Option, Some, None, IfSome, unwrap_or, is_none, not}
+use Rattle.std.specs.Prelude.{ℕ, ◌+◌, ◌-◌, ◌≤◌, ◌<◌, ◌^◌, nat_le, nat_lt, Bool, true, false, ◌&&◌, List, if◌then◌else◌, codes, Option, Some, None, IfSome, unwrap_or, is_none, not}
 use Rattle.std.specs.Option.{option_map}
 use Rattle.std.specs.List.{list_any}
 use Rattle.cell_base.specs.Numbers.{◌>>=◌}
 use Rattle.hunt_forms.specs.Numbers.{number_within, seconds_within}
 use Rattle.hunt_forms.specs.Heard.{Word, is_word, texts_of, Said, silent, said_on}
+use Rattle.hunt_forms.specs.declared.words.Warn.{Warn}
+use Rattle.hunt_forms.specs.declared.words.Warn.TheVariants.{Off, Print, Error}
 use Rattle.hunt_forms.specs.declared.words.Form.{Form}
 use Rattle.hunt_forms.specs.declared.words.Form.TheVariants as form
 use Rattle.hunt_forms.specs.declared.words.Hunt.{Hunt}
@@ -23,6 +25,8 @@ pub record Asked : Type 0 where
   -- the expectation file and the pass file
   pub expect : Option Word
   pub pass : Option Word
+  -- what is done with warnings
+  pub warn : Warn
   -- the file that ends the hunt once it exists
   pub until : Option Word
   -- the folder of the tools, as commands name it, and whether all findings are printed
@@ -116,16 +120,39 @@ abbrev pub tools_said : Option Word → Word
 tools_said None = codes "tools"
 tools_said (Some word) = word
 
+-- what is done with warnings: they are not looked for, or printed, or they count as failures
+abbrev pub warn_named : Word → Option Warn
+warn_named word =
+    if is_word word (codes "none") then Some Off
+    else if is_word word (codes "print") then Some Print
+    else if is_word word (codes "error") then Some Error
+    else None
+
+-- by default they are printed
+abbrev pub warn_said : Option Word → Option Warn
+warn_said None = Some Print
+warn_said (Some word) = warn_named word
+
+-- whether they are looked for
+abbrev pub is_on : Warn → Bool
+is_on Off = false
+is_on Print = true
+is_on Error = true
+
 -- ---- forms
+
+-- no option of hunts alone names a file or a folder
+abbrev pub names_nothing : Said → Bool
+names_nothing s = is_none s.expect && is_none s.pass && is_none s.until && is_none s.tools
 
 -- no option of hunts alone is given
 abbrev pub is_plain : Said → Bool
-is_plain s = is_none s.time && is_none s.jobs && is_none s.expect && is_none s.pass && is_none s.until && is_none s.tools && not s.all && not s.json
+is_plain s = names_nothing s && is_none s.time && is_none s.jobs && is_none s.warn && not s.all && not s.json
 
 abbrev pub hunt_said : Said → Word → Option Word → Option Word → Option Spoken
 hunt_said s machine runs seed =
-    runs_said runs >>= λ said. time_said s.time >>= λ time. seed_said seed >>= λ seed. from_said s.from (most_made (runs_asked time said)) >>= λ from. jobs_said s.jobs >>= λ jobs.
-    Some (hunt (record { machine = machine; from = from; runs = runs_asked time said; time = time; seed = seed; jobs = jobs; expect = s.expect; pass = s.pass; until = s.until; tools = tools_said s.tools; all = s.all; json = s.json }))
+    runs_said runs >>= λ said. time_said s.time >>= λ time. seed_said seed >>= λ seed. from_said s.from (most_made (runs_asked time said)) >>= λ from. jobs_said s.jobs >>= λ jobs. warn_said s.warn >>= λ warn.
+    Some (hunt (record { machine = machine; from = from; runs = runs_asked time said; time = time; seed = seed; jobs = jobs; expect = s.expect; pass = s.pass; warn = warn; until = s.until; tools = tools_said s.tools; all = s.all; json = s.json }))
 
 abbrev pub each_said : Said → Word → Option Word → Option Word → Option Spoken
 each_said s machine runs seed =
@@ -168,6 +195,7 @@ asked h = record {
   jobs = h.jobs;
   expect = texts_of h.expect;
   pass = texts_of h.pass;
+  warn = h.warn;
   until = texts_of h.until;
   tools = h.tools.now;
   all = h.all;

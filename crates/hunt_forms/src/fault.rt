@@ -60,6 +60,11 @@ impl Status {
 }
 
 impl fmt::Display for FileId {
+    ghost use Rattle.std.specs.Prelude.{Some};
+    ghost use Rattle.hunt_forms.specs.FaultTexts.{file_text};
+
+    ghost output = { λ file. Some (file_text file) };
+
     fn fmt<W: fmt::Write>(&self, f: &mut fmt::Formatter<W>) -> fmt::Result {
         f.write_str(match self {
             FileId::Expect => "expectation file",
@@ -69,10 +74,16 @@ impl fmt::Display for FileId {
 }
 
 impl fmt::Display for Fault {
+    ghost use Rattle.std.specs.Prelude.{Some};
+    ghost use Rattle.hunt_forms.specs.FaultTexts.{fault_text};
+
+    ghost output = { λ fault. Some (fault_text fault) };
+
+    #[tactic(auto, unfolding(crate::specs::FaultTexts::fault_text))]
     fn fmt<W: fmt::Write>(&self, f: &mut fmt::Formatter<W>) -> fmt::Result {
         match *self {
             Fault::Usage => f.write_str(
-                "usage: hunt MACHINE [--runs N] [--time S] [--seed S] [--from K] [--jobs N] [--expect FILE] [--pass FILE] [--until FILE] [--all] [--tools DIR] [--json], hunt MACHINE RUNS [SEED], hunt MACHINE each [RUNS [SEED]] or hunt MACHINE record K [SEED]",
+                "usage: hunt MACHINE [--runs N] [--time S] [--seed S] [--from K] [--jobs N] [--expect FILE] [--pass FILE] [--warn none|print|error] [--until FILE] [--all] [--tools DIR] [--json], hunt MACHINE RUNS [SEED], hunt MACHINE each [RUNS [SEED]] or hunt MACHINE record K [SEED]",
             ),
             Fault::Machine(fault) => fault.fmt(f),
             Fault::ReadFault { file } => write!(f, "cannot read {file}"),

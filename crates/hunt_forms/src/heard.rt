@@ -14,6 +14,7 @@ pub enum Key {
     Jobs,
     Expect,
     Pass,
+    Warn,
     Until,
     Tools,
 }
@@ -34,6 +35,7 @@ pub struct Heard<'a> {
     pub jobs: Option<&'a str>,
     pub expect: Option<&'a str>,
     pub pass: Option<&'a str>,
+    pub warn: Option<&'a str>,
     pub until: Option<&'a str>,
     pub tools: Option<&'a str>,
     pub all: bool,
@@ -63,6 +65,7 @@ fn key_of(word: &str) -> Option<Key>
         "--jobs" => Some(Key::Jobs),
         "--expect" => Some(Key::Expect),
         "--pass" => Some(Key::Pass),
+        "--warn" => Some(Key::Warn),
         "--until" => Some(Key::Until),
         "--tools" => Some(Key::Tools),
         _ => None,
@@ -86,6 +89,7 @@ impl<'a> Heard<'a> {
             jobs: None,
             expect: None,
             pass: None,
+            warn: None,
             until: None,
             tools: None,
             all: false,
@@ -114,6 +118,7 @@ impl<'a> Heard<'a> {
                 ..old
             }),
             Key::Pass if old.pass.is_none() => Some(Heard { pass: value, ..old }),
+            Key::Warn if old.warn.is_none() => Some(Heard { warn: value, ..old }),
             Key::Until if old.until.is_none() => Some(Heard {
                 until: value,
                 ..old

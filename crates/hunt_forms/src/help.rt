@@ -17,12 +17,14 @@ whether it is settled. `record` prints run K as `cell run` does.
   --jobs N       the number of threads, 1 to 256 (default: one for each core)
   --expect FILE  each line of FILE has to be among the states of every run
   --pass FILE    the races in FILE, as hunt prints them, aren't reported
+  --warn WHAT    what to do with warnings, such as a signal that is lost: `print` them (default), look for `none`, or `error`: print them, and count
+                 them as failures
   --until FILE   end the hunt once FILE exists, and report on the runs made so far
-  --all          print all findings, not only the first four
+  --all          print all findings (failures and warnings), not only the first four
   --tools DIR    the folder of the tools in the commands that the report prints (default tools)
   --json         print one JSON object a line
   --help         print this text
 
-The exit status of a hunt is 1 if a run has a race, a deadlock, a fault or a halt, spends its budget, or misses an expected line, and that of
-`each` is 1 if a run has a race. Otherwise it is 0. With 2 to 7 the report is missing or incomplete.
+The exit status of a hunt is 1 if a run has a race, a deadlock, a livelock, a fault or a halt, spends its budget, or misses an expected line, or,
+with --warn error, has a warning, and that of `each` is 1 if a run has a race. Otherwise it is 0. With 2 to 7 the report is missing or incomplete.
 ";

@@ -28,4 +28,4 @@ mod words;
 pub use fault::{Fault, FileId, Status};
 pub use program::{hunt, hunt_quiet};
 pub use progress::Progress;
-pub use words::{Form, Hunt, form_of};
+pub use words::{Form, Hunt, Warn, form_of};

@@ -1,10 +1,10 @@
 //! All that the program does.
 
-ghost use Rattle.std.specs.Prelude.{[], ◌≡◌, ◌≢◌, ◌≤◌, ◌<◌, Bool, length, map, string_bytes, IfOk};
-ghost use Rattle.hunt_tally.specs.Reports.{hunted};
+ghost use Rattle.std.specs.Prelude.{[], ◌≡◌, ◌≢◌, ◌≤◌, ◌<◌, Bool, List, length, map, string_bytes, IfOk};
+ghost use Rattle.hunt_tally.specs.Reports.{Reported, hunted};
 ghost use Rattle.hunt_forms.specs.declared.fault.Fault.{Fault as AFault};
 ghost use Rattle.hunt_forms.specs.Words.{spoken, asked, most_made, AreRuns, hunt, each, record_of};
-ghost use Rattle.hunt_forms.specs.Hunts.{status_of, text_by, text_with, TellsHunt, TellsEach, IsNext, MakesRounds};
+ghost use Rattle.hunt_forms.specs.Hunts.{status_of, is_found, text_by, text_with, TellsHunt, TellsEach, IsNext, MakesRounds};
 ghost use Rattle.hunt_forms.specs.Answers.{Promises, TellsRun, EndsText, EndsBy};
 
 use crate::each::tell_each;
@@ -17,7 +17,7 @@ use crate::progress::Progress;
 use crate::quarry::read_quarry;
 use crate::team::{Round, Team, make_alone};
 use crate::threads::{cores_of, make_on_threads};
-use crate::words::{Form, Hunt, form_of};
+use crate::words::{Form, Hunt, Warn, form_of};
 use cell_forms::{Fault as InputFault, Status as InputStatus, write_run};
 use cell_hunt::machine_of_seed;
 use cell_io::{Sink, SinkFault, Store};
@@ -36,6 +36,21 @@ fn status_of(is_found: bool) -> Status
         Status::Found
     } else {
         Status::Clean
+    }
+}
+
+/// Whether something was found.
+fn is_found(warn: Warn, sums: &Hunted) -> bool
+    ensures { (reports : List Reported) → sums.now ≡ hunted reports → result ≡ is_found warn reports }
+{
+    match warn {
+        Warn::Error => {
+            let is_flawed = sums.has_flaw();
+            let is_warned = sums.has_warning();
+            is_flawed || is_warned
+        }
+        Warn::Print => sums.has_flaw(),
+        Warn::Off => sums.has_flaw(),
     }
 }
 
@@ -110,7 +125,7 @@ where
 {
     hunt_runs(team, quarry, hunt, progress, sums)?;
     let text = text_of(alloc, &quarry.asked.places, sums, hunt)?;
-    Ok((text, sums.has_flaw()))
+    Ok((text, is_found(hunt.warn, sums)))
 }
 
 /// The text of a hunt, and whether something was found.
@@ -178,7 +193,14 @@ where
         (record { files = T.files files.old; ledger = T.ledger files.old }) (record { files = T.files files.new; ledger = T.ledger files.new })
         (record { taken = K.taken out.old; faults = K.faults out.old }) (record { taken = K.taken out.new; faults = K.faults out.new }) result }
 {
-    match read_quarry(alloc, files, wanted.machine, wanted.expect, wanted.pass) {
+    match read_quarry(
+        alloc,
+        files,
+        wanted.machine,
+        wanted.expect,
+        wanted.pass,
+        wanted.warn.is_on(),
+    ) {
         Ok(quarry) => write_hunt(team, alloc, &quarry, wanted, out, progress),
         Err(fault) => Status::Refused(fault),
     }
@@ -219,7 +241,7 @@ fn each_form<T: Store, K: Sink>(
         (record { files = T.files files.old; ledger = T.ledger files.old }) (record { files = T.files files.new; ledger = T.ledger files.new })
         (record { taken = K.taken out.old; faults = K.faults out.old }) (record { taken = K.taken out.new; faults = K.faults out.new }) result }
 {
-    match read_quarry(alloc, files, machine, None, None) {
+    match read_quarry(alloc, files, machine, None, None, false) {
         Ok(quarry) => write_each(alloc, &quarry.setup, from, runs, seed, out),
         Err(fault) => Status::Refused(fault),
     }
@@ -254,7 +276,7 @@ fn record_form<T: Store, K: Sink>(
         (record { files = T.files files.old; ledger = T.ledger files.old }) (record { files = T.files files.new; ledger = T.ledger files.new })
         (record { taken = K.taken out.old; faults = K.faults out.old }) (record { taken = K.taken out.new; faults = K.faults out.new }) result }
 {
-    match read_quarry(alloc, files, machine, None, None) {
+    match read_quarry(alloc, files, machine, None, None, false) {
         Ok(quarry) => write_record(alloc, &quarry.setup, run, seed, out),
         Err(fault) => Status::Refused(fault),
     }

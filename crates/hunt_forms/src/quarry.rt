@@ -53,13 +53,15 @@ fn passed_by<T: Store>(
     }
 }
 
-/// What is hunted: the machine file and its sources are read, then the expectation file, then the pass file.
+/// What is hunted: the machine file and its sources are read, then the expectation file, then the pass file. `warns` tells whether warnings are
+/// looked for.
 pub fn read_quarry<T: Store>(
     alloc: Global,
     files: &mut T,
     machine: &str,
     expect: Option<&str>,
     pass: Option<&str>,
+    warns: bool,
 ) -> Result<Quarry, Fault>
     ensures same { T.files files.new ≡ T.files files.old }
     ensures store_count { NoneFell (T.ledger files.old) (T.ledger files.new) }
@@ -67,7 +69,7 @@ pub fn read_quarry<T: Store>(
     ensures input { IfErr result IsOfFiles }
     ensures cause { IfErr result (FailsBy machine.now (texts_of expect.entry) (texts_of pass.entry) (T.ledger files.old) (T.ledger files.new)) }
     ensures comes { ForSome (T.files files.old) (λ told.
-        Comes told machine.now (texts_of expect.entry) (texts_of pass.entry) (T.ledger files.old) (T.ledger files.new) result) }
+        Comes told machine.now (texts_of expect.entry) (texts_of pass.entry) warns (T.ledger files.old) (T.ledger files.new) result) }
 {
     let (setup, places) = read_machine(alloc, files, machine)?;
     let expected = expected_by(alloc, files, expect)?;
@@ -78,6 +80,7 @@ pub fn read_quarry<T: Store>(
             places,
             expected,
             passed,
+            warns,
         },
     })
 }

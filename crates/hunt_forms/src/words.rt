@@ -3,7 +3,7 @@
 ghost use Rattle.std.specs.Prelude.{◌≡◌, ◌≤◌, ◌<◌, ◌+◌, Some, IfSome, map, option_and_then, string_bytes};
 ghost use Rattle.std.specs.Option.{option_map};
 ghost use Rattle.hunt_forms.specs.Heard.{heard, texts_of, silent, said_on};
-ghost use Rattle.hunt_forms.specs.Words.{asks_help, count_within, either, number_or, runs_asked, runs_said, time_said, most_made, told_runs, seed_said, from_said, jobs_said, tools_said, is_plain, hunt_said, each_said, record_said, placed, form_said, spoken, said, most_runs, most_run, most_jobs, IsWithin};
+ghost use Rattle.hunt_forms.specs.Words.{asks_help, count_within, either, number_or, runs_asked, runs_said, time_said, most_made, told_runs, seed_said, from_said, jobs_said, tools_said, warn_named, warn_said, is_on, is_plain, names_nothing, hunt_said, each_said, record_said, placed, form_said, spoken, said, most_runs, most_run, most_jobs, IsWithin};
 
 use crate::heard::{Heard, hear};
 use crate::numbers::{number_of, seconds_of};
@@ -22,6 +22,30 @@ const DEFAULT_TOLD: u32 = 200;
 /// On how many threads a hunt may run.
 pub const MOST_JOBS: u32 = 256;
 
+/// What is done with warnings.
+#[derive(Clone, Copy)]
+pub enum Warn {
+    /// They are not looked for.
+    Off,
+    /// They are printed.
+    Print,
+    /// They are printed, and count as failures.
+    Error,
+}
+
+impl Warn {
+    /// Whether they are looked for.
+    pub fn is_on(self) -> bool
+        ensures { result ≡ is_on self }
+    {
+        match self {
+            Warn::Off => false,
+            Warn::Print => true,
+            Warn::Error => true,
+        }
+    }
+}
+
 /// A hunt that is asked for.
 #[derive(Clone, Copy)]
 pub struct Hunt<'a> {
@@ -37,6 +61,8 @@ pub struct Hunt<'a> {
     /// The expectation file and the pass file.
     pub expect: Option<&'a str>,
     pub pass: Option<&'a str>,
+    /// What is done with warnings.
+    pub warn: Warn,
     /// The file that ends the hunt once it exists.
     pub until: Option<&'a str>,
     /// The folder of the tools, as commands name it, and whether all findings are printed.
@@ -192,16 +218,43 @@ fn tools_of<'a>(word: Option<&'a str>) -> &'a str
     }
 }
 
+/// What a word of `--warn` says.
+fn warn_named(word: &str) -> Option<Warn>
+    ensures { result ≡ warn_named word.now }
+{
+    match word {
+        "none" => Some(Warn::Off),
+        "print" => Some(Warn::Print),
+        "error" => Some(Warn::Error),
+        _ => None,
+    }
+}
+
+/// What is done with warnings.
+fn warn_of(word: Option<&str>) -> Option<Warn>
+    ensures { result ≡ warn_said (texts_of word.entry) }
+{
+    match word {
+        Some(word) => warn_named(word),
+        None => Some(Warn::Print),
+    }
+}
+
+/// Whether no option of hunts alone names a file or a folder.
+fn names_nothing(words: &Heard) -> bool
+    ensures { result ≡ names_nothing (heard words.now) }
+{
+    words.expect.is_none() && words.pass.is_none() && words.until.is_none() && words.tools.is_none()
+}
+
 /// Whether no option of hunts alone is given.
 fn is_plain(words: &Heard) -> bool
     ensures { result ≡ is_plain (heard words.now) }
 {
-    words.time.is_none()
+    names_nothing(words)
+        && words.time.is_none()
         && words.jobs.is_none()
-        && words.expect.is_none()
-        && words.pass.is_none()
-        && words.until.is_none()
-        && words.tools.is_none()
+        && words.warn.is_none()
         && !words.all
         && !words.json
 }
@@ -221,6 +274,7 @@ fn hunt_form<'a>(
     let seed = seed_of(seed)?;
     let from = from_of(words.from, most_made(runs))?;
     let jobs = jobs_of(words.jobs)?;
+    let warn = warn_of(words.warn)?;
     Some(Form::Hunt(Hunt {
         machine,
         from,
@@ -230,6 +284,7 @@ fn hunt_form<'a>(
         jobs,
         expect: words.expect,
         pass: words.pass,
+        warn,
         until: words.until,
         tools: tools_of(words.tools),
         all: words.all,

@@ -1,7 +1,8 @@
 -- Tests over lists of texts, and the lines of no text.
-use Rattle.std.proofs.Common.{◌≡◌, ℕ, suc, ◌+◌, ◌<◌, Bool, true, false, not, ◌||◌, eqb, List, [], ◌∷◌, ◌++◌, length, map, filter, take, get_or, append-nil, Vec, if◌then◌else◌, refl, sym, ap, ◌∙◌, arith, append_assoc, true≢false}
+use Rattle.std.proofs.Common.{◌≡◌, ℕ, suc, ◌+◌, ◌<◌, Bool, true, false, not, ◌||◌, eqb, List, [], ◌∷◌, ◌++◌, length, map, filter, take, get_or, append-nil, Vec, if◌then◌else◌, refl, sym, ap, ◌∙◌, subst, arith, append_assoc, true≢false, Result, Ok, Err}
+use Rattle.std.specs.Prelude.{OnOk}
 use Rattle.std.specs.declared.alloc.Global.{Global}
-use Rattle.std.specs.List.{list_any, flat_map}
+use Rattle.std.specs.List.{AllZip, list_any, flat_map}
 use Rattle.std.proofs.lemmas.List.Concat.{flat_map-append}
 use Rattle.std.proofs.lemmas.List.{map_push, take_more}
 use Rattle.hunt_reports.specs.Lists.{bytes_in}
@@ -43,6 +44,13 @@ missed_more text es i v inside =
 
 -- ---- texts written one after the other
 
+pub more : (out one two a b : List ℕ) → one ≡ out ++ a → two ≡ one ++ b → two ≡ out ++ (a ++ b)
+more out one two a b first second = second ∙ ap (λ x. x ++ b) first ∙ append_assoc out a b
+
+pub on_more : {E : Type 0} (r : Result (Unit {0}) E) (out one all a b : List ℕ) → one ≡ out ++ a → OnOk r (all ≡ one ++ b) → OnOk r (all ≡ out ++ (a ++ b))
+on_more (Ok u) out one all a b first second = more out one all a b first second
+on_more (Err e) out one all a b first second = tt
+
 pub three : (out a b c one two all : List ℕ) → one ≡ out ++ a → two ≡ one ++ b → all ≡ two ++ c → all ≡ out ++ ((a ++ b) ++ c)
 three out a b c one two all first second third =
     third ∙ ap (λ x. x ++ c) (second ∙ ap (λ x. x ++ b) first) ∙ ap (λ x. x ++ c) (append_assoc out a b) ∙ append_assoc out (a ++ b) c
@@ -56,3 +64,20 @@ flat_more f base old new xs i d inside so_far made =
     let more : flat_map f (take (i + 1) xs) ≡ flat_map f (take i xs) ++ last
     = ap (flat_map f) (take_more xs i d inside) ∙ flat_map-append f (take i xs) (get_or xs i d ∷ []) ∙ ap (λ ys. flat_map f (take i xs) ++ ys) (append-nil last) in
     made ∙ ap (λ ys. ys ++ last) so_far ∙ append_assoc base (flat_map f (take i xs)) last ∙ ap (λ ys. base ++ ys) (sym more)
+
+-- ---- elements in pairs
+
+zip_push : {X Y : Type 0} (R : X → Y → Type 0) (xs : List X) (ys : List Y) (x : X) (y : Y) → AllZip R xs ys → R x y → AllZip R (xs ++ x ∷ []) (ys ++ y ∷ [])
+zip_push R [] [] x y a r = (r, tt)
+zip_push R (u ∷ xs) (v ∷ ys) x y a r = (a.0, zip_push R xs ys x y a.1 r)
+zip_push R [] (v ∷ ys) x y a r = absurd a
+zip_push R (u ∷ xs) [] x y a r = absurd a
+
+pub zip_more : {X Y : Type 0} (R : X → Y → Type 0) (xs : List X) (ys : List Y) (i : ℕ) (d : X) (y : Y) → i < length xs → AllZip R (take i xs) ys → R (get_or xs i d) y → AllZip R (take (i + 1) xs) (ys ++ y ∷ [])
+zip_more R xs ys i d y inside so_far here = subst (λ zs. AllZip R zs (ys ++ y ∷ [])) (sym (take_more xs i d inside)) (zip_push R (take i xs) ys (get_or xs i d) y so_far here)
+
+pub zip_long : {X Y : Type 0} (R : X → Y → Type 0) (xs : List X) (ys : List Y) → AllZip R xs ys → length ys ≡ length xs
+zip_long R [] [] a = refl
+zip_long R (x ∷ xs) (y ∷ ys) a = ap suc (zip_long R xs ys a.1)
+zip_long R [] (y ∷ ys) a = absurd a
+zip_long R (x ∷ xs) [] a = absurd a

@@ -1,6 +1,8 @@
 -- The processors that run, one after the other.
-use Rattle.std.proofs.Common.{◌≡◌, ℕ, suc, ◌+◌, ◌<◌, ◌≤◌, List, [], ◌++◌, length, length-append, get_or, drop, drop-cons, sym, ap, ◌∙◌, append_assoc, append-nil, arith}
+use Rattle.std.proofs.Common.{◌∷◌, ◌≡◌, ℕ, suc, ◌+◌, ◌<◌, ◌≤◌, List, [], ◌++◌, length, length-append, get_or, drop, drop-cons, sym, ap, subst, ◌∙◌, append_assoc, append-nil, arith}
+use Rattle.std.specs.Prelude.{All}
 use Rattle.std.proofs.lemmas.List.{nil_from_length, length-drop}
+use Rattle.std.proofs.lemmas.List.Elements.{All-append, All-cons, All-nil, All-weaker}
 use Rattle.cell_machine.specs.declared.status.Status.{Status}
 use Rattle.cell_machine.specs.declared.status.Status.TheVariants.{Running, Stopped, Halted, BadWord, BadChannel, DmaFault}
 use Rattle.hunt_reports.specs.declared.ended.AtEnd.{AtEnd}
@@ -36,3 +38,26 @@ unfolding running_from
 running_all out whole p i es past so_far =
     let none : drop i es ≡ [] = nil_from_length (drop i es) (omega (arith, length-drop i es)) in
     sym (append-nil out) ∙ (rw none at so_far)
+
+-- their numbers
+one_within : (p pc : ℕ) (status : Status) → All (λ (l : Location). l.spe < suc p) (running_at p pc status)
+one_within p pc Running = All-cons (λ (l : Location). l.spe < suc p) (record { spe = p; at = pc }) [] (omega arith) (All-nil (λ (l : Location). l.spe < suc p))
+one_within p pc (Stopped code) = All-nil (λ (l : Location). l.spe < suc p)
+one_within p pc Halted = All-nil (λ (l : Location). l.spe < suc p)
+one_within p pc BadWord = All-nil (λ (l : Location). l.spe < suc p)
+one_within p pc BadChannel = All-nil (λ (l : Location). l.spe < suc p)
+one_within p pc (DmaFault kind) = All-nil (λ (l : Location). l.spe < suc p)
+
+pub running_within : (p : ℕ) (es : List AtEnd) → All (λ (l : Location). l.spe < p + length es) (running_from p es)
+unfolding running_from
+running_within p [] = All-nil (λ (l : Location). l.spe < p + 0)
+running_within p (e ∷ es) =
+    let one : suc p + length es ≡ p + suc (length es) = omega arith in
+    All-append (λ (l : Location). l.spe < p + suc (length es)) (running_at p e.pc e.status) (running_from (suc p) es)
+    (All-weaker (λ (l : Location). l.spe < suc p) (λ (l : Location). l.spe < p + suc (length es)) (λ l h. omega (arith, h)) (running_at p e.pc e.status) (one_within p e.pc e.status))
+    (subst (λ n. All (λ (l : Location). l.spe < n) (running_from (suc p) es)) one (running_within (suc p) es))
+
+pub running_below : (es : List AtEnd) → All (λ (l : Location). l.spe < length es) (running_from 0 es)
+running_below es =
+    let same : 0 + length es ≡ length es = omega arith in
+    subst (λ n. All (λ (l : Location). l.spe < n) (running_from 0 es)) same (running_within 0 es)

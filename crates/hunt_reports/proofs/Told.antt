@@ -58,7 +58,7 @@ has_firsts k before (u ∷ us) = by (has u.key before) refl (bytes_eq k u.key) r
 has_distinct : (k : List ℕ) (ts : List Tells) → has k (distinct ts) ≡ has k ts
 has_distinct k ts = sym (or_false (has k (firsts [] ts))) ∙ has_firsts k [] ts ∙ or_false (has k ts)
 
-distinct_push : (ts : List Tells) (t : Tells) → distinct (ts ++ t ∷ []) ≡ (if has t.key (distinct ts) then distinct ts else distinct ts ++ t ∷ [])
+pub distinct_push : (ts : List Tells) (t : Tells) → distinct (ts ++ t ∷ []) ≡ (if has t.key (distinct ts) then distinct ts else distinct ts ++ t ∷ [])
 distinct_push ts t = firsts_push [] ts t ∙ ap (λ b. if b then distinct ts else distinct ts ++ t ∷ []) (or_false (has t.key ts) ∙ sym (has_distinct t.key ts))
 
 -- ---- one race more

@@ -11,5 +11,9 @@ pub mod Taking
 pub mod Compared
 pub mod Stops
 pub mod Waits
+pub mod Spent
+pub mod Livelocks
+pub mod Budgets
+pub mod Warnings
 pub mod Findings
 pub mod Reports

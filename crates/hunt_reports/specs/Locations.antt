@@ -28,6 +28,14 @@ line_shown None l = spu_text l.spe ++ codes " at 0x" ++ hex 5 l.at
 abbrev pub location_shown : Places → Location → List ℕ
 location_shown places l = line_shown (source_line places l.spe l.at) l
 
+-- file and line; if no source placed the instruction, its address
+abbrev pub short_line : Option NamedLine → ℕ → List ℕ
+short_line (Some line) at = line.name ++ codes ":" ++ decimal line.number
+short_line None at = codes "0x" ++ hex 5 at
+
+abbrev pub short_shown : Places → Location → List ℕ
+short_shown places l = short_line (source_line places l.spe l.at) l.at
+
 -- a line that shows an instruction, with a note in parentheses
 abbrev pub note_start : Places → Location → List ℕ
 note_start places l = codes "  " ++ location_shown places l ++ codes "  ("

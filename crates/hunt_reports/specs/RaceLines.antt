@@ -1,4 +1,4 @@
--- The lines of a finding that is a data race: its two steps, and its suppression.
+-- Lines that show steps, and those of a data race: its two steps, and its suppression.
 use Rattle.std.specs.Prelude.{ℕ, List, [], ◌++◌, codes, Option, None, Some}
 use Rattle.std.specs.Fmt.{decimal}
 use Rattle.cell_base.specs.Records.{line_feed}
@@ -20,13 +20,17 @@ actor_text (Retire p at) = codes "DMA command of " ++ spu_text p
 actor_text (Atomic p at) = codes "atomic command of " ++ spu_text p
 actor_text (Host action) = codes "host action " ++ decimal action
 
--- the line of a step
-abbrev pub located_line : Places → Site → Option Location → List ℕ
-located_line places site (Some l) = note_line places l (actor_text site)
-located_line places site None = codes "  " ++ actor_text site ++ line_feed
+-- a line with a note on a step
+abbrev pub located_line : Places → List ℕ → Option Location → List ℕ
+located_line places note (Some l) = note_line places l note
+located_line places note None = codes "  " ++ note ++ line_feed
+
+-- the line of a step, and what it does
+abbrev pub step_line : Places → Site → List ℕ → List ℕ
+step_line places site does = located_line places (actor_text site ++ does) (location_of site)
 
 abbrev pub site_line : Places → Site → List ℕ
-site_line places site = located_line places site (location_of site)
+site_line places site = step_line places site []
 
 -- the line that a step comes from, if a source placed it
 abbrev pub line_word : Option NamedLine → List ℕ

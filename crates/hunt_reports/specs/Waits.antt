@@ -1,4 +1,4 @@
--- Processors that still run at the end: the findings of a deadlock and of a spent budget.
+-- Processors that still run at the end, and the finding of a deadlock.
 use Rattle.std.specs.Prelude.{ℕ, suc, ◌-◌, ◌==◌, nat_le, List, [], ◌∷◌, ◌++◌, codes, take, length, if◌then◌else◌}
 use Rattle.std.specs.List.{flat_map}
 use Rattle.std.specs.Fmt.{decimal}
@@ -35,24 +35,23 @@ hidden_line n = if n == 1 then codes "  and 1 more SPU\n" else codes "  and " ++
 abbrev pub more_line : ℕ → List ℕ
 more_line n = if nat_le n 4 then [] else hidden_line (n - 4)
 
+-- the lines of the first four, if there are so many
+abbrev pub lines_shown : ℕ → List ℕ → List ℕ
+lines_shown n lines = if n == 0 then codes "  no SPU is running, but a DMA command is not complete\n" else lines ++ more_line n
+
 abbrev pub running_shown : Places → List ℕ → List Location → List ℕ
-running_shown places does running =
-    if length running == 0 then codes "  no SPU is running, but a DMA command is not complete\n"
-    else flat_map (running_line places does) (take 4 running) ++ more_line (length running)
+running_shown places does running = lines_shown (length running) (flat_map (running_line places does) (take 4 running))
 
 abbrev pub location_key : Places → Location → List ℕ
 location_key places l = instruction_text places l.spe l.at
 
--- ---- findings
+-- ---- the finding
 
 abbrev pub deadlock_told : Places → List Location → Tells
 deadlock_told places running = record { key = codes "deadlock" ++ flat_map (location_key places) running; shown = running_shown places (codes " waits") running }
 
-abbrev pub budget_told : Places → List Location → Tells
-budget_told places running = record { key = codes "budget"; shown = running_shown places (codes " runs") running }
-
--- the finding of the end word
-abbrev pub end_told : Places → List Location → End → List Tells
-end_told places running Stuck = deadlock_told places running ∷ []
-end_told places running Budget = budget_told places running ∷ []
-end_told places running AllStopped = []
+-- if the run ends with one
+abbrev pub stuck_told : Places → List Location → End → List Tells
+stuck_told places running Stuck = deadlock_told places running ∷ []
+stuck_told places running Budget = []
+stuck_told places running AllStopped = []

@@ -22,6 +22,7 @@ pub struct AtEnd {
 /// What the processors do.
 pub fn ended_of(alloc: Global, m: &Machine) -> Result<Vec<AtEnd>, AllocError>
     ensures ended { IfOk result (λ v. (M : State) → state_of m.now ≡ Some M → v.items ≡ map ended_in M.spes) }
+    ensures count { IfOk result (λ v. length v.items ≡ length m.now.setup.entries) }
     ensures few { IfOk result (λ v. length v.items ≤ 16) }
 {
     let mut ended = Vec::new(alloc);

@@ -1,17 +1,15 @@
 //! The findings of a run besides its data races.
 
-ghost use Rattle.std.specs.Prelude.{◌≡◌, ◌≤◌, ◌++◌, length, map, Some, IfOk, OnOk};
-ghost use Rattle.cell_machine.specs.State.{State};
-ghost use Rattle.cell_machine.specs.Run.{state_of};
+ghost use Rattle.std.specs.Prelude.{◌≡◌, ◌≤◌, ◌++◌, length, map, IfSome, IfOk, OnOk};
 ghost use Rattle.hunt_reports.specs.Lists.{bytes_in};
-ghost use Rattle.hunt_reports.specs.Findings.{missed_told, others_told};
+ghost use Rattle.hunt_reports.specs.Findings.{end_told, missed_told};
 
-use crate::ended::AtEnd;
+use crate::budgets::take_spent;
+use crate::locations::Location;
 use crate::origins::Places;
-use crate::stops::take_stops;
-use crate::waits::{running_of, take_end};
-use cell_hunt::Ended;
-use cell_machine::{End, Machine};
+use crate::spent::Spent;
+use crate::waits::take_stuck;
+use cell_machine::End;
 use hunt_tally::Telling;
 use std::alloc::{AllocError, Global};
 
@@ -41,22 +39,21 @@ fn take_missed(
     Ok(())
 }
 
-/// Takes in halts, faults, a deadlock, a spent budget and missed lines.
-pub fn take_others(
+/// Takes in a deadlock, a livelock or a spent budget, and missed lines.
+pub fn take_end(
     alloc: Global,
     findings: &mut Vec<Telling>,
     places: &Places,
-    machine: &Machine,
-    endings: &[Ended],
-    spes: &[AtEnd],
+    running: &[Location],
     end: End,
+    spent: &Option<Spent>,
     missed: &[Vec<u8>],
 ) -> Result<(), AllocError>
-    requires { length spes.now ≤ 16 }
-    ensures { OnOk result ((M : State) → state_of machine.now ≡ Some M → findings.new.items ≡ findings.old.items ++ others_told places.now M.spes endings.now spes.now end (bytes_in missed.now)) }
+    requires running { length running.now ≤ 16 }
+    requires loops { IfSome spent.now (λ s. length s.loops.items ≤ 16) }
+    ensures { OnOk result (findings.new.items ≡ findings.old.items ++ end_told places.now running.now end spent.now (bytes_in missed.now)) }
 {
-    let running = running_of(alloc, spes)?;
-    take_stops(alloc, findings, places, machine, endings)?;
-    take_end(alloc, findings, places, running.as_slice(), end)?;
+    take_stuck(alloc, findings, places, running, end)?;
+    take_spent(alloc, findings, places, running, spent)?;
     take_missed(alloc, findings, missed)
 }

@@ -1,11 +1,13 @@
-//! The report of one run: how it ends, what it leaves, its data races, the expected lines that it misses, and its findings.
+//! The report of one run: how it ends, what it leaves, its data races, the expected lines that it misses, its findings and its warnings.
 #![tactic(auto)]
 
 mod asked;
+mod budgets;
 mod compared;
 mod coverage;
 mod ended;
 mod findings;
+mod livelocks;
 mod locations;
 mod missing;
 mod origins;
@@ -13,8 +15,10 @@ mod places;
 mod race_lines;
 mod races;
 mod reporting;
+mod spent;
 mod stops;
 mod waits;
+mod warnings;
 
 pub use asked::Asked;
 pub use coverage::coverage_of;

@@ -3,7 +3,7 @@
 ghost use Rattle.std.specs.Prelude.{◌≡◌, ◌++◌, OnOk};
 ghost use Rattle.std.specs.Fmt.{decimal};
 ghost use Rattle.hunt_reports.specs.Origins.{named_line};
-ghost use Rattle.hunt_reports.specs.Locations.{location_of, line_shown, location_shown, note_start, spu_text};
+ghost use Rattle.hunt_reports.specs.Locations.{location_of, line_shown, location_shown, note_start, short_line, short_shown, spu_text};
 
 use crate::origins::{Places, SourceLine};
 use cell_base::line_text::{put_decimal, put_hex};
@@ -68,6 +68,38 @@ fn put_line(
             put_hex(out, 5, location.at)
         }
     }
+}
+
+/// Writes file and line; if no source placed the instruction, its address.
+fn put_short_line(
+    out: &mut Vec<u8>,
+    line: Option<SourceLine<'_>>,
+    at: u32,
+) -> Result<(), AllocError>
+    ensures { OnOk result (out.new.items ≡ out.old.items ++ short_line (named_line line.entry) at) }
+{
+    match line {
+        Some(line) => {
+            out.extend_from_slice(line.name)?;
+            out.push(b':')?;
+            put_decimal(out, line.number)
+        }
+        None => {
+            out.extend_from_slice(b"0x")?;
+            put_hex(out, 5, at)
+        }
+    }
+}
+
+/// Writes file and line of an instruction.
+pub fn put_short(out: &mut Vec<u8>, places: &Places, location: Location) -> Result<(), AllocError>
+    ensures { OnOk result (out.new.items ≡ out.old.items ++ short_shown places.now location) }
+{
+    put_short_line(
+        out,
+        places.source_line(location.spe, location.at),
+        location.at,
+    )
 }
 
 /// Writes the start of a line that shows an instruction: all before the note in parentheses.

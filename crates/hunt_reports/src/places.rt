@@ -83,7 +83,7 @@ pub fn put_instruction(
 }
 
 /// Writes the line that a step comes from.
-fn put_origin(out: &mut Vec<u8>, places: &Places, site: Site) -> Result<(), AllocError>
+pub fn put_origin(out: &mut Vec<u8>, places: &Places, site: Site) -> Result<(), AllocError>
     ensures { OnOk result (out.new.items ≡ out.old.items ++ origin_text places.now site) }
 {
     match site {

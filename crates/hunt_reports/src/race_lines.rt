@@ -1,9 +1,9 @@
-//! The lines of a finding that is a data race.
+//! Lines that show steps, and those of a finding that is a data race.
 
 ghost use Rattle.std.specs.Prelude.{◌≡◌, ◌++◌, IfOk, OnOk};
 ghost use Rattle.hunt_reports.specs.Origins.{named_line};
 ghost use Rattle.hunt_reports.specs.Locations.{spu_text};
-ghost use Rattle.hunt_reports.specs.RaceLines.{actor_text, line_word, race_shown, site_line, site_word, suppressed_site, suppressed_sites, suppression_line};
+ghost use Rattle.hunt_reports.specs.RaceLines.{actor_text, line_word, race_shown, site_line, site_word, step_line, suppressed_site, suppressed_sites, suppression_line};
 
 use crate::locations::{location_of, put_note_start, put_numbered, put_spu};
 use crate::origins::{Places, SourceLine};
@@ -34,22 +34,36 @@ fn put_actor(out: &mut Vec<u8>, site: Site) -> Result<(), AllocError>
     }
 }
 
-/// Writes the line of a step.
-fn put_site_line(out: &mut Vec<u8>, places: &Places, site: Site) -> Result<(), AllocError>
-    ensures { OnOk result (out.new.items ≡ out.old.items ++ site_line places.now site) }
+/// Writes the line of a step, and what it does.
+pub fn put_step_line(
+    out: &mut Vec<u8>,
+    places: &Places,
+    site: Site,
+    does: &[u8],
+) -> Result<(), AllocError>
+    ensures { OnOk result (out.new.items ≡ out.old.items ++ step_line places.now site does.now) }
 {
     match location_of(site) {
         Some(location) => {
             put_note_start(out, places, location)?;
             put_actor(out, site)?;
+            out.extend_from_slice(does)?;
             out.extend_from_slice(b")\n")
         }
         None => {
             out.extend_from_slice(b"  ")?;
             put_actor(out, site)?;
+            out.extend_from_slice(does)?;
             out.extend_from_slice(b"\n")
         }
     }
+}
+
+/// Writes the line of a step.
+fn put_site_line(out: &mut Vec<u8>, places: &Places, site: Site) -> Result<(), AllocError>
+    ensures { OnOk result (out.new.items ≡ out.old.items ++ site_line places.now site) }
+{
+    put_step_line(out, places, site, b"")
 }
 
 /// Writes a blank and the line of a source, if there is one.

@@ -23,7 +23,8 @@ pub struct Found {
     pub leaves_out: bool,
 }
 
-fn has_key(told: &[Telling], key: &[u8]) -> bool
+/// Whether one of the tellings has this key.
+pub fn has_key(told: &[Telling], key: &[u8]) -> bool
     ensures { result ≡ has key.now told.now }
 {
     for telling in told {

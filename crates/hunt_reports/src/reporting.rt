@@ -7,19 +7,23 @@ ghost use Rattle.cell_machine.specs.Run.{state_of, IsEnd};
 ghost use Rattle.cell_report.specs.States.{states_of, result_of};
 ghost use Rattle.hunt_reports.specs.Lists.{bytes_in};
 ghost use Rattle.hunt_reports.specs.Missing.{missed_in};
-ghost use Rattle.hunt_reports.specs.Endings.{ending_text};
-ghost use Rattle.hunt_reports.specs.Reports.{report_by, IsReport};
+ghost use Rattle.hunt_reports.specs.Spent.{has_livelock};
+ghost use Rattle.hunt_reports.specs.Reports.{flaws_by, report_by, IsReport};
 
 use crate::asked::Asked;
 use crate::coverage::numbers_of;
 use crate::ended::{AtEnd, ended_of, ending_text, has_fault, has_halt, is_budget, is_stuck};
-use crate::findings::take_others;
+use crate::findings::take_end;
 use crate::missing::missed_in;
 use crate::races::{Found, races_of};
+use crate::spent::{Spent, has_livelock, spent_of};
+use crate::stops::take_stops;
+use crate::waits::running_of;
+use crate::warnings::warnings_of;
 use cell_hunt::SeedRun;
 use cell_machine::{End, Machine};
 use cell_report::{result_text, states_text};
-use hunt_tally::{Flaws, Report};
+use hunt_tally::{Flaws, Report, Telling};
 use std::alloc::{AllocError, Global};
 
 /// What a run left.
@@ -56,29 +60,42 @@ fn steps_of(machine: &Machine) -> u32
     machine.steps().len() as u32
 }
 
-/// The report by its parts.
-fn report_by(
+/// What went wrong in a run.
+fn flaws_by(
     spes: &[AtEnd],
     end: End,
+    spent: &Option<Spent>,
+    races: &[Telling],
+    missed: &[Vec<u8>],
+) -> Flaws
+    ensures { result ≡ flaws_by spes.now end (has_livelock spent.now) races.now (bytes_in missed.now) }
+{
+    let livelock = has_livelock(spent);
+    Flaws {
+        race: !races.is_empty(),
+        stuck: is_stuck(end),
+        livelock,
+        budget: is_budget(end) && !livelock,
+        fault: has_fault(spes),
+        halt: has_halt(spes),
+        missed: !missed.is_empty(),
+    }
+}
+
+/// The report by its parts.
+fn report_by(
+    flaws: Flaws,
     ending: Vec<u8>,
     left: Vec<u8>,
     found: Found,
+    warnings: Vec<Telling>,
     missed: Vec<Vec<u8>>,
     kind: u64,
     steps: u32,
     executed: Vec<usize>,
 ) -> Report
-    requires { ending.items ≡ ending_text end spes.now }
-    ensures { result ≡ report_by spes.now end left.items found.races.items found.findings.items found.leaves_out (bytes_in missed.items) kind steps executed.items }
+    ensures { result ≡ report_by flaws ending.items left.items found.races.items found.findings.items warnings.items found.leaves_out (bytes_in missed.items) kind steps executed.items }
 {
-    let flaws = Flaws {
-        race: !found.races.is_empty(),
-        stuck: is_stuck(end),
-        budget: is_budget(end),
-        fault: has_fault(spes),
-        halt: has_halt(spes),
-        missed: !missed.is_empty(),
-    };
     let Found {
         races,
         findings,
@@ -91,6 +108,7 @@ fn report_by(
         races,
         missed,
         findings,
+        warnings,
         leaves_out,
         kind,
         steps,
@@ -106,26 +124,37 @@ pub fn report_of(alloc: Global, run: &SeedRun, asked: &Asked) -> Result<Report, 
     let end = run.end();
     let spes = ended_of(alloc, machine)?;
     let ending = ending_text(alloc, end, spes.as_slice())?;
+    let running = running_of(alloc, spes.as_slice())?;
+    let spent = spent_of(alloc, run, running.as_slice(), end)?;
     let left = left_of(alloc, machine)?;
     let missed = missed_of(alloc, machine, asked.expected.as_slice())?;
-    let mut found = races_of(alloc, run.races(), &asked.places, asked.passed.as_slice())?;
-    take_others(
+    let warnings = warnings_of(alloc, run, asked)?;
+    let executed = numbers_of(alloc, run.executed())?;
+    let places = &asked.places;
+    let mut found = races_of(alloc, run.races(), places, asked.passed.as_slice())?;
+    take_stops(alloc, &mut found.findings, places, machine, run.endings())?;
+    take_end(
         alloc,
         &mut found.findings,
-        &asked.places,
-        machine,
-        run.endings(),
-        spes.as_slice(),
+        places,
+        running.as_slice(),
         end,
+        &spent,
         missed.as_slice(),
     )?;
-    let executed = numbers_of(alloc, run.executed())?;
-    Ok(report_by(
+    let flaws = flaws_by(
         spes.as_slice(),
         end,
+        &spent,
+        found.races.as_slice(),
+        missed.as_slice(),
+    );
+    Ok(report_by(
+        flaws,
         ending,
         left,
         found,
+        warnings,
         missed,
         run.kind(),
         steps_of(machine),

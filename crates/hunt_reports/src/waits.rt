@@ -1,8 +1,8 @@
-//! Processors that still run at the end: the findings of a deadlock and of a spent budget.
+//! Processors that still run at the end, and the finding of a deadlock.
 
-ghost use Rattle.std.specs.Prelude.{◌≡◌, ◌≤◌, [], ◌∷◌, ◌++◌, flat_map, length, take, IfOk, OnOk};
+ghost use Rattle.std.specs.Prelude.{◌≡◌, ◌≤◌, ◌<◌, [], ◌∷◌, ◌++◌, flat_map, length, take, All, IfOk, OnOk};
 ghost use Rattle.std.specs.Fmt.{decimal};
-ghost use Rattle.hunt_reports.specs.Waits.{budget_told, deadlock_told, end_told, hidden_line, location_key, more_line, running_at, running_from, running_line, running_shown};
+ghost use Rattle.hunt_reports.specs.Waits.{deadlock_told, hidden_line, lines_shown, location_key, more_line, running_at, running_from, running_line, running_shown, stuck_told};
 
 use crate::ended::AtEnd;
 use crate::locations::{Location, put_note_start, put_spu};
@@ -33,6 +33,7 @@ fn take_running(
 pub fn running_of(alloc: Global, spes: &[AtEnd]) -> Result<Vec<Location>, AllocError>
     requires { length spes.now ≤ 16 }
     ensures running { IfOk result (λ v. v.items ≡ running_from 0 spes.now) }
+    ensures within { IfOk result (λ v. All (λ here. here.spe < length spes.now) v.items) }
     ensures few { IfOk result (λ v. length v.items ≤ 16) }
 {
     let mut running = Vec::new(alloc);
@@ -95,7 +96,7 @@ fn put_hidden(out: &mut Vec<u8>, hidden: u32) -> Result<(), AllocError>
 }
 
 /// Writes how many processors run besides the four that are shown.
-fn put_more(out: &mut Vec<u8>, running: usize) -> Result<(), AllocError>
+pub fn put_more(out: &mut Vec<u8>, running: usize) -> Result<(), AllocError>
     requires { running ≤ 16 }
     ensures { OnOk result (out.new.items ≡ out.old.items ++ more_line running) }
 {
@@ -106,7 +107,7 @@ fn put_more(out: &mut Vec<u8>, running: usize) -> Result<(), AllocError>
 }
 
 /// The first four at most.
-fn first_four(running: &[Location]) -> &[Location]
+pub fn first_four<T>(running: &[T]) -> &[T]
     ensures { result.now ≡ take 4 running.now }
 {
     if running.len() <= 4 {
@@ -116,8 +117,18 @@ fn first_four(running: &[Location]) -> &[Location]
     }
 }
 
+/// The line where no processor runs.
+pub fn none_shown(alloc: Global) -> Result<Vec<u8>, AllocError>
+    ensures { IfOk result (λ v. v.items ≡ lines_shown 0 []) }
+{
+    Vec::from_slice(
+        alloc,
+        b"  no SPU is running, but a DMA command is not complete\n",
+    )
+}
+
 /// The lines of the processors that run.
-fn running_shown(
+pub fn running_shown(
     alloc: Global,
     places: &Places,
     does: &[u8],
@@ -127,10 +138,7 @@ fn running_shown(
     ensures { IfOk result (λ v. v.items ≡ running_shown places.now does.now running.now) }
 {
     if running.is_empty() {
-        return Vec::from_slice(
-            alloc,
-            b"  no SPU is running, but a DMA command is not complete\n",
-        );
+        return none_shown(alloc);
     }
     let mut shown = Vec::new(alloc);
     put_all_running(&mut shown, places, does, first_four(running))?;
@@ -163,18 +171,8 @@ fn deadlock_told(
     Ok(Telling { key, shown })
 }
 
-/// The finding of a spent budget.
-fn budget_told(alloc: Global, places: &Places, running: &[Location]) -> Result<Telling, AllocError>
-    requires { length running.now ≤ 16 }
-    ensures { IfOk result (λ t. t ≡ budget_told places.now running.now) }
-{
-    let key = Vec::from_slice(alloc, b"budget")?;
-    let shown = running_shown(alloc, places, b" runs", running)?;
-    Ok(Telling { key, shown })
-}
-
-/// Takes in the finding of the end word, if not all processors stopped.
-pub fn take_end(
+/// Takes in the finding of a deadlock, if the run ends with one.
+pub fn take_stuck(
     alloc: Global,
     findings: &mut Vec<Telling>,
     places: &Places,
@@ -182,11 +180,11 @@ pub fn take_end(
     end: End,
 ) -> Result<(), AllocError>
     requires { length running.now ≤ 16 }
-    ensures { OnOk result (findings.new.items ≡ findings.old.items ++ end_told places.now running.now end) }
+    ensures { OnOk result (findings.new.items ≡ findings.old.items ++ stuck_told places.now running.now end) }
 {
     match end {
         End::Stuck => findings.push(deadlock_told(alloc, places, running)?)?,
-        End::Budget => findings.push(budget_told(alloc, places, running)?)?,
+        End::Budget => {}
         End::AllStopped => {}
     }
     Ok(())

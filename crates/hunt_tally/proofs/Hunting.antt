@@ -1,5 +1,5 @@
 -- What the runs of some reports tell together, and with one report more.
-use Rattle.std.proofs.Common.{◌≡◌, ℕ, ◌+◌, ◌<◌, Bool, true, false, cond, ◌||◌, eqb, List, [], ◌∷◌, ◌++◌, length, map, append-nil, refl, sym, ap, ◌∙◌, arith, true≢false}
+use Rattle.std.proofs.Common.{◌≡◌, ◌+◌, ◌<◌, Bool, true, false, cond, ◌||◌, eqb, List, [], ◌∷◌, ◌++◌, length, map, append-nil, refl, sym, ap, ◌∙◌, arith, true≢false}
 use Rattle.std.specs.Prelude.{nat_lt, Result, Ok, Err, OnOk}
 use Rattle.std.specs.List.{list_any, count_by, flat_map, position_or_len}
 use Rattle.std.proofs.lemmas.List.{map_push, length_push}
@@ -109,6 +109,7 @@ pub more : (reports : List Reported) (r : Reported) → hunted (reports ++ r ∷
   flaws = record {
     race = noted (length reports) r.flaws.race (flaws_of reports).race;
     stuck = noted (length reports) r.flaws.stuck (flaws_of reports).stuck;
+    livelock = noted (length reports) r.flaws.livelock (flaws_of reports).livelock;
     budget = noted (length reports) r.flaws.budget (flaws_of reports).budget;
     fault = noted (length reports) r.flaws.fault (flaws_of reports).fault;
     halt = noted (length reports) r.flaws.halt (flaws_of reports).halt;
@@ -120,6 +121,7 @@ pub more : (reports : List Reported) (r : Reported) → hunted (reports ++ r ∷
   races = tallied (map (λ (x : Reported). x.races) reports ++ r.races ∷ []);
   missed = tallied (map missed_told reports ++ missed_told r ∷ []);
   findings = tallied (map (λ (x : Reported). x.findings) reports ++ r.findings ∷ []);
+  warnings = tallied (map (λ (x : Reported). x.warnings) reports ++ r.warnings ∷ []);
   executed = set_of (executed_in reports ++ r.executed);
 }
 unfolding hunted flaws_of
@@ -131,6 +133,7 @@ more reports r = λ i. record {
   flaws = record {
     race = noted_is (λ (x : Reported). x.flaws.race) reports r i;
     stuck = noted_is (λ (x : Reported). x.flaws.stuck) reports r i;
+    livelock = noted_is (λ (x : Reported). x.flaws.livelock) reports r i;
     budget = noted_is (λ (x : Reported). x.flaws.budget) reports r i;
     fault = noted_is (λ (x : Reported). x.flaws.fault) reports r i;
     halt = noted_is (λ (x : Reported). x.flaws.halt) reports r i;
@@ -142,6 +145,7 @@ more reports r = λ i. record {
   races = tallied (map_push (λ (x : Reported). x.races) reports r i);
   missed = tallied (map_push missed_told reports r i);
   findings = tallied (map_push (λ (x : Reported). x.findings) reports r i);
+  warnings = tallied (map_push (λ (x : Reported). x.warnings) reports r i);
   executed = executed_more reports r i;
 }
 
@@ -153,6 +157,7 @@ pub record IsMore (r : Reported) (old new : Sums) : Type 0 where
   pub steps : new.steps ≡ old.steps + r.steps
   pub race : new.flaws.race ≡ noted old.runs r.flaws.race old.flaws.race
   pub stuck : new.flaws.stuck ≡ noted old.runs r.flaws.stuck old.flaws.stuck
+  pub livelock : new.flaws.livelock ≡ noted old.runs r.flaws.livelock old.flaws.livelock
   pub budget : new.flaws.budget ≡ noted old.runs r.flaws.budget old.flaws.budget
   pub fault : new.flaws.fault ≡ noted old.runs r.flaws.fault old.flaws.fault
   pub halt : new.flaws.halt ≡ noted old.runs r.flaws.halt old.flaws.halt
@@ -163,6 +168,7 @@ pub record IsMore (r : Reported) (old new : Sums) : Type 0 where
   pub races : Took r.races old.races new.races
   pub lines : Took (missed_told r) old.missed new.missed
   pub findings : Took r.findings old.findings new.findings
+  pub warnings : Took r.warnings old.warnings new.warnings
   pub executed : new.executed ≡ set_of (old.executed ++ r.executed)
 
 pub took_report : (r : Reported) (old new : Sums) → IsMore r old new → (reports : List Reported) → old ≡ hunted reports → new ≡ hunted (reports ++ r ∷ [])
@@ -175,6 +181,7 @@ took_report r old new is reports e = (λ i. record {
   flaws = record {
     race = (is.race ∙ ap (λ (s : Sums). noted s.runs r.flaws.race s.flaws.race) e) i;
     stuck = (is.stuck ∙ ap (λ (s : Sums). noted s.runs r.flaws.stuck s.flaws.stuck) e) i;
+    livelock = (is.livelock ∙ ap (λ (s : Sums). noted s.runs r.flaws.livelock s.flaws.livelock) e) i;
     budget = (is.budget ∙ ap (λ (s : Sums). noted s.runs r.flaws.budget s.flaws.budget) e) i;
     fault = (is.fault ∙ ap (λ (s : Sums). noted s.runs r.flaws.fault s.flaws.fault) e) i;
     halt = (is.halt ∙ ap (λ (s : Sums). noted s.runs r.flaws.halt s.flaws.halt) e) i;
@@ -186,15 +193,16 @@ took_report r old new is reports e = (λ i. record {
   races = is.races (map (λ (x : Reported). x.races) reports) (ap (λ (s : Sums). s.races) e) i;
   missed = is.lines (map missed_told reports) (ap (λ (s : Sums). s.missed) e) i;
   findings = is.findings (map (λ (x : Reported). x.findings) reports) (ap (λ (s : Sums). s.findings) e) i;
+  warnings = is.warnings (map (λ (x : Reported). x.warnings) reports) (ap (λ (s : Sums). s.warnings) e) i;
   executed = (is.executed ∙ ap (λ (s : Sums). set_of (s.executed ++ r.executed)) e) i;
 }) ∙ sym (more reports r)
 
 -- before the first report
-pub no_flaws : record { race = record { runs = 0; first = 0 }; stuck = record { runs = 0; first = 0 }; budget = record { runs = 0; first = 0 }; fault = record { runs = 0; first = 0 }; halt = record { runs = 0; first = 0 }; missed = record { runs = 0; first = 0 } } ≡ flaws_of []
+pub no_flaws : record { race = record { runs = 0; first = 0 }; stuck = record { runs = 0; first = 0 }; livelock = record { runs = 0; first = 0 }; budget = record { runs = 0; first = 0 }; fault = record { runs = 0; first = 0 }; halt = record { runs = 0; first = 0 }; missed = record { runs = 0; first = 0 } } ≡ flaws_of []
 unfolding flaws_of count_of
 no_flaws = refl
 
-pub no_runs : record { runs = 0; all_stopped = 0; left_out = 0; steps = 0; flaws = flaws_of []; kinds = []; endings = tallied []; results = tallied []; races = tallied []; missed = tallied []; findings = tallied []; executed = executed_in [] } ≡ hunted []
+pub no_runs : record { runs = 0; all_stopped = 0; left_out = 0; steps = 0; flaws = flaws_of []; kinds = []; endings = tallied []; results = tallied []; races = tallied []; missed = tallied []; findings = tallied []; warnings = tallied []; executed = executed_in [] } ≡ hunted []
 unfolding hunted
 no_runs = refl
 
@@ -212,12 +220,13 @@ any_or f g (x ∷ xs) = four (f x) (g x) (list_any f xs) (list_any g xs) ∙ ap 
 
 pub flawed_is : (reports : List Reported) → has_flaw (flaws_of reports) ≡ list_any is_flawed reports
 unfolding flaws_of count_of
-flawed_is reports = (λ i. is_counted (λ (r : Reported). r.flaws.race) reports i || is_counted (λ (r : Reported). r.flaws.stuck) reports i || is_counted (λ (r : Reported). r.flaws.budget) reports i || is_counted (λ (r : Reported). r.flaws.fault) reports i || is_counted (λ (r : Reported). r.flaws.halt) reports i || is_counted (λ (r : Reported). r.flaws.missed) reports i)
-    ∙ ap (λ b. b || list_any (λ (r : Reported). r.flaws.budget) reports || list_any (λ (r : Reported). r.flaws.fault) reports || list_any (λ (r : Reported). r.flaws.halt) reports || list_any (λ (r : Reported). r.flaws.missed) reports) (any_or (λ (r : Reported). r.flaws.race) (λ (r : Reported). r.flaws.stuck) reports)
-    ∙ ap (λ b. b || list_any (λ (r : Reported). r.flaws.fault) reports || list_any (λ (r : Reported). r.flaws.halt) reports || list_any (λ (r : Reported). r.flaws.missed) reports) (any_or (λ (r : Reported). r.flaws.race || r.flaws.stuck) (λ (r : Reported). r.flaws.budget) reports)
-    ∙ ap (λ b. b || list_any (λ (r : Reported). r.flaws.halt) reports || list_any (λ (r : Reported). r.flaws.missed) reports) (any_or (λ (r : Reported). r.flaws.race || r.flaws.stuck || r.flaws.budget) (λ (r : Reported). r.flaws.fault) reports)
-    ∙ ap (λ b. b || list_any (λ (r : Reported). r.flaws.missed) reports) (any_or (λ (r : Reported). r.flaws.race || r.flaws.stuck || r.flaws.budget || r.flaws.fault) (λ (r : Reported). r.flaws.halt) reports)
-    ∙ any_or (λ (r : Reported). r.flaws.race || r.flaws.stuck || r.flaws.budget || r.flaws.fault || r.flaws.halt) (λ (r : Reported). r.flaws.missed) reports
+flawed_is reports = (λ i. is_counted (λ (r : Reported). r.flaws.race) reports i || is_counted (λ (r : Reported). r.flaws.stuck) reports i || is_counted (λ (r : Reported). r.flaws.livelock) reports i || is_counted (λ (r : Reported). r.flaws.budget) reports i || is_counted (λ (r : Reported). r.flaws.fault) reports i || is_counted (λ (r : Reported). r.flaws.halt) reports i || is_counted (λ (r : Reported). r.flaws.missed) reports i)
+    ∙ ap (λ b. b || list_any (λ (r : Reported). r.flaws.livelock) reports || list_any (λ (r : Reported). r.flaws.budget) reports || list_any (λ (r : Reported). r.flaws.fault) reports || list_any (λ (r : Reported). r.flaws.halt) reports || list_any (λ (r : Reported). r.flaws.missed) reports) (any_or (λ (r : Reported). r.flaws.race) (λ (r : Reported). r.flaws.stuck) reports)
+    ∙ ap (λ b. b || list_any (λ (r : Reported). r.flaws.budget) reports || list_any (λ (r : Reported). r.flaws.fault) reports || list_any (λ (r : Reported). r.flaws.halt) reports || list_any (λ (r : Reported). r.flaws.missed) reports) (any_or (λ (r : Reported). r.flaws.race || r.flaws.stuck) (λ (r : Reported). r.flaws.livelock) reports)
+    ∙ ap (λ b. b || list_any (λ (r : Reported). r.flaws.fault) reports || list_any (λ (r : Reported). r.flaws.halt) reports || list_any (λ (r : Reported). r.flaws.missed) reports) (any_or (λ (r : Reported). r.flaws.race || r.flaws.stuck || r.flaws.livelock) (λ (r : Reported). r.flaws.budget) reports)
+    ∙ ap (λ b. b || list_any (λ (r : Reported). r.flaws.halt) reports || list_any (λ (r : Reported). r.flaws.missed) reports) (any_or (λ (r : Reported). r.flaws.race || r.flaws.stuck || r.flaws.livelock || r.flaws.budget) (λ (r : Reported). r.flaws.fault) reports)
+    ∙ ap (λ b. b || list_any (λ (r : Reported). r.flaws.missed) reports) (any_or (λ (r : Reported). r.flaws.race || r.flaws.stuck || r.flaws.livelock || r.flaws.budget || r.flaws.fault) (λ (r : Reported). r.flaws.halt) reports)
+    ∙ any_or (λ (r : Reported). r.flaws.race || r.flaws.stuck || r.flaws.livelock || r.flaws.budget || r.flaws.fault || r.flaws.halt) (λ (r : Reported). r.flaws.missed) reports
 
 pub flaws_in : (reports : List Reported) → (hunted reports).flaws ≡ flaws_of reports
 unfolding hunted

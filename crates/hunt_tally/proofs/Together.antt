@@ -90,6 +90,7 @@ pub record AreBoth (here behind new : Sums) : Type 0 where
   pub steps : new.steps ≡ here.steps + behind.steps
   pub race : new.flaws.race ≡ with_count here.runs here.flaws.race behind.flaws.race
   pub stuck : new.flaws.stuck ≡ with_count here.runs here.flaws.stuck behind.flaws.stuck
+  pub livelock : new.flaws.livelock ≡ with_count here.runs here.flaws.livelock behind.flaws.livelock
   pub budget : new.flaws.budget ≡ with_count here.runs here.flaws.budget behind.flaws.budget
   pub fault : new.flaws.fault ≡ with_count here.runs here.flaws.fault behind.flaws.fault
   pub halt : new.flaws.halt ≡ with_count here.runs here.flaws.halt behind.flaws.halt
@@ -100,6 +101,7 @@ pub record AreBoth (here behind new : Sums) : Type 0 where
   pub races : Joined here.races behind.races new.races
   pub lines : Joined here.missed behind.missed new.missed
   pub findings : Joined here.findings behind.findings new.findings
+  pub warnings : Joined here.warnings behind.warnings new.warnings
   pub executed : new.executed ≡ set_of (here.executed ++ behind.executed)
 
 executed_both : (xs ys : List Reported) → set_of (executed_in xs ++ executed_in ys) ≡ executed_in (xs ++ ys)
@@ -116,6 +118,7 @@ hunted_both here behind new is xs ys a b = λ i. record {
   flaws = record {
     race = (is.race ∙ (λ j. with_count (a j).runs (a j).flaws.race (b j).flaws.race) ∙ counts_joined (λ (r : Reported). r.flaws.race) xs ys) i;
     stuck = (is.stuck ∙ (λ j. with_count (a j).runs (a j).flaws.stuck (b j).flaws.stuck) ∙ counts_joined (λ (r : Reported). r.flaws.stuck) xs ys) i;
+    livelock = (is.livelock ∙ (λ j. with_count (a j).runs (a j).flaws.livelock (b j).flaws.livelock) ∙ counts_joined (λ (r : Reported). r.flaws.livelock) xs ys) i;
     budget = (is.budget ∙ (λ j. with_count (a j).runs (a j).flaws.budget (b j).flaws.budget) ∙ counts_joined (λ (r : Reported). r.flaws.budget) xs ys) i;
     fault = (is.fault ∙ (λ j. with_count (a j).runs (a j).flaws.fault (b j).flaws.fault) ∙ counts_joined (λ (r : Reported). r.flaws.fault) xs ys) i;
     halt = (is.halt ∙ (λ j. with_count (a j).runs (a j).flaws.halt (b j).flaws.halt) ∙ counts_joined (λ (r : Reported). r.flaws.halt) xs ys) i;
@@ -127,6 +130,7 @@ hunted_both here behind new is xs ys a b = λ i. record {
   races = (is.races (map (λ (r : Reported). r.races) xs) (map (λ (r : Reported). r.races) ys) (ap (λ (s : Sums). s.races) a) (ap (λ (s : Sums). s.races) b) ∙ ap tallied (sym (map-append (λ (r : Reported). r.races) xs ys))) i;
   missed = (is.lines (map missed_told xs) (map missed_told ys) (ap (λ (s : Sums). s.missed) a) (ap (λ (s : Sums). s.missed) b) ∙ ap tallied (sym (map-append missed_told xs ys))) i;
   findings = (is.findings (map (λ (r : Reported). r.findings) xs) (map (λ (r : Reported). r.findings) ys) (ap (λ (s : Sums). s.findings) a) (ap (λ (s : Sums). s.findings) b) ∙ ap tallied (sym (map-append (λ (r : Reported). r.findings) xs ys))) i;
+  warnings = (is.warnings (map (λ (r : Reported). r.warnings) xs) (map (λ (r : Reported). r.warnings) ys) (ap (λ (s : Sums). s.warnings) a) (ap (λ (s : Sums). s.warnings) b) ∙ ap tallied (sym (map-append (λ (r : Reported). r.warnings) xs ys))) i;
   executed = (is.executed ∙ (λ j. set_of ((a j).executed ++ (b j).executed)) ∙ executed_both xs ys) i;
 }
 
@@ -135,8 +139,8 @@ pub within_both : (here behind new : Sums) → IsWithin here → IsWithin behind
     → new.left_out ≡ here.left_out + behind.left_out → new.steps ≡ here.steps + behind.steps → AreWithin (here.runs + behind.runs) new.flaws → runs_of new.kinds ≤ runs_of here.kinds + runs_of behind.kinds
     → new.endings.runs ≤ here.endings.runs + behind.endings.runs → new.results.runs ≤ here.results.runs + behind.results.runs
     → new.races.runs ≤ here.races.runs + behind.races.runs → new.missed.runs ≤ here.missed.runs + behind.missed.runs
-    → new.findings.runs ≤ here.findings.runs + behind.findings.runs → IsWithin new
-within_both here behind new a b runs stopped out steps flaws kinds endings results races missed findings = record {
+    → new.findings.runs ≤ here.findings.runs + behind.findings.runs → new.warnings.runs ≤ here.warnings.runs + behind.warnings.runs → IsWithin new
+within_both here behind new a b runs stopped out steps flaws kinds endings results races missed findings warnings = record {
   all_stopped = omega (arith, runs, stopped, a.all_stopped, b.all_stopped);
   left_out = omega (arith, runs, out, a.left_out, b.left_out);
   steps = omega (arith, runs, steps, a.steps, b.steps);
@@ -147,4 +151,5 @@ within_both here behind new a b runs stopped out steps flaws kinds endings resul
   races = omega (arith, runs, races, a.races, b.races);
   missed = omega (arith, runs, missed, a.missed, b.missed);
   findings = omega (arith, runs, findings, a.findings, b.findings);
+  warnings = omega (arith, runs, warnings, a.warnings, b.warnings);
 }

@@ -12,6 +12,7 @@ pub record IsAmong (most : ℕ) (c : Count) : Type 0 where
 pub record AreWithin (runs : ℕ) (c : FlawCounts) : Type 0 where
   pub race : IsAmong runs c.race
   pub stuck : IsAmong runs c.stuck
+  pub livelock : IsAmong runs c.livelock
   pub budget : IsAmong runs c.budget
   pub fault : IsAmong runs c.fault
   pub halt : IsAmong runs c.halt
@@ -29,3 +30,4 @@ pub record IsWithin (s : Sums) : Type 0 where
   pub races : s.races.runs ≤ s.runs
   pub missed : s.missed.runs ≤ s.runs
   pub findings : s.findings.runs ≤ s.runs
+  pub warnings : s.warnings.runs ≤ s.runs

@@ -18,6 +18,7 @@ pub record Reported : Type 0 where
   pub races : List Tells
   pub missed : List (List ℕ)
   pub findings : List Tells  -- a key begins with the word of the finding's kind
+  pub warnings : List Tells  -- so does a warning's
   pub leaves_out : Bool
   pub kind : ℕ  -- its digest
   pub steps : ℕ  -- how many
@@ -25,11 +26,15 @@ pub record Reported : Type 0 where
 
 -- whether something went wrong in it
 abbrev pub is_flawed : Reported → Bool
-is_flawed r = r.flaws.race || r.flaws.stuck || r.flaws.budget || r.flaws.fault || r.flaws.halt || r.flaws.missed
+is_flawed r = r.flaws.race || r.flaws.stuck || r.flaws.livelock || r.flaws.budget || r.flaws.fault || r.flaws.halt || r.flaws.missed
 
 -- whether all its processors stopped
 abbrev pub all_stopped : Reported → Bool
-all_stopped r = not (r.flaws.stuck || r.flaws.budget)
+all_stopped r = not (r.flaws.stuck || r.flaws.livelock || r.flaws.budget)
+
+-- whether it has a warning
+abbrev pub is_warned : Reported → Bool
+is_warned r = nat_lt 0 (length r.warnings)
 
 -- ---- its tellings
 
@@ -57,6 +62,7 @@ unfoldable pub flaws_of : List Reported → FlawCounts
 flaws_of reports = record {
   race = count_of (λ (r : Reported). r.flaws.race) reports;
   stuck = count_of (λ (r : Reported). r.flaws.stuck) reports;
+  livelock = count_of (λ (r : Reported). r.flaws.livelock) reports;
   budget = count_of (λ (r : Reported). r.flaws.budget) reports;
   fault = count_of (λ (r : Reported). r.flaws.fault) reports;
   halt = count_of (λ (r : Reported). r.flaws.halt) reports;
@@ -84,6 +90,7 @@ pub record Sums : Type 0 where
   pub races : Tallied
   pub missed : Tallied
   pub findings : Tallied
+  pub warnings : Tallied
   pub executed : List ℕ
 
 -- what the runs of these reports tell together
@@ -100,9 +107,10 @@ hunted reports = record {
   races = tallied (map (λ (r : Reported). r.races) reports);
   missed = tallied (map missed_told reports);
   findings = tallied (map (λ (r : Reported). r.findings) reports);
+  warnings = tallied (map (λ (r : Reported). r.warnings) reports);
   executed = executed_in reports;
 }
 
 -- whether a flaw was counted
 abbrev pub has_flaw : FlawCounts → Bool
-has_flaw c = nat_lt 0 c.race.runs || nat_lt 0 c.stuck.runs || nat_lt 0 c.budget.runs || nat_lt 0 c.fault.runs || nat_lt 0 c.halt.runs || nat_lt 0 c.missed.runs
+has_flaw c = nat_lt 0 c.race.runs || nat_lt 0 c.stuck.runs || nat_lt 0 c.livelock.runs || nat_lt 0 c.budget.runs || nat_lt 0 c.fault.runs || nat_lt 0 c.halt.runs || nat_lt 0 c.missed.runs

@@ -14,7 +14,9 @@ pub struct Flaws {
     pub race: bool,
     /// It is stuck.
     pub stuck: bool,
-    /// It spent its budget.
+    /// It spent its budget, and its last steps changed nothing that others see.
+    pub livelock: bool,
+    /// It spent its budget, and was still progressing.
     pub budget: bool,
     /// A processor has a fault.
     pub fault: bool,
@@ -27,9 +29,9 @@ pub struct Flaws {
 impl Flaws {
     /// Whether all processors stopped.
     pub fn all_stopped(&self) -> bool
-        ensures { result ≡ not (self.now.stuck || self.now.budget) }
+        ensures { result ≡ not (self.now.stuck || self.now.livelock || self.now.budget) }
     {
-        !self.stuck && !self.budget
+        !self.stuck && !self.livelock && !self.budget
     }
 }
 
@@ -38,6 +40,7 @@ impl Flaws {
 pub struct FlawCounts {
     pub race: Count,
     pub stuck: Count,
+    pub livelock: Count,
     pub budget: Count,
     pub fault: Count,
     pub halt: Count,
@@ -53,6 +56,7 @@ impl FlawCounts {
         FlawCounts {
             race: Count::new(),
             stuck: Count::new(),
+            livelock: Count::new(),
             budget: Count::new(),
             fault: Count::new(),
             halt: Count::new(),
@@ -66,6 +70,7 @@ impl FlawCounts {
         requires within { AreWithin run self.old }
         ensures race { self.new.race ≡ noted run flaws.race self.old.race }
         ensures stuck { self.new.stuck ≡ noted run flaws.stuck self.old.stuck }
+        ensures livelock { self.new.livelock ≡ noted run flaws.livelock self.old.livelock }
         ensures budget { self.new.budget ≡ noted run flaws.budget self.old.budget }
         ensures fault { self.new.fault ≡ noted run flaws.fault self.old.fault }
         ensures halt { self.new.halt ≡ noted run flaws.halt self.old.halt }
@@ -74,6 +79,7 @@ impl FlawCounts {
     {
         self.race.note(run, flaws.race);
         self.stuck.note(run, flaws.stuck);
+        self.livelock.note(run, flaws.livelock);
         self.budget.note(run, flaws.budget);
         self.fault.note(run, flaws.fault);
         self.halt.note(run, flaws.halt);
@@ -86,6 +92,7 @@ impl FlawCounts {
         requires room { (behind : ℕ) × (runs + behind < 2 ^ 32) × AreWithin behind other }
         ensures race { self.new.race ≡ with_count runs self.old.race other.race }
         ensures stuck { self.new.stuck ≡ with_count runs self.old.stuck other.stuck }
+        ensures livelock { self.new.livelock ≡ with_count runs self.old.livelock other.livelock }
         ensures budget { self.new.budget ≡ with_count runs self.old.budget other.budget }
         ensures fault { self.new.fault ≡ with_count runs self.old.fault other.fault }
         ensures halt { self.new.halt ≡ with_count runs self.old.halt other.halt }
@@ -94,6 +101,7 @@ impl FlawCounts {
     {
         self.race.join(runs, other.race);
         self.stuck.join(runs, other.stuck);
+        self.livelock.join(runs, other.livelock);
         self.budget.join(runs, other.budget);
         self.fault.join(runs, other.fault);
         self.halt.join(runs, other.halt);
@@ -106,6 +114,7 @@ impl FlawCounts {
     {
         self.race.runs > 0
             || self.stuck.runs > 0
+            || self.livelock.runs > 0
             || self.budget.runs > 0
             || self.fault.runs > 0
             || self.halt.runs > 0

@@ -4,13 +4,15 @@ ghost use Rattle.std.specs.Prelude.{◌≡◌, ◌+◌, ◌^◌, ◌<◌, ◌≤
 ghost use Rattle.std.specs.List.{list_any};
 ghost use Rattle.cell_base.specs.Records.{line_feed};
 ghost use Rattle.hunt_tally.specs.Tallies.{Took};
-ghost use Rattle.hunt_tally.specs.Reports.{Reported, is_flawed, line_told, hunted};
+ghost use Rattle.hunt_tally.specs.Joins.{Joined};
+ghost use Rattle.hunt_tally.specs.Reports.{Reported, is_flawed, is_warned, line_told, hunted};
 
 use crate::executed::Executed;
 use crate::flaws::FlawCounts;
 use crate::kinds::Kinds;
 use crate::report::Report;
 use crate::tally::Tally;
+use crate::telling::Telling;
 use crate::tellings::{ending_told, missed_told, result_told};
 use std::alloc::{AllocError, Global};
 use std::marker::Model;
@@ -26,12 +28,13 @@ pub struct Hunted {
     steps: u64,
     flaws: FlawCounts,
     kinds: Kinds,
-    /// The different endings, results within an ending, races, expected lines that aren't there, and findings.
+    /// The different endings, results within an ending, races, expected lines that aren't there, findings, and warnings.
     endings: Tally,
     results: Tally,
     races: Tally,
     missed: Tally,
     findings: Tally,
+    warnings: Tally,
     /// The instructions that at least one of them executed.
     executed: Executed,
 }
@@ -42,9 +45,9 @@ impl Model for Hunted {
 
     ghost Value = { Sums };
 
-    ghost view = { λ h. record { runs = h.runs; all_stopped = h.all_stopped; left_out = h.left_out; steps = h.steps; flaws = h.flaws; kinds = h.kinds; endings = h.endings; results = h.results; races = h.races; missed = h.missed; findings = h.findings; executed = h.executed } };
+    ghost view = { λ h. record { runs = h.runs; all_stopped = h.all_stopped; left_out = h.left_out; steps = h.steps; flaws = h.flaws; kinds = h.kinds; endings = h.endings; results = h.results; races = h.races; missed = h.missed; findings = h.findings; warnings = h.warnings; executed = h.executed } };
 
-    ghost invariant = { λ h. IsWithin (record { runs = h.runs; all_stopped = h.all_stopped; left_out = h.left_out; steps = h.steps; flaws = h.flaws; kinds = h.kinds; endings = h.endings; results = h.results; races = h.races; missed = h.missed; findings = h.findings; executed = h.executed }) };
+    ghost invariant = { λ h. IsWithin (record { runs = h.runs; all_stopped = h.all_stopped; left_out = h.left_out; steps = h.steps; flaws = h.flaws; kinds = h.kinds; endings = h.endings; results = h.results; races = h.races; missed = h.missed; findings = h.findings; warnings = h.warnings; executed = h.executed }) };
 }
 
 /// One more, where it is so.
@@ -83,6 +86,74 @@ fn take_missed(tally: &mut Tally, alloc: Global, missed: Vec<Vec<u8>>) -> Result
     tally.take(missed_told(alloc, missed)?)
 }
 
+/// Takes in the races, the findings and the warnings of a run.
+fn take_found(
+    races: &mut Tally,
+    findings: &mut Tally,
+    warnings: &mut Tally,
+    run_races: Vec<Telling>,
+    run_findings: Vec<Telling>,
+    run_warnings: Vec<Telling>,
+) -> Result<(), AllocError>
+    requires races { races.old.runs + 2 < 2 ^ 32 }
+    requires findings { findings.old.runs + 2 < 2 ^ 32 }
+    requires warnings { warnings.old.runs + 2 < 2 ^ 32 }
+    ensures races { races.new.runs ≤ races.old.runs + 1 }
+    ensures findings { findings.new.runs ≤ findings.old.runs + 1 }
+    ensures warnings { warnings.new.runs ≤ warnings.old.runs + 1 }
+    ensures took_races { OnOk result (Took run_races.items races.old races.new) }
+    ensures took_findings { OnOk result (Took run_findings.items findings.old findings.new) }
+    ensures took_warnings { OnOk result (Took run_warnings.items warnings.old warnings.new) }
+{
+    races.take(run_races)?;
+    findings.take(run_findings)?;
+    warnings.take(run_warnings)
+}
+
+/// Takes in how the runs behind these ended, and what they left.
+fn join_endings(
+    endings: &mut Tally,
+    results: &mut Tally,
+    alloc: Global,
+    other_endings: Tally,
+    other_results: Tally,
+) -> Result<(), AllocError>
+    requires endings { endings.old.runs + other_endings.runs < 2 ^ 32 }
+    requires results { results.old.runs + other_results.runs < 2 ^ 32 }
+    ensures endings { endings.new.runs ≤ endings.old.runs + other_endings.runs }
+    ensures results { results.new.runs ≤ results.old.runs + other_results.runs }
+    ensures joined_endings { OnOk result (Joined endings.old other_endings endings.new) }
+    ensures joined_results { OnOk result (Joined results.old other_results results.new) }
+{
+    endings.join(alloc, other_endings)?;
+    results.join(alloc, other_results)
+}
+
+/// Takes in the races, the findings and the warnings of the runs behind these.
+fn join_found(
+    races: &mut Tally,
+    findings: &mut Tally,
+    warnings: &mut Tally,
+    alloc: Global,
+    other_races: Tally,
+    other_findings: Tally,
+    other_warnings: Tally,
+) -> Result<(), AllocError>
+    requires races { races.old.runs + other_races.runs < 2 ^ 32 }
+    requires findings { findings.old.runs + other_findings.runs < 2 ^ 32 }
+    requires warnings { warnings.old.runs + other_warnings.runs < 2 ^ 32 }
+    ensures races { races.new.runs ≤ races.old.runs + other_races.runs }
+    ensures findings { findings.new.runs ≤ findings.old.runs + other_findings.runs }
+    ensures warnings { warnings.new.runs ≤ warnings.old.runs + other_warnings.runs }
+    ensures joined_races { OnOk result (Joined races.old other_races races.new) }
+    ensures joined_findings { OnOk result (Joined findings.old other_findings findings.new) }
+    ensures joined_warnings { OnOk result (Joined warnings.old other_warnings warnings.new) }
+{
+    races.join(alloc, other_races)?;
+    findings.join(alloc, other_findings)?;
+    warnings.join(alloc, other_warnings)
+}
+
 impl Hunted {
     /// Before the first run.
     pub fn new(alloc: Global) -> Hunted
@@ -100,6 +171,7 @@ impl Hunted {
             races: Tally::new(alloc),
             missed: Tally::new(alloc),
             findings: Tally::new(alloc),
+            warnings: Tally::new(alloc),
             executed: Executed::new(alloc),
         }
     }
@@ -116,6 +188,7 @@ impl Hunted {
             races,
             missed,
             findings,
+            warnings,
             leaves_out,
             kind,
             steps,
@@ -129,9 +202,15 @@ impl Hunted {
         self.steps += u64::from(steps);
         self.kinds.take(kind)?;
         take_ending(&mut self.endings, &mut self.results, alloc, ending, result)?;
-        self.races.take(races)?;
+        take_found(
+            &mut self.races,
+            &mut self.findings,
+            &mut self.warnings,
+            races,
+            findings,
+            warnings,
+        )?;
         take_missed(&mut self.missed, alloc, missed)?;
-        self.findings.take(findings)?;
         self.executed.take(executed.as_slice())
     }
 
@@ -153,6 +232,7 @@ impl Hunted {
             races,
             missed,
             findings,
+            warnings,
             executed,
         } = other;
         self.flaws.join(self.runs, flaws);
@@ -161,11 +241,23 @@ impl Hunted {
         self.left_out += left_out;
         self.steps += steps;
         self.kinds.join(kinds)?;
-        self.endings.join(alloc, endings)?;
-        self.results.join(alloc, results)?;
-        self.races.join(alloc, races)?;
+        join_endings(
+            &mut self.endings,
+            &mut self.results,
+            alloc,
+            endings,
+            results,
+        )?;
+        join_found(
+            &mut self.races,
+            &mut self.findings,
+            &mut self.warnings,
+            alloc,
+            races,
+            findings,
+            warnings,
+        )?;
         self.missed.join(alloc, missed)?;
-        self.findings.join(alloc, findings)?;
         self.executed.join(executed)
     }
 
@@ -251,6 +343,20 @@ impl Hunted {
         ensures { result.now ≡ self.now.findings }
     {
         &self.findings
+    }
+
+    /// The different warnings.
+    pub fn warnings(&self) -> &Tally
+        ensures { result.now ≡ self.now.warnings }
+    {
+        &self.warnings
+    }
+
+    /// Whether one has a warning.
+    pub fn has_warning(&self) -> bool
+        ensures { (reports : List Reported) → self.now ≡ hunted reports → result ≡ list_any is_warned reports }
+    {
+        self.warnings.len() > 0
     }
 
     /// The instructions that at least one of them executed.

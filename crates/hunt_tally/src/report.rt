@@ -19,6 +19,8 @@ pub struct Report {
     pub missed: Vec<Vec<u8>>,
     /// Its findings. A key begins with the word of the finding's kind.
     pub findings: Vec<Telling>,
+    /// Its warnings. A key begins with the word of the warning's kind.
+    pub warnings: Vec<Telling>,
     /// Whether a race was left out that was passed.
     pub leaves_out: bool,
     /// The digest of its kind.
@@ -35,5 +37,5 @@ impl Model for Report {
 
     ghost Value = { Reported };
 
-    ghost view = { λ r. record { flaws = r.flaws; ending = r.ending.items; result = r.result.items; races = r.races.items; missed = map (λ line. line.items) r.missed.items; findings = r.findings.items; leaves_out = r.leaves_out; kind = r.kind; steps = r.steps; executed = r.executed.items } };
+    ghost view = { λ r. record { flaws = r.flaws; ending = r.ending.items; result = r.result.items; races = r.races.items; missed = map (λ line. line.items) r.missed.items; findings = r.findings.items; warnings = r.warnings.items; leaves_out = r.leaves_out; kind = r.kind; steps = r.steps; executed = r.executed.items } };
 }

@@ -28,12 +28,12 @@ take_past (x ∷ xs) (suc i) past = ap (λ ys. x ∷ ys) (take_past xs i (omega 
 step : (o o' a : List ℕ) → o' ≡ o ++ a → (t : List ℕ) → o' ++ t ≡ o ++ (a ++ t)
 step o o' a e t = ap (λ x. x ++ t) e ∙ append_assoc o a t
 
--- six items
-pub six : (o0 o1 o2 o3 o4 o5 o6 f1 f2 f3 f4 f5 f6 : List ℕ) → o1 ≡ o0 ++ f1 → o2 ≡ o1 ++ f2 → o3 ≡ o2 ++ f3 → o4 ≡ o3 ++ f4 → o5 ≡ o4 ++ f5 → o6 ≡ o5 ++ f6
-    → o6 ≡ o0 ++ (f1 ++ (f2 ++ (f3 ++ (f4 ++ (f5 ++ (f6 ++ []))))))
-six o0 o1 o2 o3 o4 o5 o6 f1 f2 f3 f4 f5 f6 e1 e2 e3 e4 e5 e6 =
-    e6 ∙ ap (λ t. o5 ++ t) (sym (append-nil f6)) ∙ step o4 o5 f5 e5 (f6 ++ []) ∙ step o3 o4 f4 e4 (f5 ++ (f6 ++ [])) ∙ step o2 o3 f3 e3 (f4 ++ (f5 ++ (f6 ++ [])))
-    ∙ step o1 o2 f2 e2 (f3 ++ (f4 ++ (f5 ++ (f6 ++ [])))) ∙ step o0 o1 f1 e1 (f2 ++ (f3 ++ (f4 ++ (f5 ++ (f6 ++ [])))))
+-- seven items
+pub seven_items : (o0 o1 o2 o3 o4 o5 o6 o7 f1 f2 f3 f4 f5 f6 f7 : List ℕ) → o1 ≡ o0 ++ f1 → o2 ≡ o1 ++ f2 → o3 ≡ o2 ++ f3 → o4 ≡ o3 ++ f4 → o5 ≡ o4 ++ f5 → o6 ≡ o5 ++ f6 → o7 ≡ o6 ++ f7
+    → o7 ≡ o0 ++ (f1 ++ (f2 ++ (f3 ++ (f4 ++ (f5 ++ (f6 ++ (f7 ++ [])))))))
+seven_items o0 o1 o2 o3 o4 o5 o6 o7 f1 f2 f3 f4 f5 f6 f7 e1 e2 e3 e4 e5 e6 e7 =
+    e7 ∙ ap (λ t. o6 ++ t) (sym (append-nil f7)) ∙ step o5 o6 f6 e6 (f7 ++ []) ∙ step o4 o5 f5 e5 (f6 ++ (f7 ++ [])) ∙ step o3 o4 f4 e4 (f5 ++ (f6 ++ (f7 ++ []))) ∙ step o2 o3 f3 e3 (f4 ++ (f5 ++ (f6 ++ (f7 ++ []))))
+    ∙ step o1 o2 f2 e2 (f3 ++ (f4 ++ (f5 ++ (f6 ++ (f7 ++ []))))) ∙ step o0 o1 f1 e1 (f2 ++ (f3 ++ (f4 ++ (f5 ++ (f6 ++ (f7 ++ []))))))
 
 -- two, three or seven texts one after the other
 pub two : (o p q a b : List ℕ) → p ≡ o ++ a → q ≡ p ++ b → q ≡ o ++ (a ++ b)

@@ -1,7 +1,8 @@
 -- How the runs ended.
-use Rattle.std.specs.Prelude.{ℕ, ◌-◌, ◌==◌, ◌||◌, nat_lt, nat_eq, Bool, false, List, [], ◌∷◌, ◌++◌, filter, take, length, codes, if◌then◌else◌}
+use Rattle.std.specs.Prelude.{ℕ, ◌+◌, ◌-◌, ◌==◌, ◌||◌, nat_lt, nat_eq, Bool, false, List, [], ◌∷◌, ◌++◌, filter, take, length, codes, if◌then◌else◌}
 use Rattle.std.specs.List.{flat_map, starts_with}
 use Rattle.cell_base.specs.Records.{line_feed}
+use Rattle.hunt_tally.specs.declared.flaws.FlawCounts.{FlawCounts}
 use Rattle.hunt_tally.specs.Tallies.{Told, told_in}
 use Rattle.hunt_tally.specs.Reports.{Sums}
 use Rattle.hunt_texts.specs.Numbers.{word_text, counted_text}
@@ -39,6 +40,10 @@ more_endings n = if nat_lt most n then codes "  and " ++ word_text (n - most) (c
 abbrev pub stopped_lines : ℕ → List Told → List ℕ
 stopped_lines from endings = if nat_lt 1 (length endings) then flat_map (ending_line from) (take most endings) ++ more_endings (length endings) else []
 
+-- a livelock is a spent budget, too
+abbrev pub spent_in : FlawCounts → ℕ
+spent_in c = c.livelock.runs + c.budget.runs
+
 unfoldable pub ends_lines : ℕ → Sums → List ℕ
 ends_lines from sums =
-    ends_line sums.runs sums.all_stopped sums.flaws.stuck.runs sums.flaws.budget.runs ++ stopped_lines from (filter is_stopped (told_in sums.endings))
+    ends_line sums.runs sums.all_stopped sums.flaws.stuck.runs (spent_in sums.flaws) ++ stopped_lines from (filter is_stopped (told_in sums.endings))

@@ -1,4 +1,4 @@
--- The findings, each with the commands that show its first run.
+-- The failures and the warnings, each with the commands that show its first run.
 use Rattle.std.specs.Prelude.{ℕ, ◌+◌, ◌-◌, ◌==◌, ◌||◌, nat_le, Bool, List, [], ◌++◌, map, filter, take, length, codes, if◌then◌else◌}
 use Rattle.std.specs.List.{flat_map, before_first}
 use Rattle.std.specs.Str.{bytes_eq}
@@ -6,7 +6,7 @@ use Rattle.cell_base.specs.Records.{line_feed}
 use Rattle.hunt_tally.specs.Tallies.{Told, told_in}
 use Rattle.hunt_tally.specs.Reports.{Sums}
 use Rattle.hunt_texts.specs.declared.finding.Finding.{Finding}
-use Rattle.hunt_texts.specs.declared.finding.Finding.TheVariants.{Race, Halt, Fault, Deadlock, Budget, Missed}
+use Rattle.hunt_texts.specs.declared.finding.Finding.TheVariants.{Race, Halt, Fault, Deadlock, Livelock, Missed, Budget, LostSignal, UnreadPutllc, UnreadTags}
 use Rattle.hunt_texts.specs.Numbers.{word_text, units_text, runs_text, first_text}
 use Rattle.hunt_texts.specs.About.{Facts}
 use Rattle.hunt_texts.specs.Commands.{command_line}
@@ -21,8 +21,12 @@ kind_word Race = codes "race"
 kind_word Halt = codes "halt"
 kind_word Fault = codes "fault"
 kind_word Deadlock = codes "deadlock"
-kind_word Budget = codes "budget"
+kind_word Livelock = codes "livelock"
 kind_word Missed = codes "missed"
+kind_word Budget = codes "budget"
+kind_word LostSignal = codes "lost-signal"
+kind_word UnreadPutllc = codes "unread-putllc"
+kind_word UnreadTags = codes "unread-tags"
 
 abbrev pub is_of_kind : Finding → Told → Bool
 is_of_kind kind t = bytes_eq (key_word t.key) (kind_word kind)
@@ -35,9 +39,16 @@ pub record Found : Type 0 where
 abbrev pub of_kind : Finding → List Told → List Found
 of_kind kind findings = map (λ t. record { kind = kind; told = t }) (filter (is_of_kind kind) findings)
 
+abbrev pub failures_in : List Told → List Found
+failures_in findings =
+    of_kind Race findings ++ of_kind Halt findings ++ of_kind Fault findings ++ of_kind Deadlock findings ++ of_kind Livelock findings ++ of_kind Missed findings ++ of_kind Budget findings
+
+abbrev pub warnings_in : List Told → List Found
+warnings_in warnings = of_kind LostSignal warnings ++ of_kind UnreadPutllc warnings ++ of_kind UnreadTags warnings
+
 -- by kind, and within a kind in the order of the tally
-abbrev pub by_kind : List Told → List Found
-by_kind findings = of_kind Race findings ++ of_kind Halt findings ++ of_kind Fault findings ++ of_kind Deadlock findings ++ of_kind Budget findings ++ of_kind Missed findings
+abbrev pub by_kind : List Told → List Told → List Found
+by_kind findings warnings = failures_in findings ++ warnings_in warnings
 
 -- ---- the lines of a finding
 
@@ -46,8 +57,12 @@ kind_words Race = codes "data race"
 kind_words Halt = codes "halt"
 kind_words Fault = codes "fault"
 kind_words Deadlock = codes "deadlock"
-kind_words Budget = codes "spent budget"
+kind_words Livelock = codes "livelock"
 kind_words Missed = codes "missing line"
+kind_words Budget = codes "spent budget"
+kind_words LostSignal = codes "warning: lost signal"
+kind_words UnreadPutllc = codes "warning: unread status of a PUTLLC"
+kind_words UnreadTags = codes "warning: unread tag status"
 
 -- how many of all runs have it, and the number of the first one
 unfoldable pub share_text : ℕ → ℕ → ℕ → List ℕ
@@ -68,8 +83,12 @@ advice_lines a Race run = why_line (codes "  why, and how to fix it: ") a run
 advice_lines a Halt run = ended_lines a run
 advice_lines a Fault run = ended_lines a run
 advice_lines a Deadlock run = ended_lines a run
-advice_lines a Budget run = debug_line a run
+advice_lines a Livelock run = ended_lines a run
 advice_lines a Missed run = command_line (codes "  the states of this run: ") a (codes "states") run
+advice_lines a Budget run = debug_line a run
+advice_lines a LostSignal run = debug_line a run
+advice_lines a UnreadPutllc run = debug_line a run
+advice_lines a UnreadTags run = debug_line a run
 
 unfoldable pub finding_lines : Facts → ℕ → Found → List ℕ
 finding_lines a all f = line_feed ++ kind_words f.kind ++ share_text f.told.runs all (a.from + f.told.first) ++ f.told.shown ++ advice_lines a f.kind (a.from + f.told.first)
@@ -91,4 +110,4 @@ unfoldable pub found_lines : Facts → ℕ → List Found → List ℕ
 found_lines a all found = flat_map (finding_lines a all) (take (printed a.all (length found)) found) ++ more_lines a.all (length found)
 
 abbrev pub findings_lines : Facts → Sums → List ℕ
-findings_lines a sums = found_lines a sums.runs (by_kind (told_in sums.findings))
+findings_lines a sums = found_lines a sums.runs (by_kind (told_in sums.findings) (told_in sums.warnings))

@@ -38,7 +38,8 @@ unfoldable pub flaw_json : ℕ → List ℕ → Count → List ℕ
 flaw_json from name c = name ++ field_json (codes "{\"runs\":") c.runs ++ codes ",\"first\":" ++ first_json from c ++ codes "}"
 
 unfoldable pub ended_json : ℕ → FlawCounts → List ℕ
-ended_json from c = flaw_json from (codes ",\"race\":") c.race ++ flaw_json from (codes ",\"stuck\":") c.stuck ++ flaw_json from (codes ",\"budget\":") c.budget
+ended_json from c =
+    flaw_json from (codes ",\"race\":") c.race ++ flaw_json from (codes ",\"stuck\":") c.stuck ++ flaw_json from (codes ",\"livelock\":") c.livelock ++ flaw_json from (codes ",\"budget\":") c.budget
 
 unfoldable pub faulted_json : ℕ → FlawCounts → List ℕ
 faulted_json from c = flaw_json from (codes ",\"fault\":") c.fault ++ flaw_json from (codes ",\"halt\":") c.halt ++ flaw_json from (codes ",\"missed\":") c.missed
@@ -71,10 +72,16 @@ result_json from t = codes "{\"result\":" ++ string_json (result_in t) ++ codes 
 abbrev pub missed_json : ℕ → Told → List ℕ
 missed_json from t = codes "{\"missed\":" ++ string_json t.key ++ runs_json from t.runs t.first
 
--- a finding: the first word of its key is its kind
+-- a failure or a warning: the first word of its key is its kind
+abbrev pub found_json : List ℕ → ℕ → Told → List ℕ
+found_json name from t =
+    name ++ string_json (key_word t.key) ++ codes ",\"key\":" ++ string_json t.key ++ codes ",\"shown\":" ++ string_json t.shown ++ runs_json from t.runs t.first
+
 abbrev pub finding_json : ℕ → Told → List ℕ
-finding_json from t =
-    codes "{\"finding\":" ++ string_json (key_word t.key) ++ codes ",\"key\":" ++ string_json t.key ++ codes ",\"shown\":" ++ string_json t.shown ++ runs_json from t.runs t.first
+finding_json from t = found_json (codes "{\"finding\":") from t
+
+abbrev pub warning_json : ℕ → Told → List ℕ
+warning_json from t = found_json (codes "{\"warning\":") from t
 
 abbrev pub comma_json : ℕ → List ℕ
 comma_json i = if i == 0 then [] else codes ","
@@ -108,4 +115,4 @@ abbrev pub hunt_json : Sums → ℕ → ℕ → Bool → List SourceLines → Li
 hunt_json sums seed from expects coverage =
     head_json sums seed from expects ++ flat_map (race_json from) (told_in sums.races) ++ flat_map (ending_json from) (told_in sums.endings)
     ++ flat_map (result_json from) (told_in sums.results) ++ flat_map (missed_json from) (told_in sums.missed)
-    ++ flat_map (finding_json from) (told_in sums.findings) ++ flat_map source_json coverage ++ kinds_json sums.kinds
+    ++ flat_map (finding_json from) (told_in sums.findings) ++ flat_map (warning_json from) (told_in sums.warnings) ++ flat_map source_json coverage ++ kinds_json sums.kinds

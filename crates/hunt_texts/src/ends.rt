@@ -17,7 +17,7 @@ pub const PRINTED: usize = 8;
 
 /// Writes how many runs ended so, after those that were written, and returns whether some are written now.
 #[tactic(auto, unfolding(crate::specs::Lists::item_text))]
-fn put_end(out: &mut Vec<u8>, begun: bool, word: &[u8], runs: u32) -> Result<bool, AllocError>
+fn put_end(out: &mut Vec<u8>, begun: bool, word: &[u8], runs: u64) -> Result<bool, AllocError>
     ensures text { OnOk result (out.new.items ≡ out.old.items ++ item_text begun (end_item word.now runs)) }
     ensures begun { IfOk result (λ b. b ≡ (begun || nat_lt 0 runs)) }
 {
@@ -25,11 +25,11 @@ fn put_end(out: &mut Vec<u8>, begun: bool, word: &[u8], runs: u32) -> Result<boo
         return Ok(begun);
     }
     put_gap(out, begun)?;
-    put_word(out, u64::from(runs), word)?;
+    put_word(out, runs, word)?;
     Ok(true)
 }
 
-fn put_items(out: &mut Vec<u8>, stopped: u32, stuck: u32, spent: u32) -> Result<(), AllocError>
+fn put_items(out: &mut Vec<u8>, stopped: u64, stuck: u64, spent: u64) -> Result<(), AllocError>
     ensures { OnOk result (out.new.items ≡ out.old.items ++ items_text false (end_items stopped stuck spent)) }
 {
     let begun = put_end(out, false, b" AllStopped", stopped)?;
@@ -41,10 +41,10 @@ fn put_items(out: &mut Vec<u8>, stopped: u32, stuck: u32, spent: u32) -> Result<
 /// Writes whether all runs ended alike.
 fn put_all(
     out: &mut Vec<u8>,
-    runs: u32,
-    stopped: u32,
-    stuck: u32,
-    spent: u32,
+    runs: u64,
+    stopped: u64,
+    stuck: u64,
+    spent: u64,
 ) -> Result<(), AllocError>
     ensures { OnOk result (out.new.items ≡ out.old.items ++ all_text runs stopped stuck spent) }
 {
@@ -57,10 +57,10 @@ fn put_all(
 #[tactic(auto, unfolding(crate::specs::Ends::ends_line))]
 fn put_ends_line(
     out: &mut Vec<u8>,
-    runs: u32,
-    stopped: u32,
-    stuck: u32,
-    spent: u32,
+    runs: u64,
+    stopped: u64,
+    stuck: u64,
+    spent: u64,
 ) -> Result<(), AllocError>
     ensures { OnOk result (out.new.items ≡ out.old.items ++ ends_line runs stopped stuck spent) }
 {
@@ -158,10 +158,10 @@ pub fn put_ends(
     let stopped = stopped_of(alloc, hunted.endings())?;
     put_ends_line(
         out,
-        hunted.runs(),
-        hunted.all_stopped(),
-        flaws.stuck.runs,
-        flaws.budget.runs,
+        u64::from(hunted.runs()),
+        u64::from(hunted.all_stopped()),
+        u64::from(flaws.stuck.runs),
+        u64::from(flaws.livelock.runs) + u64::from(flaws.budget.runs),
     )?;
     put_stopped(out, from, stopped.as_slice())
 }

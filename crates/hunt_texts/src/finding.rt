@@ -1,4 +1,4 @@
-//! The kinds of findings.
+//! The kinds of failures and warnings.
 
 ghost use Rattle.std.specs.Prelude.{◌≡◌, ◌==◌};
 ghost use Rattle.std.specs.List.{position};
@@ -7,15 +7,19 @@ ghost use Rattle.hunt_texts.specs.Findings.{key_word, kind_word, is_of_kind, kin
 
 use hunt_tally::Line;
 
-/// A kind of findings.
+/// A kind of failures, or of warnings.
 #[derive(Clone, Copy)]
 pub enum Finding {
     Race,
     Halt,
     Fault,
     Deadlock,
-    Budget,
+    Livelock,
     Missed,
+    Budget,
+    LostSignal,
+    UnreadPutllc,
+    UnreadTags,
 }
 
 fn space_at(key: &[u8]) -> Option<usize>
@@ -44,8 +48,12 @@ impl Finding {
             Finding::Halt => b"halt",
             Finding::Fault => b"fault",
             Finding::Deadlock => b"deadlock",
-            Finding::Budget => b"budget",
+            Finding::Livelock => b"livelock",
             Finding::Missed => b"missed",
+            Finding::Budget => b"budget",
+            Finding::LostSignal => b"lost-signal",
+            Finding::UnreadPutllc => b"unread-putllc",
+            Finding::UnreadTags => b"unread-tags",
         }
     }
 
@@ -65,8 +73,12 @@ impl Finding {
             Finding::Halt => b"halt",
             Finding::Fault => b"fault",
             Finding::Deadlock => b"deadlock",
-            Finding::Budget => b"spent budget",
+            Finding::Livelock => b"livelock",
             Finding::Missed => b"missing line",
+            Finding::Budget => b"spent budget",
+            Finding::LostSignal => b"warning: lost signal",
+            Finding::UnreadPutllc => b"warning: unread status of a PUTLLC",
+            Finding::UnreadTags => b"warning: unread tag status",
         }
     }
 }

@@ -1,4 +1,4 @@
-//! The findings, each with the commands that show its first run.
+//! The failures and the warnings, each with the commands that show its first run.
 
 ghost use Rattle.std.specs.Prelude.{◌≡◌, ◌++◌, map, take, OnOk};
 ghost use Rattle.std.specs.List.{flat_map};
@@ -46,10 +46,14 @@ fn put_advice(out: &mut Vec<u8>, about: &About, kind: Finding, run: u64) -> Resu
         Finding::Halt => put_ended(out, about, run),
         Finding::Fault => put_ended(out, about, run),
         Finding::Deadlock => put_ended(out, about, run),
-        Finding::Budget => put_debug(out, about, run),
+        Finding::Livelock => put_ended(out, about, run),
         Finding::Missed => {
             put_command_line(out, b"  the states of this run: ", about, b"states", run)
         }
+        Finding::Budget => put_debug(out, about, run),
+        Finding::LostSignal => put_debug(out, about, run),
+        Finding::UnreadPutllc => put_debug(out, about, run),
+        Finding::UnreadTags => put_debug(out, about, run),
     }
 }
 
@@ -139,7 +143,7 @@ fn put_found(
     put_more(out, about.all, found.len())
 }
 
-/// Writes the findings.
+/// Writes the failures and the warnings.
 pub fn put_findings(
     out: &mut Vec<u8>,
     alloc: Global,
@@ -148,6 +152,6 @@ pub fn put_findings(
 ) -> Result<(), AllocError>
     ensures { OnOk result (out.new.items ≡ out.old.items ++ findings_lines (facts about.now) hunted.now) }
 {
-    let found = by_kind(alloc, hunted.findings())?;
+    let found = by_kind(alloc, hunted.findings(), hunted.warnings())?;
     put_found(out, about, hunted.runs(), found.as_slice())
 }

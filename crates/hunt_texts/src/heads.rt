@@ -1,13 +1,13 @@
-//! The first lines of the text: which runs were made, and how many of them have a failure.
+//! The first lines of the text: which runs were made, how many of them have a failure, and how many warnings there are.
 
 ghost use Rattle.std.specs.Prelude.{◌≡◌, ◌++◌, ◌||◌, nat_lt, false, IfOk, OnOk};
 ghost use Rattle.hunt_texts.specs.Lists.{item_text, items_text};
 ghost use Rattle.hunt_texts.specs.About.{facts};
-ghost use Rattle.hunt_texts.specs.Heads.{from_text, seed_text, runs_made, outcome_text, outcome, outcomes, none_text, found_text, head_line, missed_note, missed_text, steps_line, limit_line};
+ghost use Rattle.hunt_texts.specs.Heads.{from_text, seed_text, runs_made, outcome_text, outcome, outcomes, none_text, found_text, warnings_text, warnings_note, head_line, missed_note, missed_text, steps_line, limit_line};
 
 use crate::about::About;
 use crate::lists::put_gap;
-use crate::numbers::{put_number, put_runs, put_word};
+use crate::numbers::{put_number, put_runs, put_units, put_word};
 use crate::unexecuted::{lines_in, missed_among};
 use hunt_tally::{Count, FlawCounts, Hunted};
 use std::alloc::{AllocError, Global};
@@ -78,8 +78,9 @@ fn put_outcomes(out: &mut Vec<u8>, c: FlawCounts) -> Result<(), AllocError>
     let halt = put_outcome(out, race, b"HALT", c.halt)?;
     let fault = put_outcome(out, halt, b"FAULT", c.fault)?;
     let stuck = put_outcome(out, fault, b"DEADLOCK", c.stuck)?;
-    let budget = put_outcome(out, stuck, b"BUDGET SPENT", c.budget)?;
-    put_outcome(out, budget, b"EXPECTED LINE MISSING", c.missed)?;
+    let livelock = put_outcome(out, stuck, b"LIVELOCK", c.livelock)?;
+    let missed = put_outcome(out, livelock, b"EXPECTED LINE MISSING", c.missed)?;
+    put_outcome(out, missed, b"BUDGET SPENT", c.budget)?;
     Ok(())
 }
 
@@ -88,10 +89,10 @@ fn put_none(out: &mut Vec<u8>, expects: bool) -> Result<(), AllocError>
 {
     if expects {
         return out.extend_from_slice(
-            b"no data race, halt, fault, deadlock, spent budget or missing line",
+            b"no data race, halt, fault, deadlock, livelock, spent budget or missing line",
         );
     }
-    out.extend_from_slice(b"no data race, halt, fault, deadlock or spent budget")
+    out.extend_from_slice(b"no data race, halt, fault, deadlock, livelock or spent budget")
 }
 
 /// Writes what was found, or what was looked for.
@@ -102,6 +103,24 @@ fn put_found(out: &mut Vec<u8>, c: FlawCounts, expects: bool) -> Result<(), Allo
         return put_outcomes(out, c);
     }
     put_none(out, expects)
+}
+
+#[tactic(auto, unfolding(crate::specs::Heads::warnings_text))]
+fn put_warnings_text(out: &mut Vec<u8>, warnings: u64) -> Result<(), AllocError>
+    ensures { OnOk result (out.new.items ≡ out.old.items ++ warnings_text warnings) }
+{
+    out.extend_from_slice(b"; ")?;
+    put_units(out, warnings, b"1 warning", b" warnings")
+}
+
+/// Writes how many different warnings the runs have, if there are any.
+fn put_warnings(out: &mut Vec<u8>, warnings: u64) -> Result<(), AllocError>
+    ensures { OnOk result (out.new.items ≡ out.old.items ++ warnings_note warnings) }
+{
+    if warnings == 0 {
+        return Ok(());
+    }
+    put_warnings_text(out, warnings)
 }
 
 #[tactic(auto, unfolding(crate::specs::Heads::missed_text))]
@@ -138,6 +157,7 @@ pub fn put_head(
     let missed = missed_among(alloc, lines.as_slice())?;
     put_made(out, about, hunted.runs())?;
     put_found(out, hunted.flaws(), about.expects)?;
+    put_warnings(out, hunted.warnings().len() as u64)?;
     put_missed(out, lines.len() as u64, missed.len() as u64)?;
     out.push(b'\n')?;
     Ok(())

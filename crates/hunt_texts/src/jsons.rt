@@ -54,6 +54,7 @@ fn put_ended(out: &mut Vec<u8>, from: u32, c: FlawCounts) -> Result<(), AllocErr
 {
     put_flaw(out, from, b",\"race\":", c.race)?;
     put_flaw(out, from, b",\"stuck\":", c.stuck)?;
+    put_flaw(out, from, b",\"livelock\":", c.livelock)?;
     put_flaw(out, from, b",\"budget\":", c.budget)
 }
 
@@ -109,10 +110,11 @@ fn put_head(
     put_sums(out, hunted.all_stopped(), hunted.left_out(), hunted.steps())?;
     put_ended(out, from, flaws)?;
     put_faulted(out, from, flaws)?;
-    out.extend_from_slice(b"}\n")
+    out.extend_from_slice(b"}\n")?;
+    Ok(())
 }
 
-/// What runs of a seed tell together, as JSON, one object a line: of the hunt, of each race, ending, result, missed line and finding, and of all kinds.
+/// What runs of a seed tell together, as JSON, one object a line: of the hunt, of each race, ending, result, missed line, finding and warning, of each source, and of all kinds.
 /// `from` is the number of the first run, `expects` whether lines were expected, and `coverage` which lines of the sources the runs executed.
 pub fn hunt_json(
     alloc: Global,
@@ -131,6 +133,7 @@ pub fn hunt_json(
     put_rows(&mut out, Row::Result, from, hunted.results())?;
     put_rows(&mut out, Row::Missed, from, hunted.missed())?;
     put_rows(&mut out, Row::Finding, from, hunted.findings())?;
+    put_rows(&mut out, Row::Warning, from, hunted.warnings())?;
     put_sources_json(&mut out, coverage)?;
     put_kinds_json(&mut out, hunted.kinds())?;
     Ok(out)

@@ -5,7 +5,7 @@ ghost use Rattle.std.specs.List.{flat_map};
 ghost use Rattle.hunt_tally.specs.Tallies.{told_in};
 ghost use Rattle.hunt_tally.specs.Lines.{told_by};
 ghost use Rattle.hunt_tally.specs.Reports.{result_in};
-ghost use Rattle.hunt_texts.specs.Jsons.{byte_json, string_json, runs_json, race_json, ending_json, result_json, missed_json, finding_json};
+ghost use Rattle.hunt_texts.specs.Jsons.{byte_json, string_json, runs_json, race_json, ending_json, result_json, missed_json, found_json};
 ghost use Rattle.hunt_texts.specs.Rows.{row_json};
 
 use crate::finding::key_word;
@@ -22,6 +22,7 @@ pub enum Row {
     Result,
     Missed,
     Finding,
+    Warning,
 }
 
 /// The result of a line of results, which follows its ending and a line feed.
@@ -106,10 +107,16 @@ fn put_missed_json(out: &mut Vec<u8>, from: u32, line: Line<'_>) -> Result<(), A
     put_runs_json(out, from, line.runs, line.first)
 }
 
-fn put_finding_json(out: &mut Vec<u8>, from: u32, line: Line<'_>) -> Result<(), AllocError>
-    ensures { OnOk result (out.new.items ≡ out.old.items ++ finding_json from (told_by line.entry)) }
+/// Writes a failure or a warning, with its kind after `name`.
+fn put_found_json(
+    out: &mut Vec<u8>,
+    name: &[u8],
+    from: u32,
+    line: Line<'_>,
+) -> Result<(), AllocError>
+    ensures { OnOk result (out.new.items ≡ out.old.items ++ found_json name.now from (told_by line.entry)) }
 {
-    out.extend_from_slice(b"{\"finding\":")?;
+    out.extend_from_slice(name)?;
     put_string_json(out, key_word(line.key))?;
     out.extend_from_slice(b",\"key\":")?;
     put_string_json(out, line.key)?;
@@ -127,7 +134,8 @@ fn put_row(out: &mut Vec<u8>, row: Row, from: u32, line: Line<'_>) -> Result<(),
         Row::Ending => put_ending_json(out, from, line),
         Row::Result => put_result_json(out, from, line),
         Row::Missed => put_missed_json(out, from, line),
-        Row::Finding => put_finding_json(out, from, line),
+        Row::Finding => put_found_json(out, b"{\"finding\":", from, line),
+        Row::Warning => put_found_json(out, b"{\"warning\":", from, line),
     }
 }
 

@@ -1,4 +1,5 @@
 pub mod Code
+pub mod FaultTexts
 pub mod Words
 pub mod Choices
 pub mod Ranges

@@ -1,6 +1,7 @@
 //! The answers of the program.
 
-ghost use Rattle.std.specs.Prelude.{◌≡◌};
+ghost use Rattle.std.specs.Prelude.{◌≡◌, ◌++◌, codes};
+ghost use Rattle.std.specs.Fmt.{decimal, WritesOnOk};
 ghost use Rattle.trace_forms.specs.Code.{code_of};
 
 use cell_forms::{Fault as InputFault, Status as CellStatus};
@@ -64,11 +65,19 @@ impl Status {
 }
 
 /// That a record has fewer steps.
-fn put_too_short<W: fmt::Write>(f: &mut fmt::Formatter<W>, steps: u64) -> fmt::Result {
+fn put_too_short<W: fmt::Write>(f: &mut fmt::Formatter<W>, steps: u64) -> fmt::Result
+    ensures { WritesOnOk W.write_str_gives f.old result (codes "the record has fewer than " ++ decimal steps ++ codes " steps") f.new }
+{
     write!(f, "the record has fewer than {steps} steps")
 }
 
 impl fmt::Display for Fault {
+    ghost use Rattle.std.specs.Prelude.{Some};
+    ghost use Rattle.trace_forms.specs.FaultTexts.{fault_text};
+
+    ghost output = { λ fault. Some (fault_text fault) };
+
+    #[tactic(auto, unfolding(crate::specs::FaultTexts::fault_text))]
     fn fmt<W: fmt::Write>(&self, f: &mut fmt::Formatter<W>) -> fmt::Result {
         match *self {
             Fault::Usage => f.write_str(

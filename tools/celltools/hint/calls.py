@@ -16,7 +16,7 @@ FORMS = {
 MACHINE, RECORD, SCRIPT, SOURCE, EXPECT, PASS = "machine file", "record file", "script file", "source 0", "expectation file", "pass file"
 FILES = {"MACHINE": MACHINE, "RECORD": RECORD, "SCRIPT": SCRIPT, "SOURCE": SOURCE}
 HUNT_FILES = {"--expect": EXPECT, "--pass": PASS}
-VALUED = ("--runs", "--time", "--seed", "--from", "--jobs", "--expect", "--pass", "--until", "--tools")  # options of ./hunt that have a value
+VALUED = ("--runs", "--time", "--seed", "--from", "--jobs", "--expect", "--pass", "--warn", "--until", "--tools")  # options of ./hunt that have a value
 NEAR, NEAR_FILE = 0.7, 0.8  # how alike a word, or a file's name, has to be that is proposed
 NO_FILE = "it is a pipe or a device, which can't be read twice"
 

@@ -10,6 +10,7 @@ SEED = 0, 2**64 - 1
 RUNS = 1, 1_000_000
 RUN = 0, MOST_NUMBER
 OPTIONS: Dict[str, Tuple[int, int]] = {"--runs": RUNS, "--time": RUNS, "--seed": SEED, "--from": RUN, "--jobs": (1, 256)}
+WARN = ("print", "none", "error")
 PLACES = {"each": ("RUNS", "SEED"), "record": ("K", "SEED")}
 RANGES = {"RUNS": RUNS, "SEED": SEED, "K": RUN}
 CELL_HELP, HUNT_HELP = "./cell --help lists the forms", "./hunt --help lists the forms and their options"
@@ -41,6 +42,8 @@ def misused_hunt(words: Sequence[str]) -> str:
             value = value.removesuffix("s")
         if option in OPTIONS and (why := why_number(f"the value of {option}", value, *OPTIONS[option])):
             return why
+        if option == "--warn" and value not in WARN:
+            return joined(f"the value of --warn is {', '.join(WARN[:-1])} or {WARN[-1]}, and not '{value}'", near(value, list(WARN)))
     form = places[1] if len(places) > 1 else ""
     names, given = (PLACES[form], places[2:]) if form in PLACES else (PLACES["each"], places[1:])
     if names is PLACES["each"] and given[:1] == [form] and not NUMBER.match(form):

@@ -1,8 +1,8 @@
 """The lines of a part, as `./hunt MACHINE --json` prints it: docs/guide/cluster.md has the form. Each line has one way to be written.
 
 Line 1 names the form, the version and the sources of the program, the machine file, and a checksum of it and its sources. Line 2 is the hunt's head. Then come
-races, endings with their numbers, results, expected lines that runs miss, findings, the lines of the sources with an instruction, and the classes of runs. The
-last line has the number of lines before it and their SHA-256.
+races, endings with their numbers, results, expected lines that runs miss, findings, warnings, the lines of the sources with an instruction, and the classes of
+runs. The last line has the number of lines before it and their SHA-256.
 
 A line of results has columns. The texts of a hunt's results have the same `show` lines, so they differ in hexadecimal digits alone: the line has the first text, the
 ranges of places at which the texts differ, and the digits at these places.

@@ -15,11 +15,11 @@ from typing import Any, BinaryIO, Callable, Dict, Iterator, List, Optional, Sequ
 from celltools.hunt import lines as written
 from celltools.hunt.copies import first_of_pipe
 from celltools.hunt.endings import SPENT, STOPPED, STUCK, Json, end_word, has_fault, has_halt
-from celltools.hunt.findings import FINDING_KINDS
+from celltools.hunt.findings import FINDING_KINDS, WARNING_KINDS
 from celltools.run.runs import Refused
 
 # What can be wrong in a run, in the order in which it is printed.
-FLAWS = ("race", "stuck", "budget", "fault", "halt", "missed")
+FLAWS = ("race", "stuck", "livelock", "budget", "fault", "halt", "missed")
 FORM_OF_HUNT = 1
 HEAD = ("hunt", "seed", "from", "runs", "expects", "all_stopped", "left_out", "steps", *FLAWS)  # members of a part's second line
 MOST_RUN, MOST_SEED = 0xFFFF_FFFE, 0xFFFF_FFFF_FFFF_FFFF
@@ -30,7 +30,7 @@ CHECKSUM = re.compile(r"[0-9a-f]{64}")
 VERSION = re.compile(r"[0-9]+\.[0-9]+\.[0-9]+")
 BYTES = re.compile(r"[\0-\xff]*")
 SHOWN = re.compile(r"(?:  [\0-\x09\x0b-\xff]*\n)+")  # the lines of a finding
-ONE_OF_RUN = ("deadlock", "budget")  # findings of which a run has one at most
+ONE_OF_RUN = ("deadlock", "livelock", "budget")  # findings of which a run has one at most
 AGAIN = "make the part again with `./hunt MACHINE --json`"
 OLDER = b'{"machine":'  # begins what earlier versions printed
 
@@ -67,6 +67,11 @@ class Head:
         """The number after the last run."""
         return self.start + self.runs
 
+    @property
+    def spent(self) -> Count:
+        """The runs that spent their budget. Some of them were still progressing, and the others are livelocks."""
+        return self.flaws["livelock"].added(self.flaws["budget"])
+
 
 @dataclasses.dataclass
 class Part:
@@ -91,7 +96,7 @@ class Hearer:
     """Takes what parts have, in the order of their lines."""
 
     def take_told(self, what: str, key: str, members: Json, count: Count) -> None:
-        """A race, an ending, a missed line or a finding."""
+        """A race, an ending, a missed line, a finding or a warning."""
 
     def take_result(self, result: Result) -> None:
         """A result of an ending."""
@@ -265,6 +270,15 @@ def head_of(line: bytes) -> Head:
     return head
 
 
+def kind_and_key(members: Json, name: str, kinds: Sequence[str]) -> Tuple[str, str]:
+    """The kind and the key of a finding or a warning, whose line has the kind under this name."""
+    refuse_names(members, (name, "key", "shown", "runs", "first"))
+    kind, key = text_in(members, name), text_in(members, "key", BYTES, "a string of bytes")
+    refuse_other(name, kind, kind in kinds and kind == key.partition(" ")[0], f"the first word of its key, which is one of {', '.join(kinds)}")
+    refuse_other("shown", members["shown"], bool(SHOWN.fullmatch(text_in(members, "shown"))), "lines of bytes that begin with two blanks")
+    return kind, key
+
+
 class Body:
     """The lines of a part after its head, which it judges one by one and then together."""
 
@@ -273,14 +287,14 @@ class Body:
         # How the lines begin, in their order, and what takes them.
         self.taking: List[Tuple[bytes, Callable[[bytes, int], None]]] = [
             (b'{"race":', self.take_race), (b'{"number":', self.take_ending), (b'{"text":', self.take_results), (b'{"missed":', self.take_missed),
-            (b'{"finding":', self.take_finding), (b'{"source":', self.take_source), (b'{"kinds":', self.take_kinds),
+            (b'{"finding":', self.take_finding), (b'{"warning":', self.take_warning), (b'{"source":', self.take_source), (b'{"kinds":', self.take_kinds),
         ]  # fmt: skip
         self.stage = 0
         self.endings: List[Tuple[str, Count]] = []
         self.left: List[int] = []  # of each ending, how many runs have no result yet
         self.findings: Dict[str, Dict[str, Count]] = {kind: {} for kind in FINDING_KINDS}  # by their kinds and keys
         self.listed: Dict[str, Dict[str, Count]] = {"race": {}, "missed": {}}  # of races and missed lines, which are findings too, the same
-        self.seen: Dict[str, Dict[str, None]] = {"race": {}, "end": {}, "missed": {}, "finding": {}, "source": {}}
+        self.seen: Dict[str, Dict[str, None]] = {"race": {}, "end": {}, "missed": {}, "finding": {}, "warning": {}, "source": {}}
         self.kinds = 0
         self.last_first = -1
 
@@ -300,7 +314,7 @@ class Body:
         if stage is None:
             raise Wrong("this is not a line of a part")
         if stage < self.stage:
-            raise Wrong("this line is out of order: races come first, then endings, results, missed lines, findings, sources and classes of runs")
+            raise Wrong("this line is out of order: races come first, then endings, results, missed lines, findings, warnings, sources and classes of runs")
         self.stage = stage
         self.taking[stage][1](line, offset)
 
@@ -358,13 +372,15 @@ class Body:
 
     def take_finding(self, line: bytes, _: int) -> None:
         members = object_of(line)
-        refuse_names(members, ("finding", "key", "shown", "runs", "first"))
-        kind, key = text_in(members, "finding"), text_in(members, "key", BYTES, "a string of bytes")
-        refuse_other("finding", kind, kind in FINDING_KINDS and kind == key.partition(" ")[0], f"the first word of its key, which is one of {', '.join(FINDING_KINDS)}")
-        refuse_other("shown", members["shown"], bool(SHOWN.fullmatch(text_in(members, "shown"))), "lines of bytes that begin with two blanks")
+        kind, key = kind_and_key(members, "finding", list(FINDING_KINDS))
         count = self.counted(members, self.head.flaws[FINDING_KINDS[kind].flaw].runs)
         self.take_once("finding", key, members, line, count)
         self.findings[kind][key] = count
+
+    def take_warning(self, line: bytes, _: int) -> None:
+        members = object_of(line)
+        key = kind_and_key(members, "warning", list(WARNING_KINDS))[1]
+        self.take_once("warning", key, members, line, self.counted(members, self.head.runs))
 
     def take_source(self, line: bytes, _: int) -> None:
         members = object_of(line)
@@ -397,7 +413,7 @@ class Body:
             ("all", Count(head.runs, head.start), bool),
             (STOPPED, Count(head.all_stopped, None), lambda ending: end_word(ending) == STOPPED),
             (STUCK, head.flaws["stuck"], lambda ending: end_word(ending) == STUCK),
-            (SPENT, head.flaws["budget"], lambda ending: end_word(ending) == SPENT),
+            (SPENT, head.spent, lambda ending: end_word(ending) == SPENT),
             ("faulty", head.flaws["fault"], has_fault), ("halted", head.flaws["halt"], has_halt),
         ]  # fmt: skip
         for what, wanted, is_one in of_endings:

@@ -8,6 +8,7 @@ from typing import List, NamedTuple, Optional, Sequence
 from celltools.common.repository import version
 from celltools.common.texts import lines_in
 from celltools.hunt.endings import Json
+from celltools.hunt.findings import WARNING_KINDS, word_of
 from celltools.hunt.sums import Hunt, Told
 from celltools.hunt.text import finding_head
 
@@ -33,10 +34,18 @@ RULES = {
                   "`tools/race --run K MACHINE` names the rule that was broken. docs/reference/machine.md has all rules of commands and channels."),
     "deadlock": Rule("Deadlock", "A run ends in a deadlock: an SPU waits, and no step is possible.",
                      "`tools/race --run K MACHINE` prints what each SPU waits for, and `tools/debug --run K MACHINE` begins at the end of the run."),
-    "budget": Rule("BudgetSpent", "A run spends its budget of steps while an SPU still runs.",
-                   "Raise `budget` in the machine file if the program only takes long. Otherwise `tools/debug --run K MACHINE` shows the endless loop."),
+    "livelock": Rule("Livelock", "A run spends its budget of steps while its SPUs loop, and none changes anything that another one sees.",
+                     "`tools/race --run K MACHINE` prints the loops of the SPUs, and `tools/debug --run K MACHINE` begins at the end of the run."),
     "missed": Rule("LineMissed", "The states of a run lack a line that --expect requires of every run.",
                    "`tools/states --run K MACHINE` prints the states of the run, to compare them with the file of --expect."),
+    "budget": Rule("BudgetSpent", "A run spends its budget of steps while an SPU still runs and progresses.",
+                   "Raise `budget` in the machine file if the program only takes long. Otherwise `tools/debug --run K MACHINE` shows the endless loop."),
+    "lost-signal": Rule("LostSignal", "A value in a signal register is overwritten before it is read, or never read.",
+                        "Let the sender wait until the value was read, or set OR mode (`ormode`). `tools/debug --run K MACHINE` begins at the end of the run."),
+    "unread-putllc": Rule("UnreadPutllc", "A PUTLLC stores nothing, and its status is never read, so the update is lost.",
+                          "Read the atomic status after each PUTLLC, and repeat the update if it failed."),
+    "unread-tags": Rule("UnreadTagStatus", "A tag status is overwritten before it is read, or never read.",
+                        "Read the tag status after each request. `tools/debug --run K MACHINE` begins at the end of the run."),
 }  # fmt: skip
 PLACE = re.compile(r"(.+?):(\d+)(?::\d+)?")
 PLACED = re.compile(r"  (.+?:\d+): .*  \(.*\)")  # a line of a finding that a source line placed
@@ -114,26 +123,30 @@ class Log:
     def spots(self, found: Told) -> List[Spot]:
         """The lines of a finding. Those of a race have the places of the race, which may be lines of a program from which the source was made."""
         lines = [line for line in lines_in(found.members["shown"].encode("latin-1")) if not line.startswith(SUPPRESSION)]
-        race = self.hunt.tallies["race"].told.get(found.members["key"][len("race"):]) if found.members["finding"] == "race" else None
+        race = self.hunt.tallies["race"].told.get(found.members["key"][len("race"):]) if word_of(found.members) == "race" else None
         places = race.members["places"] if race else map(place_in, lines)
         return [Spot(line.strip(), place) for line, place in zip(lines, places)]
 
     def result(self, found: Told) -> Json:
         """The result of a finding: at the place of its first line, with the others as related ones. Its fingerprint is the same in each hunt that has it."""
-        rule, spots = found.members["finding"], self.spots(found)
+        rule, spots = word_of(found.members), self.spots(found)
         related = [spot for spot in spots[1:] if spot.place]
         text = f"{finding_head(found, self.hunt.head.runs)}\n{linked(spots, related)}"
         whole_key = "\0".join((self.hunt.machine, rule, found.members["key"]))
-        of_result: Json = {"ruleId": rule, "ruleIndex": list(RULES).index(rule), "level": "error", "message": {"text": text},
+        of_result: Json = {"ruleId": rule, "ruleIndex": list(RULES).index(rule), "level": level_of(rule), "message": {"text": text},
                            "locations": [self.places.location(spots[0].place)]}
         if related:
             of_result["relatedLocations"] = [{"id": number, **self.places.location(spot.place), "message": {"text": spot.text}} for number, spot in enumerate(related, 1)]
         return {**of_result, "partialFingerprints": {FINGERPRINT: hashlib.sha256(whole_key.encode("utf-8", "surrogateescape")).hexdigest()}}
 
 
+def level_of(rule: str) -> str:
+    return "warning" if rule in WARNING_KINDS else "error"
+
+
 def rule_of(name: str, rule: Rule) -> Json:
     return {"id": name, "name": rule.name, "shortDescription": {"text": rule.broken}, "fullDescription": {"text": rule.broken},
-            "help": {"text": rule.help.replace("`", ""), "markdown": rule.help}, "defaultConfiguration": {"level": "error"}}
+            "help": {"text": rule.help.replace("`", ""), "markdown": rule.help}, "defaultConfiguration": {"level": level_of(name)}}
 
 
 def sarif_of(hunt: Hunt) -> Json:
@@ -143,5 +156,5 @@ def sarif_of(hunt: Hunt) -> Json:
     return {
         "$schema": SCHEMA, "version": "2.1.0",
         "runs": [{"tool": {"driver": driver}, "automationDetails": {"id": f"hunt/{encoded(hunt.machine)}/"}, "columnKind": "utf16CodeUnits",
-                  "originalUriBaseIds": {ROOT: {"description": {"text": "the root of the repository"}}}, "results": list(map(log.result, hunt.findings()))}],
+                  "originalUriBaseIds": {ROOT: {"description": {"text": "the root of the repository"}}}, "results": list(map(log.result, hunt.findings() + hunt.warnings()))}],
     }

@@ -9,7 +9,7 @@ from typing import IO, Dict, Iterator, List, Optional, Sequence, Tuple
 
 from celltools.hunt import lines as written
 from celltools.hunt.endings import Explained, Json
-from celltools.hunt.findings import FINDING_KINDS
+from celltools.hunt.findings import FINDING_KINDS, WARNING_KINDS
 from celltools.hunt.reading import FLAWS, FORM_OF_HUNT, Count, Head, Hearer, Kept, Part, Reader, Result, Wrong, columns_of, object_of, opened
 from celltools.run.runs import Refused
 
@@ -21,7 +21,7 @@ OF_ENDINGS = ("places", "words")
 
 @dataclasses.dataclass
 class Told:
-    """A race, an ending, a missed line or a finding: its members, and its count. Of several parts that have it the members are those of the first run."""
+    """A race, an ending, a missed line, a finding or a warning: its members, and its count. Of several parts that have it the members are those of the first run."""
     members: Json
     count: Count
     place: int  # among all that was read, for those of one first run
@@ -32,7 +32,7 @@ class Told:
 
 
 class Tally:
-    """Races, endings, missed lines or findings, by their keys."""
+    """Races, endings, missed lines, findings or warnings, by their keys."""
 
     def __init__(self) -> None:
         self.told: Dict[str, Told] = {}
@@ -138,7 +138,7 @@ class Hunt:
     def __init__(self, files: Sequence[str], may_have_gaps: bool = False) -> None:
         self.names = ["standard input" if name == "-" else name for name in files]
         self.files: List[Optional[IO[bytes]]] = []
-        self.tallies = {what: Tally() for what in ("race", "end", "missed", "finding")}
+        self.tallies = {what: Tally() for what in ("race", "end", "missed", "finding", "warning")}
         self.results = Results()
         self.sources: List[SourceLines] = []  # in the order of the machine file, each once
         self.kinds_of_parts: List[Tuple[int, Kinds]] = []
@@ -209,8 +209,15 @@ class Hunt:
         return [told if explained.takes(told.members["end"]) else unexplained(told) for told in self.tallies["end"].in_order()]
 
     def findings(self) -> List[Told]:
-        """The findings by their kinds, those of a kind in the order of their first runs."""
+        """The failures by their kinds, those of a kind in the order of their first runs."""
         return sorted(self.tallies["finding"].in_order(), key=lambda found: list(FINDING_KINDS).index(found.members["finding"]))
+
+    def warnings(self) -> List[Told]:
+        """The same of the warnings."""
+        return sorted(self.tallies["warning"].in_order(), key=lambda found: list(WARNING_KINDS).index(found.members["warning"]))
+
+    def leave_warnings_out(self) -> None:
+        self.tallies["warning"] = Tally()
 
     def texts(self, places: Sequence[int]) -> Iterator[bytes]:
         """The texts of results. Refused if a file has changed since it was read. Each line is read once for places in the order of their first runs."""
@@ -312,7 +319,7 @@ def json_lines(hunt: Hunt) -> Iterator[bytes]:
         numbers[told.members["end"]] = told.members["number"] = len(numbers)
         yield told_line(told)
     yield from written.result_lines(result_rows(hunt, numbers))
-    for what in ("missed", "finding"):
+    for what in ("missed", "finding", "warning"):
         yield from map(told_line, hunt.tallies[what].in_order())
     yield from (written.source_line(source.name, source.numbers, source.executed) for source in hunt.sources)
     kinds = hunt.kinds()

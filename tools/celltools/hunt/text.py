@@ -6,7 +6,7 @@ from typing import Dict, Iterable, Iterator, List, Optional
 
 from celltools.common.texts import decoded, lines_in, quoted
 from celltools.hunt.endings import STOPPED, end_word
-from celltools.hunt.findings import FINDING_KINDS
+from celltools.hunt.findings import FINDING_KINDS, kind_of
 from celltools.hunt.reading import Count
 from celltools.hunt.sums import Hunt, SourceLines, Told
 
@@ -50,7 +50,13 @@ def outcome(hunt: Hunt) -> str:
     found = [f"{kind.outcome} in {counted(flaws[kind.flaw].runs, 'run')}" for kind in FINDING_KINDS.values() if flaws[kind.flaw].runs]
     if found:
         return ", ".join(found)
-    return "no data race, halt, fault, deadlock" + (", spent budget or missing line" if hunt.head.expects else " or spent budget")
+    return "no data race, halt, fault, deadlock, livelock" + (", spent budget or missing line" if hunt.head.expects else " or spent budget")
+
+
+def warnings_note(hunt: Hunt) -> str:
+    """How many different warnings there are, if any."""
+    warnings = len(hunt.warnings())
+    return f"; {counted(warnings, 'warning')}" if warnings else ""
 
 
 def unexecuted_note(hunt: Hunt) -> str:
@@ -62,13 +68,13 @@ def unexecuted_note(hunt: Hunt) -> str:
 def first_line(hunt: Hunt) -> str:
     head = hunt.head
     start = f" from run {head.start}" if head.start else ""
-    return f"{hunt.machine}: {counted(head.runs, 'run')}{start}, seed {head.seed}: {outcome(hunt)}{unexecuted_note(hunt)}"
+    return f"{hunt.machine}: {counted(head.runs, 'run')}{start}, seed {head.seed}: {outcome(hunt)}{warnings_note(hunt)}{unexecuted_note(hunt)}"
 
 
 # ---- findings
 
 def finding_head(found: Told, runs: int) -> str:
-    return f"{FINDING_KINDS[found.members['finding']].name} in {found.count.runs} of {counted(runs, 'run')} (first: run {found.count.first})"
+    return f"{kind_of(found.members).name} in {found.count.runs} of {counted(runs, 'run')} (first: run {found.count.first})"
 
 
 def finding_lines(found: Told, runs: int, commands: Commands) -> Iterator[str]:
@@ -76,13 +82,13 @@ def finding_lines(found: Told, runs: int, commands: Commands) -> Iterator[str]:
     yield ""
     yield finding_head(found, runs)
     yield from lines_in(found.members["shown"].encode("latin-1"))  # it has a character a byte
-    for label, tool in FINDING_KINDS[found.members["finding"]].commands:
+    for label, tool in kind_of(found.members).commands:
         yield f"  {label}: {commands.of(tool, found.count.first)}"
 
 
 def findings_lines(hunt: Hunt, commands: Commands, are_all: bool) -> Iterator[str]:
-    """The findings by their kinds, or a few of them and how many more there are."""
-    findings = hunt.findings()
+    """The failures and then the warnings, by their kinds, or a few of them and how many more there are."""
+    findings = hunt.findings() + hunt.warnings()
     shown = findings if are_all else findings[:FEW_FINDINGS]
     for found in shown:
         yield from finding_lines(found, hunt.head.runs, commands)
@@ -94,7 +100,7 @@ def findings_lines(hunt: Hunt, commands: Commands, are_all: bool) -> Iterator[st
 
 def ends_line(hunt: Hunt) -> str:
     head = hunt.head
-    ends = {STOPPED: head.all_stopped, "Stuck": head.flaws["stuck"].runs, "Budget": head.flaws["budget"].runs}
+    ends = {STOPPED: head.all_stopped, "Stuck": head.flaws["stuck"].runs, "Budget": head.spent.runs}
     found = [f"{runs} {word}" for word, runs in ends.items() if runs]
     return f"ends: {'all ' if len(found) == 1 else ''}{', '.join(found)}"
 

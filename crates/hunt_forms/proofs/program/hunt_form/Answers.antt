@@ -1,3 +1,6 @@
+use Rattle.std.proofs.Common.{subst}
+use Rattle.hunt_forms.specs.Heard.{texts_of}
+use Rattle.hunt_forms.specs.Files.{IsQuarry}
 use Rattle.hunt_forms.specs.Words.{hunt, asked}
 use Rattle.hunt_forms.specs.Hunts.{TellsHunt}
 use Rattle.hunt_forms.proofs.AnswersLaws.{refused, ended}
@@ -14,4 +17,4 @@ returns-in-Ok g c =
     let w = c.write_hunt.ensures in
     let q = c.in-Ok.quarry in
     ended (TellsHunt q.setup q.asked (asked c.args.wanted.now) _) (hunt (asked c.args.wanted.now)) _ _ _ _ _ c.write_hunt.result (λ is. cc) e.same e.store_count w.sink_count (λ files. tt)
-    (λ files is status text tells. (q, e.comes files is, tells)) w.ends
+    (λ files is status text tells. (q, subst (λ warns. IsQuarry files c.args.wanted.now.machine.now (texts_of c.args.wanted.now.expect) (texts_of c.args.wanted.now.pass) warns q) c.is_on.ensures (e.comes files is), tells)) w.ends

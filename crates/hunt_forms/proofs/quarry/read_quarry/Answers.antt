@@ -1,4 +1,4 @@
-use Rattle.std.proofs.Common.{◌∙◌}
+use Rattle.std.proofs.Common.{refl, ◌∙◌}
 use Rattle.std.proofs.lemmas.Result.{err_from_is_err_and}
 use Rattle.hunt_forms.specs.Heard.{texts_of}
 use Rattle.hunt_forms.proofs.FilesLaws.{expected_cause, passed_cause, expected_refuses, passed_refuses, expects, passes}
@@ -39,4 +39,5 @@ returns-clause-comes g c = λ told is.
       expected = expects told (texts_of c.args.expect) c.in_ok-expected.expected (c.in_ok-expected.ensures.comes told (c.read_machine.ensures.same ∙ is));
       passed = passes told (texts_of c.args.pass) c.in_ok-setup.setup c.in_ok-setup.places c.in_ok-passed.passed
           (c.in_ok-passed.ensures.comes told (c.expected_by.ensures.same ∙ c.read_machine.ensures.same ∙ is));
+      warning = refl;
     }

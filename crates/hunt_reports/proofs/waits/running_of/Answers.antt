@@ -1,5 +1,7 @@
-use Rattle.std.proofs.Common.{arith}
-use Rattle.hunt_reports.proofs.Running.{few_more, running_more, running_all}
+use Rattle.std.proofs.Common.{◌<◌, length, sym, subst, ◌∙◌, arith}
+use Rattle.std.specs.Prelude.{All}
+use Rattle.hunt_reports.specs.declared.locations.Location.{Location}
+use Rattle.hunt_reports.proofs.Running.{few_more, running_more, running_all, running_below}
 use Rattle.hunt_reports.proofs.waits.running_of.Goals as goal
 
 pub loop-ended-preserved : goal.loop-ended-preserved
@@ -11,3 +13,8 @@ loop-ended-preserved c = record {
 
 pub returns-clause-running : goal.returns-clause-running
 returns-clause-running c = running_all c.loop-ended.running.items _ c.loop-ended.p c.loop-ended.ended-index c.args.spes.now c.loop-ended-test.false c.loop-ended.invariant.whole
+
+pub returns-clause-within : goal.returns-clause-within
+returns-clause-within c =
+    subst (All (λ (here : Location). here.spe < length c.args.spes.now))
+    (sym (running_all c.loop-ended.running.items _ c.loop-ended.p c.loop-ended.ended-index c.args.spes.now c.loop-ended-test.false c.loop-ended.invariant.whole)) (running_below c.args.spes.now)

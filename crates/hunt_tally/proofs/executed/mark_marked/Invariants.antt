@@ -1,4 +1,4 @@
-use Rattle.std.proofs.Common.{◌≡◌, ◌≤◌, ◌<◌, ℕ, ◌||◌, ◌&&◌}
+use Rattle.std.proofs.Common.{◌≡◌, ℕ, ◌||◌, ◌&&◌}
 use Rattle.std.specs.Prelude.{nat_lt}
 use Rattle.hunt_tally.specs.Executed.{is_marked}
 use Rattle.hunt_tally.proofs.executed.mark_marked.Given as goal

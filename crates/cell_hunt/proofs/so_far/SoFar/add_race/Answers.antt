@@ -1,4 +1,5 @@
 use Rattle.std.proofs.Common.{length, refl, sym, subst}
+use Rattle.lost_values.specs.Keeping.{Knows as KnowsLosses}
 use Rattle.race_check.specs.Races.{IsLatest}
 use Rattle.race_check.specs.Searches.{Keeps}
 use Rattle.race_check.specs.Walks.{RaceIn}
@@ -27,4 +28,5 @@ returns-clause-searched c =
       all = subst (AreRacesTo _ m) (sym c.in_ok-push.ensures.items) (races-more m c.args.second old.races.items r refl record { latest = latest; sites = sites } races);
       touched = subst (λ (s : SoFar). HasTouched (made_by s) s.touched) same c.requires.searched.touched;
       endings = subst (λ (s : SoFar). AreEndingsTo (length (made_by s).steps) (made_by s) s.endings.items) same c.requires.searched.endings;
+      losses = subst (λ (s : SoFar). KnowsLosses (made_by s) s.losses) same c.requires.searched.losses;
     }

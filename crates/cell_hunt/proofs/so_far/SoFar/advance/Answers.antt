@@ -1,5 +1,6 @@
 use Rattle.std.proofs.Common.{◌≡◌, ◌+◌, length, None, sym, ap, ◌∙◌, subst, [], ◌∷◌, ◌++◌, length-append}
 use Rattle.cell_machine.specs.Run.{Ran}
+use Rattle.lost_values.specs.Keeping.{Knows as KnowsLosses}
 use Rattle.race_check.specs.Races.{TellsLatest}
 use Rattle.race_check.specs.Searches.{Keeps, run_of}
 use Rattle.race_check.specs.Walks.{RaceIn}
@@ -33,7 +34,7 @@ add_ending-requires-clause-endings c =
 
 -- after the step, whatever endings are kept: before its races are taken in
 abbrev after : In_ok-add_ending → SoFar
-after c = record c.args.self.now { search = c.go_on.new.self; origins = c.add.new.self; touched = c.add-2.new.self; endings = c.add_ending.new.self.endings }
+after c = record c.args.self.now { search = c.go_on.new.self; origins = c.add.new.self; touched = c.add-2.new.self; endings = c.add_ending.new.self.endings; losses = c.add-3.new.self }
 
 touched : (c : In_ok-add_ending) → HasTouched (run_of c.go_on.new.self) c.add-2.new.self
 touched c =
@@ -68,6 +69,7 @@ searched c =
       all = subst (λ k. AreRacesTo k n old.races.items) c.requires.place (races-on m n c.args.step made was is old.races.items (subst (λ k. AreRacesTo k m old.races.items) (sym c.requires.place) c.requires.searched.all));
       touched = touched c;
       endings = subst (λ k. AreEndingsTo k n c.add_ending.new.self.endings.items) (sym (count c)) c.in_ok-add_ending.ensures.endings;
+      losses = subst (λ r. KnowsLosses r c.add-3.new.self) (ap (λ (r : Ran). with_step r c.args.step) c.machine-2.ensures ∙ sym made) c.in_ok-add-3.ensures;
     } in
     subst (IsSearchedTo c.args.place) (sym c.in_ok-add_ending.ensures.rest) so_far
 
@@ -84,6 +86,7 @@ returns-in_default-clause-searched c =
       all = races-none (made_by final) c.args.place none-final final.races.items so_far.all;
       touched = so_far.touched;
       endings = so_far.endings;
+      losses = so_far.losses;
     }
 
 pub add_race-requires-clause-searched : goal.add_race-requires-clause-searched

@@ -18,4 +18,5 @@ returns-clause-searched c =
       executed = c.new-4.ensures.executed ∙ sym (ap executed_in made ∙ none_executed c.args.setup.now);
     } in
     let endings = subst (AreEndingsTo (length (run_of c.in_ok-search.search).steps) (run_of c.in_ok-search.search)) (sym c.new-5.ensures.items) (endings-begun (run_of c.in_ok-search.search) (ap (λ (r : Ran). r.steps) made)) in
-    record { keeps = search rules; knows = search rules; least = search rules; all = search rules; touched = touched; endings = endings }
+    let losses = c.new-6.ensures (run_of c.in_ok-search.search) (ap (λ (r : Ran). r.steps) made) in
+    record { keeps = search rules; knows = search rules; least = search rules; all = search rules; touched = touched; endings = endings; losses = losses }

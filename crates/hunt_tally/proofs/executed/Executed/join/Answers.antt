@@ -1,4 +1,4 @@
-use Rattle.std.proofs.Common.{◌≡◌, ◌++◌, ap, ◌∙◌}
+use Rattle.std.proofs.Common.{◌++◌, ap, ◌∙◌}
 use Rattle.hunt_tally.specs.Executed.{marked, set_of}
 use Rattle.hunt_tally.proofs.ExecutedLemmas.{marks_both}
 use Rattle.hunt_tally.proofs.Hunting.{on_ok}

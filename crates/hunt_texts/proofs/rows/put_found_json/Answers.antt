@@ -1,7 +1,7 @@
 use Rattle.std.proofs.Common.{◌++◌, ap, ◌∙◌}
 use Rattle.hunt_texts.specs.Jsons.{string_json}
 use Rattle.hunt_texts.proofs.RowLemmas.{seven}
-use Rattle.hunt_texts.proofs.rows.put_finding_json.Goals as goal
+use Rattle.hunt_texts.proofs.rows.put_found_json.Goals as goal
 
 pub returns : goal.returns
 returns c =

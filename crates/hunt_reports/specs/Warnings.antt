@@ -1,0 +1,81 @@
+-- The warnings of a run: the values that it loses.
+use Rattle.std.specs.Prelude.{◌≡◌, ℕ, Bool, true, false, List, [], ◌++◌, codes, map, Option, Some, None}
+use Rattle.std.specs.List.{AllZip}
+use Rattle.std.specs.Fmt.{decimal}
+use Rattle.cell_machine.specs.Run.{Ran}
+use Rattle.cell_hunt.specs.declared.site.Site.{Site}
+use Rattle.cell_hunt.specs.Sites.{IsSite}
+use Rattle.lost_values.specs.declared.loss.Loss.{Loss}
+use Rattle.lost_values.specs.declared.loss.LossKind.{LossKind}
+use Rattle.lost_values.specs.declared.loss.LossKind.TheVariants.{Signal, FailedStore, TagStatus}
+use Rattle.lost_values.specs.Losses.{AreAllLosses}
+use Rattle.hunt_tally.specs.Tallies.{Tells, distinct}
+use Rattle.hunt_reports.specs.declared.origins.Places.{Places}
+use Rattle.hunt_reports.specs.declared.warnings.Lost.{Lost}
+use Rattle.hunt_reports.specs.Lists.{BothOrNone}
+use Rattle.hunt_reports.specs.Locations.{spu_text}
+use Rattle.hunt_reports.specs.Places.{origin_text}
+use Rattle.hunt_reports.specs.RaceLines.{step_line}
+
+-- ---- a warning
+
+-- the first word of its key
+abbrev pub loss_word : LossKind → List ℕ
+loss_word (Signal p r) = codes "lost-signal"
+loss_word (FailedStore p) = codes "unread-putllc"
+loss_word (TagStatus p) = codes "unread-tags"
+
+abbrev pub register_text : ℕ → List ℕ
+register_text r = codes " sets signal register " ++ decimal r
+
+unfoldable pub signal_text : ℕ → ℕ → List ℕ
+signal_text p r = register_text r ++ codes " of " ++ spu_text p ++ codes " to a value that is never read"
+
+-- what the step did that set the value
+abbrev pub set_text : LossKind → List ℕ
+set_text (Signal p r) = signal_text p r
+set_text (FailedStore p) = codes " stores nothing, and its status is never read"
+set_text (TagStatus p) = codes " sets a tag status that is never read"
+
+-- the step that replaces the value; without one the run ends
+abbrev pub by_text : Places → Option Site → List ℕ
+by_text places (Some site) = origin_text places site
+by_text places None = codes " | end"
+
+abbrev pub by_line : Places → Option Site → List ℕ
+by_line places (Some site) = step_line places site (codes " replaces it")
+by_line places None = codes "  the run ends before it is read\n"
+
+abbrev pub lost_key : Places → Lost → List ℕ
+lost_key places x = loss_word x.kind ++ origin_text places x.lost ++ by_text places x.by
+
+abbrev pub lost_shown : Places → Lost → List ℕ
+lost_shown places x = step_line places x.lost (set_text x.kind) ++ by_line places x.by
+
+abbrev pub lost_told : Places → Lost → Tells
+lost_told places x = record { key = lost_key places x; shown = lost_shown places x }
+
+-- ---- the warnings of a run
+
+-- the lost value, with the sites of its steps
+pub record IsLostAt (m : Ran) (loss : Loss) (x : Lost) : Type 0 where
+  pub kind : x.kind ≡ loss.kind
+  pub lost : IsSite m loss.lost x.lost
+  pub by : BothOrNone (IsSite m) loss.by x.by
+
+-- one of each key
+pub record AreTold (m : Ran) (places : Places) (losses : List Loss) (warnings : List Tells) : Type 0 where
+  pub losts : List Lost
+  pub sites : AllZip (IsLostAt m) losses losts
+  pub told : warnings ≡ distinct (map (lost_told places) losts)
+
+-- of all values that the run loses
+pub record AreAllWarnings (m : Ran) (places : Places) (warnings : List Tells) : Type 0 where
+  pub losses : List Loss
+  pub all : AreAllLosses m losses
+  pub told : AreTold m places losses warnings
+
+-- if they are asked for
+abbrev pub AreWarnings : Ran → Places → Bool → List Tells → Type 0
+AreWarnings m places true warnings = AreAllWarnings m places warnings
+AreWarnings m places false warnings = warnings ≡ []
