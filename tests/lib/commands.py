@@ -11,7 +11,7 @@ ENDED = (0, 1)  # the statuses of a tool that has an answer
 # What the output has, by the words before the command.
 HELP = {
     "why, and how to fix it": r"^why the first does not happen before the second:$(?s:.*)^how to fix it", "why": r"^(waiting SPUs|running SPUs|faults and halts):$",
-    "backwards from its end": r"^\d+ steps; starting (at the end: |after step \d+, )", "the states of this run": r"\Aend \w+$", "who wrote it": r"> last .*\nstep \d+, ",
+    "backwards from its end": r"^\d+ steps; starting (at the end: |after step \d+, |at the beginning: )", "the states of this run": r"\Aend \w+$", "who wrote it": r"> last .*\nstep \d+, ",
 }  # fmt: skip
 PLACED = ("why, and how to fix it", "why")  # whose output has the place of the finding, too
 

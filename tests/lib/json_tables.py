@@ -74,6 +74,7 @@ TYPES: Dict[str, Callable[[Any], bool]] = {
     "classes": is_classes,
 }
 LIST_OF = "list of "
+IN_PLACE_OF = {"end": "number", "result": "text"}  # lines of the library, and those of a part
 
 
 def is_of(kind: str, value: object) -> bool:
@@ -104,7 +105,7 @@ def line_faults(page: Page, members: Dict[str, Any], where: str) -> Iterator[str
 
 
 def order_faults(page: Page, names: Sequence[str]) -> Iterator[str]:
-    """Whether lines have another order than the tables."""
-    order = [name[len(LIBRARY):] if name.startswith(LIBRARY) else name for name in page.lines]
-    if list(names) != sorted(names, key=order.index):
+    """Whether lines have another order than the tables. A line that only the library has comes in the place of one of a part."""
+    order = [name for name in page.lines if not name.startswith(LIBRARY)]
+    if list(names) != sorted(names, key=lambda name: order.index(IN_PLACE_OF.get(name, name))):
         yield f"the lines are in the order {', '.join(dict.fromkeys(names))}"

@@ -87,7 +87,7 @@ def grows_with_the_record() -> Iterator[str]:
 FILES = {"long.cell": b"cell-machine 1\nlines 1\nbudget 1000000\nspe\nsource forgotten.s\n",
          "forgotten.s": (ROOT / "bench" / "forgotten.s").read_bytes().replace(b"COMMAND", b"0x40")}
 LONG_RUNS, LONG_RECORDS = 4, 8  # of each scheduling strategy alike
-NEVER = 60  # seconds: a bound for what never ends
+NEVER = 150  # seconds: a bound for what never ends
 MEGABYTES = 2048
 
 
