@@ -15,14 +15,35 @@ MOST_DIGITS = 7
 MOST_STOPS = 8  # of the Tab key up to the editor
 
 
+# Adds 1 to a word of main memory, for ever.
+COUNTING = """\tila\t$3,line
+\twrch\t$ch16,$3
+again:\til\t$5,0xd0
+\twrch\t$ch21,$5
+\trdch\t$6,$ch27
+\tlqa\t$7,line
+\tai\t$7,$7,1
+\tstqa\t$7,line
+\til\t$5,0xb4
+\twrch\t$ch21,$5
+\trdch\t$6,$ch27
+\tbr\tagain
+\t.data
+\t.align\t7
+line:\t.space\t128
+"""
+
+
 class Ending(NamedTuple):
-    """A program, and what the page has to show of its end: its outcome, of which kind that is, what the Race tab says of it, and the outcome of a hunt."""
+    """A program, and what the page has to show of its end: its outcome, of which kind that is, what the Race tab says of it, and the outcome of a hunt, which is
+    of the same kind if no other is given."""
     name: str
     source: str
     outcome: str
     kind: str
     told: str
     hunted: str
+    hunted_kind: str = ""
 
 
 ENDINGS = (
@@ -31,8 +52,10 @@ ENDINGS = (
     Ending("a DMA fault", "\til\t$3,3\n\twrch\t$ch19,$3\n\twrch\t$ch21,$3\n" + STOP, "ended badly: SPU 0 has a fault (dmafault opcode) at f.s:5", "bad",
            "Ended badly: SPU 0 has a fault (dmafault opcode) at f.s:5", f"fault in {RUNS} of {RUNS} runs"),
     Ending("a deadlock", "\trdch\t$3,$ch29\n" + STOP, "ended badly: deadlock", "bad", "Ended badly: deadlock", f"deadlock in {RUNS} of {RUNS} runs"),
-    Ending("a spent budget", "\tbr\t_start\n", "ended badly: its budget of 100 steps is spent", "warned", "Ended badly: its budget of 100 steps is spent",
+    Ending("a spent budget", COUNTING, "ended badly: its budget of 100 steps is spent", "warned", "Ended badly: its budget of 100 steps is spent",
            f"spent budget in {RUNS} of {RUNS} runs"),
+    Ending("a livelock", "\tbr\t_start\n", "ended badly: its budget of 100 steps is spent", "warned", "Ended badly: its budget of 100 steps is spent",
+           f"livelock in {RUNS} of {RUNS} runs", "bad"),
     Ending("a stop through zeros", "\til\t$3,1\n", "SPU 0 ran into zeros", "warned", "Warning: SPU 0 ran into zeros: it stopped on the word 0 at 0x00004",
            f"an SPU ran into zeros in {RUNS} of {RUNS} runs"),
     Ending("a stop through data", "\til\t$3,1\n\t.long\t0\n", "SPU 0 ran into zeros", "warned", "it stopped on the word 0 at f.s:4",
@@ -81,7 +104,7 @@ def each_tab_shows_one_outcome(student: Student) -> None:
             student.expect(f"under {tab} the outcome of {ending.name} is {outcome(student)}, not {checked}", outcome(student) == checked)
         set_runs(student, RUNS)
         student.hunt()
-        wanted = (ending.hunted, ending.kind)
+        wanted = (ending.hunted, ending.hunted_kind or ending.kind)
         student.expect(f"the outcome of hunting {ending.name} is {outcome(student)}, not {wanted}", outcome(student) == wanted)
         student.look()
 

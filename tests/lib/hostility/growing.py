@@ -106,6 +106,6 @@ def records_are_made_without_a_search() -> Iterator[str]:
 
 ROWS = [
     Row("a race that repeats in long runs", ["hunt", "long.cell", "--runs", str(LONG_RUNS), "--jobs", "1"], 1, seconds=NEVER, megabytes=MEGABYTES, files=FILES,
-        printed=rf"^long\.cell: {LONG_RUNS} runs, seed 1: DATA RACE in {LONG_RUNS} runs, BUDGET SPENT in {LONG_RUNS} runs$"),
+        printed=rf"^long\.cell: {LONG_RUNS} runs, seed 1: DATA RACE in {LONG_RUNS} runs, LIVELOCK in {LONG_RUNS} runs$"),
 ]
 CHECKS = [grows_with_the_record, records_are_made_without_a_search]

@@ -49,7 +49,7 @@ ROWS = [
     Row("a flag with a value", ["tools/witness", "--force=yes", *FIRST], 2, r"\Awitness: option '--force' takes no value ", examples=FIRST),
     Row("a value that is no number", ["tools/race", "--run=x", "first.cell"], 2, r"\Arace: --run: 'x' is not a number from 0 to 4294967295 ", examples=FIRST),
     Row("a value that is no number", ["tools/hunts", "--missing=-1", "-"], 2, r"\Ahunts: --missing: '-1' is not a number from 0 to 4294967295 "),
-    Row("options that exclude one another", ["tools/hunts", "--missing=5", "--json", "-"], 2, r"\Ahunts: --missing prints no report: leave out --all, --json and --sarif "),
+    Row("options that exclude one another", ["tools/hunts", "--missing=5", "--json", "-"], 2, r"\Ahunts: --missing prints no report: leave out --all, --json, --warn and --sarif "),
     Row("a word too many", ["tools/race", *FIRST, "3"], 2, r"\Arace: unexpected argument '3' ", examples=FIRST),
     Row("a missing word", ["tools/race", "first.cell"], 2, r"\Arace: give a machine file and a record", examples=FIRST),
     Row("a value after =", ["hunt", "--runs=3", "--seed=5", "--jobs=1", "first.cell"], 0, printed=r"\Afirst\.cell: 3 runs, seed 5: ", examples=FIRST),
