@@ -17,6 +17,7 @@ END_WORDS = {
     "Budget": "the run spent its budget, so later steps are not checked: raise `budget` in the machine file, or look for an endless loop",
     "Open": "the record ends before the run does (Open), so later steps are not checked",
 }
+NONE_RUNS = "no SPU is running, but a DMA command is not complete: `queue` in tools/debug prints it"  # of a deadlock
 LEFT = {"Stuck": "waiting SPUs", "Budget": "running SPUs"}  # by the end words of runs that leave some
 
 
@@ -38,6 +39,8 @@ class RunEnd(NamedTuple):
             "stops": [ended.line for ended in self.ended if not ended.has_failed],
         }
         said = [END_WORDS[self.word]] if self.word in END_WORDS else []
+        if self.word == "Stuck" and not self.left:
+            said.append(NONE_RUNS)
         return [*said, *(line for title, lines in paragraphs.items() if lines for line in paragraph(title, lines))]
 
 
