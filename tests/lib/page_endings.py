@@ -42,7 +42,7 @@ ENDINGS = (
 # What the Result tab also says of some of these, by their names.
 LISTED = {
     "a halt": "(SPU 0: $3 = 0x00000001, $0 = 0x00000000): halted, since 1 is greater than 0 (signed)",
-    "a stop through data": "(SPU 0: stopped 0x0000): it ran into zeros: the program has no `stop` here",
+    "a stop through data": "(SPU 0: stopped 0x0000): it ran into zeros: the program has no",
 }  # fmt: skip
 # Names that a link may give to the machine file and to a source.
 ODD_NAMES = (("__proto__", "f.s"), ("a.cell", "__proto__"), ("a.cell", "../x.s"), ("a.cell", "record.out"), ("record.out", "f.s"), ("a.s", "f.s"))
