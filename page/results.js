@@ -148,7 +148,7 @@ export class Results {
     if (made !== this.made) return;
     const outcome = this.takeEnd(ended);
     const said = `${this.title}: ${count(ended.steps)} steps, ${ENDED[ended.word] || ''} (${ended.word}).`;
-    const told = waits.length ? [make('h3', {}, 'SPUs that wait or have a fault'), make('ul', {}, ...waits.map(line => itemOf(line, this.ways)))] : [];
+    const told = waits.length ? [make('h3', {}, 'SPUs that wait, failed or stopped'), make('ul', {}, ...waits.map(line => itemOf(line, this.ways)))] : [];
     byId('result').replaceChildren(make('p', {}, said), ...this.sentences(outcome), ...told,
       make('h3', {}, 'State of the machine'), statesOf(states.join('\n')));
     say(`${said} ${[...outcome.failures, ...outcome.warnings, ...waits].join('. ')}`);

@@ -179,11 +179,11 @@ function endingOf(made) {
 /** How a run ended, with its states and with what its SPUs wait for or failed by. @param {Made} made */
 export function ending(made) {
   return attempt(() => {
-    const ended = endingOf(made), states = statesIn(made.record), { faults_of, has_faults } = importOf('celltools.telling.faults');
+    const ended = endingOf(made), states = statesIn(made.record), { ended_lines } = importOf('celltools.telling.ended');
     const isTold = ended.steps <= MOST_STEPS;
     const { waiting_of } = importOf('celltools.telling.waiting'), { machine } = made.project, isLeft = ended.word === 'Stuck' || ended.word === 'Budget';
     const waits = isTold && isLeft ? waiting_of(machine, held.record) : [];
-    return { ended, states, waits: [...waits, ...(isTold && has_faults(states) ? faults_of(machine, held.record) : [])] };
+    return { ended, states, waits: [...waits, ...(isTold ? ended_lines(machine, held.record, states) : [])] };
   });
 }
 /** The verdict of `check` on a run, and the words for its race unless the run has too many steps. @param {Made} made */
@@ -230,7 +230,7 @@ export function step(made, place) {
     const last = at ? [...words.step(at - 1), ...words.calls(at - 1), ...words.changed(before, state)] : [];
     words.learn(state);
     const next = state.may.length ? state.may.map(head => words.possible(head, state)) : [...words.actors(state)];
-    const states = importOf('states').told(made.project.machine, held.record, at).join('\n');
+    const states = importOf('states').told(made.project.machine, held.record, at)[0].join('\n');
     return { place: at, count, last, next, states, lines: linesOf(state, words.sites) };
   });
 }
@@ -267,7 +267,7 @@ export function tool(name, words, given) {
   const [machine, record, more] = words;
   return attempt(() => {
     if (name === 'explain') return { text: explained(words) };
-    const lines = name === 'states' ? [...importOf('states').told(machine, record, +more)] : bothOrders(machine, record, more);
+    const lines = name === 'states' ? [...importOf('states').told(machine, record, +more)[0]] : bothOrders(machine, record, more);
     return { text: `${lines.join('\n')}\n` };
   });
 }

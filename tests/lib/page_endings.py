@@ -62,6 +62,11 @@ ENDINGS = (
            f"an SPU ran into zeros in {RUNS} of {RUNS} runs"),
     Ending("a stop of its own", "\tstop\t0\n", "ran to its end", "good", "", f"nothing found in {RUNS} runs"),
 )  # fmt: skip
+# What the Result tab also says of some of these, by their names.
+LISTED = {
+    "a halt": "(SPU 0: $3 = 0x00000001, $0 = 0x00000000): halted, since 1 is greater than 0 (signed)",
+    "a stop through data": "(SPU 0: stopped 0x0000): it ran into zeros: the program has no",
+}  # fmt: skip
 # Names that a link may give to the machine file and to a source.
 ODD_NAMES = (("__proto__", "f.s"), ("a.cell", "__proto__"), ("a.cell", "../x.s"), ("a.cell", "record.out"), ("record.out", "f.s"), ("a.s", "f.s"))
 
@@ -94,7 +99,8 @@ def each_tab_shows_one_outcome(student: Student) -> None:
         student.settle("document.querySelector('#result pre')")
         wanted = (ending.outcome, ending.kind)
         student.expect(f"the outcome of {ending.name} is {outcome(student)}, not {wanted}", outcome(student) == wanted)
-        student.expect_in(f"the result of {ending.name}", ending.told, student.text("#result"))
+        for told in (ending.told, LISTED.get(ending.name, "")):
+            student.expect_in(f"the result of {ending.name}", told, student.text("#result"))
         student.click("#check")
         student.settle("document.querySelector('#race p')")
         checked = ("no race" if ending.kind == "good" else f"no race; {ending.outcome}", ending.kind)

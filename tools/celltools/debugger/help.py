@@ -46,7 +46,7 @@ COMMANDS = {
         mailbox [in|out|intr], signal [1|2] (a value is written, delivered or read), event [BITS] (raised or acknowledged),
         stall [TAG] (a list stalls, the status is read, it is acknowledged), reservation [A] (of a line: begun or ended),
         lost (a PUTLLC that fails), tag [TAG] (a tag status is requested, available or read), atomic [A] (an atomic command of a line is issued or
-        completes, or its status is read), fault, halt. A label with such a name takes precedence.
+        completes, or its status is read), fault, halt, stop (one ends an SPU). A label with such a name takes precedence.
         CONDITION is VALUE == VALUE, or != < <= > >=; join several with `and`. VALUE is a number, $5 (its word 0), $5.2 (its word 2), pc,
         or a range of 1, 2, 4, 8 or 16 bytes, 4 by default. A register without xP is one of the SPU that reaches the place or makes the step.
         Comparisons are unsigned, unless a number has a minus sign."""),

@@ -5,8 +5,8 @@ from celltools.common.texts import number_of
 from celltools.run.machine_state import Spe, State
 from celltools.run.runs import Path, Refused, verdict
 from celltools.run.stepping import Run
+from celltools.telling.ended import HALTED, has_failed, has_fault
 from celltools.telling.ends import Last, first_to_see
-from celltools.telling.faults import HALTED, has_fault
 from celltools.telling.words import counted
 
 STUCK, BUDGET = "Stuck", "Budget"
@@ -53,7 +53,7 @@ def chosen(run: Run, record: Path) -> Tuple[int, Optional[int], str]:
     race = race_of(run, record)
     if race:
         return race[1], None, f"starting before step {race[1]}, the second step of race {race[0]} {race[1]} (`back to {race[0]}` goes to the first)"
-    return 0, None, "starting at the beginning: the run has no race and no fault"
+    return 0, None, "starting at the beginning: the run has no race, halt or fault"
 
 
 def at_last_step(state: State, last: Last, end: int) -> str:
@@ -65,10 +65,6 @@ def at_last_step(state: State, last: Last, end: int) -> str:
     if not has_failed(spe):
         return f"deadlock at the end; starting {step}, which waits ({TO_THE_END})"
     return f"starting {step}, which {'halted' if spe.status == HALTED else f'has a fault, {spe.status}'} ({TO_THE_END})"
-
-
-def has_failed(spe: Spe) -> bool:
-    return spe.status == HALTED or has_fault(spe)
 
 
 def last_of(run: Run, spe: Spe) -> Last:

@@ -11,11 +11,14 @@ from celltools.source.channels import VALUES
 from celltools.source.names import Names
 from celltools.source.sites import Sites
 from celltools.source.target_registers import target_of
+from celltools.telling.ended import Endings
 from celltools.telling.executed import Executed
-from celltools.telling.happenings import Happenings, Key, Kind
+from celltools.telling.happenings import Happening, Happenings, Key, Kind
 from celltools.telling.states import dump, quad
+from celltools.telling.waiting import Standing
 
 SETS = (Kind.EVENT, Kind.STALL, Kind.TAG)  # whose keys are sets of bits
+ENDS = (Kind.FAULT, Kind.HALT, Kind.STOP)  # of SPUs
 SHOWN = 16  # bytes of a range that are shown
 KINDS = {kind.value: kind for kind in Kind}
 BOXES = ("in", "out", "intr")
@@ -108,12 +111,13 @@ class Matter(Thing):
     spe: Optional[int]
     key: Key
     happenings: Happenings
+    endings: Endings
 
     def __str__(self) -> str:
         return self.text
 
-    def found(self, place: int) -> List[str]:
-        return [it.words for it in self.happenings.of(place)
+    def found(self, place: int) -> List[Happening]:
+        return [it for it in self.happenings.of(place)
                 if it.kind == self.kind and self.spe in (None, it.spe) and (self.key is None or self.is_key(it.key))]
 
     def is_key(self, key: Key) -> bool:
@@ -126,7 +130,12 @@ class Matter(Thing):
         return bool(self.found(place))
 
     def told(self, run: Run, place: int) -> List[str]:
-        return [f"    {words}" for words in self.found(place)]
+        return [f"    {self.end_line(run, it) if self.kind in ENDS else it.words}" for it in self.found(place)]
+
+    def end_line(self, run: Run, happening: Happening) -> str:
+        """How an SPU ended in the step of a happening."""
+        state = run.state(happening.place + 1)
+        return self.endings.line(state.spes[happening.spe], state)
 
     @property
     def deed(self) -> str:
@@ -140,13 +149,14 @@ class Things:
         self.grammar, self.trace, self.names = grammar, trace, sites.names
         self.executed = Executed(trace, sites, grammar.run.bytes_of)
         self.happenings = Happenings(trace, self.executed)
+        self.endings = Endings(grammar.run, Standing(sites))
 
     def thing(self, words: Sequence[str], looked_at: int) -> Thing:
         """The thing that words name."""
         spe, rest = self.grammar.owned(words)
         owner = looked_at if spe is None else spe
         if rest and rest[0] in KINDS and not self.grammar.places.label(rest[0], owner):
-            return Matter(" ".join(words), KINDS[rest[0]], spe, self.key(KINDS[rest[0]], rest[1:]), self.happenings)
+            return Matter(" ".join(words), KINDS[rest[0]], spe, self.key(KINDS[rest[0]], rest[1:]), self.happenings, self.endings)
         register = self.grammar.register(rest[0], owner) if len(rest) == 1 else None
         if register:
             return Target(" ".join(words), register, self.executed)

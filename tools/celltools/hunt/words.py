@@ -8,7 +8,7 @@ from celltools.run.hunted import record_of_hunt
 from celltools.run.runs import Refused
 from celltools.run.snapshots import Snapshot
 from celltools.source.sites import Sites
-from celltools.telling.faults import addresses_of_faults, faults_of
+from celltools.telling.ended import failures_of
 from celltools.telling.waiting import waiting_of
 
 SITE = re.compile(r"\b(?:[xpear] (\d+) at 0x([0-9a-f]+)|(\d+) running at 0x([0-9a-f]+)|h (\d+))\b", re.A)
@@ -57,9 +57,8 @@ class Explainer:
             return Ending()
         record = record_of_hunt(self.machine, run, self.seed)
         waiting = [] if ending.startswith(STOPPED) else waiting_of(self.machine, record)
-        faults = faults_of(self.machine, record) if has_fault(ending) else []
-        addresses = addresses_of_faults(self.machine, record) if has_fault(ending) or has_halt(ending) else {}
-        return Ending([*waiting, *faults], {spe: place_at(sites, spe, address) for spe, address in addresses.items()})
+        failures = failures_of(self.machine, record) if has_fault(ending) or has_halt(ending) else []
+        return Ending([*waiting, *(ended.line for ended in failures)], {ended.spe: place_at(sites, ended.spe, ended.address) for ended in failures})
 
 
 def end_places(sites: Sites, ending: str, found: Ending) -> List[Optional[str]]:

@@ -1,5 +1,5 @@
 """What tools/race prints of a record: its race in words, or that there is none, the other races, and how the run ended."""
-from typing import Dict, FrozenSet, Iterable, List, Optional, Sequence, Tuple
+from typing import Dict, FrozenSet, Iterable, List, NamedTuple, Optional, Sequence
 
 from celltools.order.graph import Order
 from celltools.order.others import other_races, race_of
@@ -8,7 +8,7 @@ from celltools.run.effects import Trace, shared_bytes
 from celltools.run.runs import Path, ask_tracer, places_before, verdict
 from celltools.run.snapshots import record_lines
 from celltools.source.sites import Sites
-from celltools.telling.faults import faults_of, has_faults
+from celltools.telling.ended import Ended, ended_of
 from celltools.telling.waiting import waiting_of
 from celltools.telling.words import Teller
 
@@ -17,7 +17,38 @@ END_WORDS = {
     "Budget": "the run spent its budget, so later steps are not checked: raise `budget` in the machine file, or look for an endless loop",
     "Open": "the record ends before the run does (Open), so later steps are not checked",
 }
+NONE_RUNS = "no SPU is running, but a DMA command is not complete: `queue` in tools/debug prints it"  # of a deadlock
 LEFT = {"Stuck": "waiting SPUs", "Budget": "running SPUs"}  # by the end words of runs that leave some
+
+
+class RunEnd(NamedTuple):
+    """How a run ended: its end word, the SPUs that still run, a line each, and how those ended that failed or whose stop is reported."""
+    word: str
+    left: List[str]
+    ended: List[Ended]
+
+    @property
+    def is_bad(self) -> bool:
+        return self.word in LEFT or any(ended.has_failed for ended in self.ended)
+
+    def lines(self) -> List[str]:
+        """How the run ended, unless all SPUs stopped as their programs have it."""
+        paragraphs = {
+            LEFT.get(self.word, ""): self.left,
+            "faults and halts": [ended.line for ended in self.ended if ended.has_failed],
+            "stops": [ended.line for ended in self.ended if not ended.has_failed],
+        }
+        said = [END_WORDS[self.word]] if self.word in END_WORDS else []
+        if self.word == "Stuck" and not self.left:
+            said.append(NONE_RUNS)
+        return [*said, *(line for title, lines in paragraphs.items() if lines for line in paragraph(title, lines))]
+
+
+class Told(NamedTuple):
+    """The lines on a race, or that there is none, and on the end of the run; whether there is a race; and how the run ended."""
+    lines: List[str]
+    has_race: bool
+    end: RunEnd
 
 
 def paragraph(title: str, lines: Iterable[str]) -> List[str]:
@@ -56,13 +87,10 @@ def end_of(lines: Sequence[str]) -> Optional[str]:
     return next((line.split()[1] for line in lines if line.startswith("end ")), None)
 
 
-def ending_lines(machine: Path, record: Path) -> List[str]:
-    """How a run ended, unless all SPUs stopped: where each SPU is that still runs and what it waits for, and what each fault or halt was."""
+def run_end(machine: Path, record: Path) -> RunEnd:
     states = ask_tracer("states", machine, record)
-    end = end_of([*record_lines(record), *states]) or ""
-    left = waiting_of(machine, record) if end in LEFT else []
-    faults = faults_of(machine, record) if has_faults(states) else []
-    return [*([END_WORDS[end]] if end in END_WORDS else []), *(paragraph(LEFT[end], left) if left else []), *(paragraph("faults and halts", faults) if faults else [])]
+    word = end_of([*record_lines(record), *states]) or ""
+    return RunEnd(word, waiting_of(machine, record) if word in LEFT else [], ended_of(machine, record, states))
 
 
 def race_in(machine: Path, record: Path, said: str, asked: Optional[Sequence[int]]) -> Optional[Race]:
@@ -77,9 +105,9 @@ def race_in(machine: Path, record: Path, said: str, asked: Optional[Sequence[int
     return Race(teller, int(places[0]), int(places[1]), places_before(machine, record, int(places[1])))
 
 
-def told(machine: Path, record: Path, asked: Optional[Sequence[int]] = None) -> Tuple[List[str], bool]:
-    """The lines on the race of the two steps that are asked for, or else on the first race of a record if it has one, and on the end of the run; and whether there
-    is a race."""
+def told(machine: Path, record: Path, asked: Optional[Sequence[int]] = None) -> Told:
+    """What there is to print on the race of the two steps that are asked for, or else on the first race of a record if it has one, and on the end of the run."""
     said = verdict(machine, record)[0]
     race = race_in(machine, record, said, asked)
-    return [*(told_race(race) if race else [f"no race: {said}"]), *ending_lines(machine, record)], race is not None
+    run_ended = run_end(machine, record)
+    return Told([*(told_race(race) if race else [f"no race: {said}"]), *run_ended.lines()], race is not None, run_ended)

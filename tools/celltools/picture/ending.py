@@ -5,8 +5,8 @@ from typing import TYPE_CHECKING, Callable, Dict, Iterator, List, Optional, Tupl
 
 from celltools.order.graph import HOST
 from celltools.run.effects import Key
+from celltools.telling.ended import failures_of
 from celltools.telling.ends import Last, first_to_see
-from celltools.telling.faults import faults_of
 from celltools.telling.waiting import waiting_of
 from celltools.telling.words import name_of, with_article
 
@@ -98,7 +98,7 @@ def agreed(spes: List[int], verb: str) -> str:
 def said_of(run: "Run") -> Iterator[Said]:
     """What each processor, command and the host waits for, has or did at the end."""
     yield from of_processors(run, "is_running", waiting_of)
-    yield from of_processors(run, "has_failed", faults_of)
+    yield from of_processors(run, "has_failed", lambda machine, record: [ended.line for ended in failures_of(machine, record)])
     for spe, number in sorted(run.end.outstanding):
         steps = run.steps_of((spe, number))
         yield command_wait(run, (spe, number)), steps[-1] if steps else run.trace.issues[spe, number]

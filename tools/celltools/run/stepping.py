@@ -134,10 +134,6 @@ class Run:
         if state:
             self.keep(end, state)
 
-    def last_instruction(self, spe: int) -> int:
-        """The place of the last instruction that a processor executed; -1 if it executed none."""
-        return next((place for place in range(self.place - 1, -1, -1) if self.heads[place] == f"x {spe}"), -1)
-
     def record(self) -> str:
         """The record of the steps made so far."""
         return record_text(self.heads[:self.place])

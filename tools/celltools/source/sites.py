@@ -41,7 +41,7 @@ class Site:
         return found[1] if found else None
 
     def __str__(self) -> str:
-        return f"{self.place}: {self.text}"
+        return f"{self.place}: {self.text}" if self.number else self.text
 
     def is_call(self) -> bool:
         return sets_link(self.word)
@@ -178,7 +178,7 @@ class Sites:
     def at(self, spe: int, address: int) -> Site:
         """The site of an instruction."""
         found = self.of_processor[spe].get(address)
-        return found or Site(self.machine, 0, f"no source line at 0x{address:05x} of the local store", 0)
+        return found or Site(self.machine, 0, f"0x{address:05x} of the local store, which has no source line", 0)
 
     def action(self, number: int) -> str:
         """The host's action of a number."""

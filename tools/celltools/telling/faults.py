@@ -1,29 +1,15 @@
-"""Says in words what ended a processor by a fault: which parameter of a command broke which rule, which channel can't be used so, or which word is none;
-and of a processor that halted, by which instruction and which values.
+"""The rules that a fault breaks: which parameter of a command breaks which rule, or which channel can't be used so.
 
 docs/reference/machine.md has the rules, each with the kind of fault that a status names, in the order in which they are tested.
 """
-import contextlib
-import tempfile
-from typing import Callable, Dict, Iterable, Iterator, List, NamedTuple, Optional, Tuple
+from typing import Callable, Dict, Iterable, Iterator, NamedTuple, Optional, Tuple
 
-from celltools.run.effects import MEMORY_LINE, Trace
-from celltools.run.machine_state import Spe, State
-from celltools.run.runs import Path
-from celltools.run.stepping import Run
+from celltools.run.effects import MEMORY_LINE
 from celltools.source.channels import ABSENT, COMMANDS, NAMES, READ, channel_name, channel_of
 from celltools.source.gas_words import ABSENT_NAMES
 from celltools.source.language import STORE
 from celltools.source.names import NONE, Names
-from celltools.source.sites import Sites
-from celltools.telling.executed import Executed
-from celltools.telling.flows import fields_of
-from celltools.telling.halts import condition_of
-from celltools.telling.waiting import Standing
-from celltools.telling.words import Teller, name_of, with_article
 
-FAULTS = ("dmafault", "badchannel", "badword")  # how the status of a processor with a fault begins
-HALTED = "halted"
 LIST_ENTRY = 8  # bytes
 MOST_BYTES = 16_384  # of a transfer, and of a list
 MOST_TAG, MOST_REGISTER = 31, 31
@@ -161,130 +147,3 @@ def broken_by_channel(word: int) -> str:
         return f"there is no channel {channel}"
     other, done = ("written", "read") if opcode == READ else ("read", "written")
     return f"{channel_name(channel)} can only be {other} and counted, not {done}"
-
-
-# ---- of a run
-
-class Faults:
-    """Says what the faults of one run were, as it stands behind the steps that are made."""
-
-    def __init__(self, run: Run, standing: Standing) -> None:
-        self.run, self.standing = run, standing
-        self.executed = Executed(run.trace, standing.sites, run.bytes_of)
-
-    def of_processor(self, spe: Spe, state: State) -> Optional[str]:
-        """What a processor's fault was, or which instruction halted it; None if neither ended it."""
-        if spe.status == HALTED:
-            return self.of_halt(spe)
-        if not has_fault(spe):
-            return None
-        if spe.status.startswith("badword"):
-            return f"0x{spe.word:08x} is not an instruction"
-        if spe.status.startswith("badchannel"):
-            return broken_by_channel(spe.word or 0)
-        return self.of_element(spe) if self.is_element(spe) else self.of_command(spe, state)
-
-    def line(self, spe: Spe, state: State) -> Optional[str]:
-        """The same, with where the processor is; an element's fault isn't one of the instruction that it stands at."""
-        words = self.of_processor(spe, state)
-        if not words:
-            return None
-        if spe.status == HALTED:
-            return f"SPU {spe.number} halted at {words}"
-        return f"{f'SPU {spe.number} {spe.status}' if self.is_element(spe) else self.standing.stands(spe)}: {words}"
-
-    def of_halt(self, spe: Spe) -> str:
-        """The instruction that halted a processor, with its place and the values that it compared, which are in the registers still."""
-        place = self.run.last_instruction(spe.number)
-        word, at = self.executed.word(place), self.run.trace.steps[place].fetched.at
-        return f"{self.standing.instruction_at(spe.number, at, word)}: {condition_of(word, spe.register)}"
-
-    def last_step(self, spe: Spe) -> int:
-        """The place of the last step of a processor or of its flow controller. Behind a fault neither makes one."""
-        return next(place for place in range(self.run.place - 1, -1, -1) if self.run.heads[place].split()[1:2] == [str(spe.number)])
-
-    def is_element(self, spe: Spe) -> bool:
-        """Whether a fault is that of an element: it was read in the last step."""
-        return spe.status.startswith("dmafault") and self.run.heads[self.last_step(spe)].startswith("e ")
-
-    def instruction(self, spe: Spe) -> Optional[int]:
-        """The step of the instruction that ended a processor by a fault or a halt; None of every other processor."""
-        if not has_fault(spe) and spe.status != HALTED:
-            return None
-        if self.is_element(spe):
-            trace = self.run.trace
-            return trace.issues[trace.command_of(trace.steps[self.last_step(spe)]).key]
-        return next(place for place in range(self.run.place - 1, -1, -1) if self.run.heads[place].split()[:2] == ["x", str(spe.number)])
-
-    def owner(self, spe: Spe) -> Owner:
-        return Owner(self.run.memory, spe.number, self.standing.sites.names)
-
-    def of_command(self, spe: Spe, state: State) -> str:
-        """Why a command was refused that a processor was to issue."""
-        opcode = int(spe.register((spe.word or 0) & 0x7F)[:8], 16)
-        params = fields_of(next(line for number, line in state.flows if number == spe.number and line.startswith("flow ")))[1]["params"]
-        lsa, high, low, size, tag = map(int, params)
-        name = NAMES_OF_COMMANDS.get(opcode & LOW_HALF)
-        return said(spe, "the command" if name is None else with_article(name), broken_by_command(opcode, Asked(lsa, high, low, size, tag), self.owner(spe)))
-
-    def of_element(self, spe: Spe) -> str:
-        """Why an element was refused. No step has changed its words since it was read."""
-        trace, last = self.run.trace, self.last_step(spe)
-        step, found = trace.steps[last], trace.element_of(last)
-        command, number = trace.command_of(step), found[2] if found else 0
-        words = self.run.bytes_of(step.reads) if step.reads else b""
-        size, ea = int.from_bytes(words[:4], "big") % ELEMENT_SIZES, int.from_bytes(words[4:], "big")
-        issue = trace.issues[command.key]
-        what = f"list element {number} of command {command.number} ({name_of(command)}, issued in step {issue}, at {Teller(trace, self.standing.sites).site(issue)})"
-        return said(spe, what, broken_by_element(place_behind(trace, command.ls, last), ea, size, self.owner(spe)))
-
-
-def has_fault(spe: Spe) -> bool:
-    return spe.status.startswith(FAULTS)
-
-
-def has_faults(lines: List[str]) -> bool:
-    """Whether a processor has a fault or halted, by the lines of states."""
-    return any(line.startswith("spe ") and line.split()[2] in (*FAULTS, HALTED) for line in lines)
-
-
-def place_behind(trace: Trace, lsa: int, last: int) -> int:
-    """The place in the store of the element that is read in a step, behind those of its list that were read before."""
-    key, place = trace.command_of(trace.steps[last]).key, lsa - lsa % WHOLE
-    for element in filter(None, (trace.steps[at].element_read() for at in trace.elements[key] if at < last)):
-        low = element.ea % WHOLE if element.size < WHOLE else 0
-        place = -(-(place + low + element.size) // WHOLE) * WHOLE if element.size else place
-    return place
-
-
-def said(spe: Spe, what: str, broken: Broken) -> str:
-    """The sentence of a refusal. That what is broken is of the kind that the status names is tested, and not believed."""
-    kind = spe.status.split()[-1]
-    words = broken[1] if broken and broken[0] == kind else f"it breaks rule `{kind}` of docs/reference/machine.md"
-    return f"{what} is refused: {words}"
-
-
-@contextlib.contextmanager
-def followed(machine: Path, record: Path, steps: Optional[int] = None) -> Iterator[Tuple[Faults, State]]:
-    """The faults of a run after so many steps of a record, or all, and its state then. Refused if that can't be told."""
-    with tempfile.TemporaryDirectory(prefix="cell-faults-") as folder:
-        run, standing = Run(machine, folder), Standing(Sites(machine, str(machine)))
-        run.follow(record)
-        run.place = run.ahead if steps is None else steps
-        yield Faults(run, standing), run.state()
-
-
-def faults_of(machine: Path, record: Path, steps: Optional[int] = None) -> List[str]:
-    """A line for each processor that has a fault or has halted after so many steps of a record, or all: its file and line, and what the fault was, or which
-    instruction halted it with which values. Refused if that can't be found."""
-    with followed(machine, record, steps) as (faults, state):
-        faults.standing.learn(state)
-        return [line for line in (faults.line(spe, state) for spe in state.spes) if line]
-
-
-def addresses_of_faults(machine: Path, record: Path) -> Dict[int, int]:
-    """The address of the instruction that ended each processor with a fault or a halt, by the processor."""
-    with followed(machine, record) as (faults, state):
-        places = {spe.number: faults.instruction(spe) for spe in state.spes}
-        steps = {number: faults.run.trace.steps[place] for number, place in places.items() if place is not None}
-        return {number: step.fetched.at for number, step in steps.items()}

@@ -36,6 +36,7 @@ class Kind(enum.Enum):
     TAG = "tag"
     ATOMIC = "atomic"
     HALT = "halt"
+    STOP = "stop"
 
 
 @dataclasses.dataclass(frozen=True)
@@ -309,14 +310,16 @@ class Happenings:
         status = step.number("rdch", 1) or 0
         self.tell(Kind.ATOMIC, step.processor, self.flows[step.processor].atomic, f"SPU {step.processor} reads the atomic status {status} ({STATUSES.get(str(status), 'unknown')})")
 
-    # ---- faults
+    # ---- ends of SPUs
 
     def end(self, step: Step) -> None:
-        """A processor runs no more: by a fault, unless its instruction is a stop or a halt."""
+        """An SPU runs no more: by a fault, unless its instruction is a stop or a halt."""
         if step.kind == "element" or not ends_rightly(self.executed.word(self.place)):
-            self.tell(Kind.FAULT, step.processor, None, f"a fault stops SPU {step.processor}")
+            self.tell(Kind.FAULT, step.processor, None, f"a fault ends SPU {step.processor}")
         elif halt_of(self.executed.word(self.place)):
-            self.tell(Kind.HALT, step.processor, None, f"a halt instruction stops SPU {step.processor}")
+            self.tell(Kind.HALT, step.processor, None, f"a halt instruction ends SPU {step.processor}")
+        else:
+            self.tell(Kind.STOP, step.processor, None, f"a stop instruction ends SPU {step.processor}")
 
 
 BY_FIELD: Dict[str, Callable[[Happenings, Step], None]] = {

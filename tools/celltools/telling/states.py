@@ -7,7 +7,7 @@ from celltools.run.stepping import Run
 from celltools.source.channels import SIGNAL_REGISTERS
 from celltools.source.names import Names
 from celltools.source.sites import Sites
-from celltools.telling.faults import Faults
+from celltools.telling.ended import Endings
 from celltools.telling.flows import Told, command_line, event_lines, fields_of, flow_lines, signal_line
 from celltools.telling.waiting import Standing
 from celltools.telling.words import ATOMIC, Teller, with_article
@@ -46,14 +46,14 @@ class Words(Standing):
 
     def __init__(self, run: Run, sites: Sites) -> None:
         super().__init__(sites)
-        self.run, self.faults = run, Faults(run, self)
+        self.run, self.endings = run, Endings(run, self)
 
     def steps_made(self) -> Sequence[str]:
         return self.run.trace.lines[:self.run.place]
 
     def remark(self, spe: Spe, state: State) -> Optional[str]:
-        """What a processor waits for, if it does, or of one that has a fault what it was."""
-        return self.faults.of_processor(spe, state) or self.waits(spe, state)
+        """What an SPU waits for, or how it ended; None if there is nothing to report."""
+        return self.endings.remark(spe, state) or self.waits(spe, state)
 
     # ---- who may step
 

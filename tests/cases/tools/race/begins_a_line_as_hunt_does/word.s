@@ -1,0 +1,4 @@
+	br	word
+	.data
+word:
+	.long	0x58800000

@@ -1,0 +1,3 @@
+_start: il      $3,1
+        .long   0
+        stop    1
