@@ -1,5 +1,5 @@
 /* The library: words and files go in, a text and an exit status come out, as of the programs `cell`, `hunt` and run_trace. docs/guide/embedding.md has the words.
-   Link libcell_page.a and heap.c, and kept.c for cell_ask; or the shared library that tools/dev/library makes of them. */
+   Link libcell.a and heap.c, and kept.c for cell_ask; or the shared library that tools/dev/library makes of them. */
 #ifndef CELL_H
 #define CELL_H
 #include <stddef.h>

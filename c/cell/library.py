@@ -29,7 +29,7 @@ def loaded(name: str) -> ctypes.CDLL:
         library = ctypes.CDLL(name)
         ask, forget = library.cell_ask, library.cell_forget
     except (OSError, AttributeError) as why:
-        raise LibraryMissing(f"{name} can't be loaded: tools/dev/library makes it of c/libcell_page.a, for x86-64 Linux ({why})") from None
+        raise LibraryMissing(f"{name} can't be loaded: tools/dev/library makes it of c/libcell.a, for x86-64 Linux ({why})") from None
     ask.restype = ctypes.c_uint32
     ask.argtypes = [ctypes.c_char_p, ctypes.c_size_t] * 2 + [ctypes.POINTER(ctypes.c_void_p), ctypes.POINTER(ctypes.c_size_t)]
     forget.restype = None

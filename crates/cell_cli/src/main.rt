@@ -4,7 +4,7 @@
 mod round;
 mod words;
 
-use cell_forms::{Status, cell};
+use cell_commands::{Status, cell};
 use cell_io::{DirStore, OutSink};
 use round::RoundGate;
 use std::io;

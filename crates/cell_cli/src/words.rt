@@ -1,9 +1,9 @@
 //! The words of the command line, and why they are refused where one isn't UTF-8: std opens files by names in UTF-8 alone.
 
 ghost use Rattle.std.specs.Prelude.{◌≡◌, map, string_bytes};
-ghost use Rattle.cell_forms.specs.Words.{spoken, no_form};
+ghost use Rattle.cell_commands.specs.Words.{spoken, no_form};
 
-use cell_forms::{Fault, FileId, Form, form_of};
+use cell_commands::{Fault, FileId, Form, form_of};
 use cell_io::{Words, read_words};
 
 /// Why nothing was done, and what is said behind that.

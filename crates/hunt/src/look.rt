@@ -1,6 +1,6 @@
 //! What standard error shows of a hunt if it is a terminal, and what ends a hunt early.
 
-use hunt_forms::Progress;
+use hunt_command::Progress;
 use hunt_tally::Hunted;
 use std::fs;
 use std::io::IsTerminal;

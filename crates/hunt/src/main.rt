@@ -5,7 +5,7 @@ mod look;
 mod words;
 
 use cell_io::{DirStore, OutSink};
-use hunt_forms::{Status, hunt};
+use hunt_command::{Status, hunt};
 use look::Look;
 use std::io;
 use std::process::ExitCode;

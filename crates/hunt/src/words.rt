@@ -1,11 +1,11 @@
 //! The words of the command line, and which file a refusal speaks of.
 
 ghost use Rattle.std.specs.Prelude.{◌≡◌, ◌≢◌, ◌↔◌, map, string_bytes};
-ghost use Rattle.hunt_forms.specs.Words.{spoken, no_form};
+ghost use Rattle.hunt_command.specs.Words.{spoken, no_form};
 
-use cell_forms::{Fault as InputFault, FileId as InputFile};
+use cell_commands::{Fault as InputFault, FileId as InputFile};
 use cell_io::{Words, read_words};
-use hunt_forms::{Fault, FileId, Form, form_of};
+use hunt_command::{Fault, FileId, Form, form_of};
 
 /// Why nothing was done, and what is said behind that.
 #[derive(Clone, Copy)]

@@ -1,9 +1,9 @@
 // Files and outputs in memory that fail at each call in turn, and texts that no form of `cell` prints or that it prints with no thread.
 ghost use Rattle.std.specs.Prelude.{map, string_bytes, IfOk};
-ghost use Rattle.cell_forms.specs.Words.{spoken, AsksForNoRun};
+ghost use Rattle.cell_commands.specs.Words.{spoken, AsksForNoRun};
 
 use crate::{EXEC, holds};
-use cell_forms::{Fault, FileId, Status, cell, cell_quiet};
+use cell_commands::{Fault, FileId, Status, cell, cell_quiet};
 use cell_io::{Cut, MemFile, MemSink, MemStore};
 use cell_report::record_text_1;
 use spe_workers::OpenGate;

@@ -1,9 +1,9 @@
 // The calls `cell` and `cell_quiet`: a run whose workers meet, and a check with no thread at all.
 ghost use Rattle.std.specs.Prelude.{map, string_bytes, IfOk};
-ghost use Rattle.cell_forms.specs.Words.{spoken, AsksForNoRun};
+ghost use Rattle.cell_commands.specs.Words.{spoken, AsksForNoRun};
 
 use crate::holds;
-use cell_forms::{Status, cell, cell_quiet};
+use cell_commands::{Status, cell, cell_quiet};
 use cell_io::{Cut, MemFile, MemSink, MemStore};
 use spe_workers::Gate;
 use std::alloc::{AllocError, Global};

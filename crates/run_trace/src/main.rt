@@ -21,7 +21,7 @@ use cell_io::{DirStore, OutSink};
 use std::io;
 use std::process::ExitCode;
 use timing::print_times;
-use trace_forms::{Fault, Status, trace};
+use trace_commands::{Fault, Status, trace};
 use words::words_of;
 
 /// Does what the words ask for.
@@ -41,7 +41,7 @@ fn obey(rt: &HostRuntime, words: &[String]) -> Status {
     }
 }
 
-/// The form that trace_forms doesn't have, behind those that it has.
+/// The form that trace_commands doesn't have, behind those that it has.
 fn own_form(fault: Fault) -> &'static str {
     match fault {
         Fault::Usage => ", time M RECORD",

@@ -12,7 +12,7 @@ use race_order::Orderer;
 use std::fmt::Display;
 use std::fs;
 use std::time::Instant;
-use trace_forms::{Fault, is_before, make_all, read_recorded, read_start, take};
+use trace_commands::{Fault, is_before, make_all, read_recorded, read_start, take};
 
 /// How many questions are put at each step.
 const QUESTIONS: u32 = 4;

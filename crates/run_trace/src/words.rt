@@ -1,8 +1,8 @@
 //! The words of the command line, and why they are refused where one isn't UTF-8: std opens files by names in UTF-8 alone.
 
-use cell_forms::{Fault as InputFault, FileId};
+use cell_commands::{Fault as InputFault, FileId};
 use cell_io::{Words, read_words};
-use trace_forms::{Fault, Form, form_of};
+use trace_commands::{Fault, Form, form_of};
 
 /// Why nothing was done, and what is said behind that.
 #[derive(Clone, Copy)]
@@ -11,7 +11,7 @@ pub struct Refusal {
     pub reason: &'static str,
 }
 
-/// Whether the words are those of `time`, a form that trace_forms doesn't have.
+/// Whether the words are those of `time`, a form that trace_commands doesn't have.
 fn is_time(texts: &[String]) -> bool {
     match texts {
         [form, _, _] => form.as_str() == "time",

@@ -1,4 +1,4 @@
-"""How the archive and the WebAssembly module of the crate cell_page are made: what tools/dev/wasm does.
+"""How the archive and the WebAssembly module of the crate cell_library are made: what tools/dev/wasm does.
 
 building   proves and builds the crate, and keeps its archive and the LLVM module that its compiler was given
 compiling  compiles that LLVM module for WebAssembly

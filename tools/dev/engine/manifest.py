@@ -7,8 +7,8 @@ from typing import Dict, Iterator, List, Tuple
 from celltools.common.repository import ROOT
 from engine.faults import Failed
 
-CRATE = "cell_page"
-ARCHIVE, MODULE = ROOT / "c" / f"lib{CRATE}.a", ROOT / "page" / "cell.wasm"
+CRATE = "cell_library"
+ARCHIVE, MODULE = ROOT / "c" / "libcell.a", ROOT / "page" / "cell.wasm"
 MADE = ARCHIVE, MODULE
 MANIFEST = ROOT / "page" / "MANIFEST"
 TOOLS = ROOT / "tools" / "dev"

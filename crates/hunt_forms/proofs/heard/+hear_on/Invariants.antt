@@ -1,5 +1,0 @@
-use Rattle.std.proofs.Common.{length}
-use Rattle.hunt_forms.proofs.heard.+hear_on.Given as goal
-
-abbrev pub decreases-hear_on : goal.decreases-hear_on
-decreases-hear_on l = length l.words.now

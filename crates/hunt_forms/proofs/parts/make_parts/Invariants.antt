@@ -1,5 +1,0 @@
-use Rattle.hunt_forms.specs.Hunts.{AreParts}
-use Rattle.hunt_forms.proofs.parts.make_parts.Given as goal
-
-abbrev pub invariant-loop : goal.invariant-loop
-invariant-loop l = AreParts l.quarry l.seed l.from l.end l.parts.items

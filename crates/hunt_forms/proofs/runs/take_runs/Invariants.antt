@@ -1,5 +1,0 @@
-use Rattle.hunt_forms.specs.Hunts.{HasTaken}
-use Rattle.hunt_forms.proofs.runs.take_runs.Given as goal
-
-abbrev pub invariant-loop-run : goal.invariant-loop-run
-invariant-loop-run l = HasTaken l.quarry l.seed l.from l.run l.sums

@@ -1,0 +1,16 @@
+use Rattle.std.proofs.Common.{◌∙◌, sym, subst, inl, inr}
+use Rattle.std.proofs.lemmas.Result.{err_from_is_err_and}
+use Rattle.trace_commands.specs.Files.{HasRecord}
+use Rattle.trace_commands.proofs.TellLaws.{tells_comes}
+use Rattle.trace_commands.proofs.program.asked_text.Goals as goal
+
+pub returns-in_err-recorded-clause-comes : goal.returns-in_err-recorded-clause-comes
+returns-in_err-recorded-clause-comes g c = λ told is.
+    let p = err_from_is_err_and c.from_residual-in_err-recorded.result c.from_residual-in_err-recorded.ensures.1 in
+    let r = c.in_err-recorded.ensures.comes told (c.read_start.ensures.same ∙ is) in
+    rw (p.1, p.2) (inr (inl (c.in_ok-machine.machine.setup, c.in_ok-machine.ensures.comes told is, rw c.in_ok-machine.ensures.kept at r)))
+
+pub returns-clause-comes : goal.returns-clause-comes
+returns-clause-comes g c = λ told is.
+    tells_comes told c.args.machine.now c.args.record_file.now c.args.ask _ _ c.in_ok-machine.machine.setup c.steps.result.now c.tell.result (c.in_ok-machine.ensures.comes told is)
+    (subst (HasRecord told c.args.record_file.now) (sym c.steps.ensures) (c.in_ok-recorded.ensures.comes told (c.read_start.ensures.same ∙ is))) c.tell.ensures

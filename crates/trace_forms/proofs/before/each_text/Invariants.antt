@@ -1,4 +1,0 @@
-use Rattle.trace_forms.proofs.before.each_text.Given as goal
-
-abbrev pub ghost-put_each : goal.ghost-put_each
-ghost-put_each a = a.machine.now

@@ -1,7 +1,0 @@
-use Rattle.std.proofs.Common.{◌≡◌, ◌++◌, take}
-use Rattle.std.specs.List.{flat_map}
-use Rattle.trace_forms.specs.Listings.{label_text}
-use Rattle.trace_forms.proofs.listing.put_labels.Given as goal
-
-abbrev pub invariant-loop-label : goal.invariant-loop-label
-invariant-loop-label l = l.out.items ≡ l.initial.out.items ++ flat_map (λ e. label_text (e.name.now, e.line)) (take l.label-index l.labels)
