@@ -25,7 +25,7 @@ use trace_commands::{
     trace_form,
 };
 
-/// How many runs of a hunt are made in a round.
+/// How many runs of a hunt are made in a batch.
 const SHARE: u32 = 16;
 
 /// Nobody looks on.

@@ -11,7 +11,7 @@ use Rattle.cell_machine.specs.Run.{Ran}
 use Rattle.hunt_tally.specs.Reports.{Reported, Sums, steps_of, hunted}
 use Rattle.hunt_reports.specs.declared.asked.Asked.{Asked as Question}
 use Rattle.hunt_command.specs.declared.each.Told.{Told}
-use Rattle.hunt_command.specs.declared.input.Quarry.{Quarry}
+use Rattle.hunt_command.specs.declared.input.Target.{Target}
 use Rattle.hunt_command.specs.declared.parts.Part.{Part}
 use Rattle.hunt_command.specs.Words.{Asked}
 use Rattle.hunt_command.specs.Hunts.{Each, status_of, text_by, ends_at, ends_with, is_found, TellsHunt, TellsEach, HasTaken, HasMade, IsReportOfSeed, AreReports, IsPart, IsTold, TellsRuns, told_line, is_racy}
@@ -47,7 +47,7 @@ told_more setup seed from runs old new was is t told text racy so_far = record {
 -- ---- what is taken in
 
 -- one more report
-pub has_next : (q : Quarry) (seed from made : ℕ) (old new : Sums) (r : Reported) → HasTaken q seed from made old → IsReportOfSeed q.setup q.asked seed (from + made) r
+pub has_next : (q : Target) (seed from made : ℕ) (old new : Sums) (r : Reported) → HasTaken q seed from made old → IsReportOfSeed q.setup q.asked seed (from + made) r
     → ((before : List Reported) → old ≡ hunted before → new ≡ hunted (before ++ r ∷ [])) → HasTaken q seed from (made + 1) new
 has_next q seed from made old new r taken is goes =
     let count = taken.count in
@@ -59,7 +59,7 @@ has_next q seed from made old new r taken is goes =
     }
 
 -- the reports of the runs behind these
-pub has_more : (q : Quarry) (seed from made runs : ℕ) (old behind new : Sums) → HasTaken q seed from made old → HasTaken q seed (from + made) runs behind
+pub has_more : (q : Target) (seed from made runs : ℕ) (old behind new : Sums) → HasTaken q seed from made old → HasTaken q seed (from + made) runs behind
     → ((before after : List Reported) → old ≡ hunted before → behind ≡ hunted after → new ≡ hunted (before ++ after)) → HasTaken q seed from (made + runs) new
 has_more q seed from made runs old behind new taken more goes =
     let both = length-append taken.reports more.reports in
@@ -72,19 +72,19 @@ has_more q seed from made runs old behind new taken more goes =
       told = goes taken.reports more.reports taken.told more.told;
     }
 
-pub has_none : (q : Quarry) (seed from : ℕ) (h : Sums) → h ≡ hunted [] → HasTaken q seed from 0 h
+pub has_none : (q : Target) (seed from : ℕ) (h : Sums) → h ≡ hunted [] → HasTaken q seed from 0 h
 has_none q seed from h is = record { reports = []; count = refl; each = each-none (IsReportOfSeed q.setup q.asked seed) from; told = is }
 
-pub taken_runs : (q : Quarry) (seed from made : ℕ) (h : Sums) → HasTaken q seed from made h → h.runs ≡ made
+pub taken_runs : (q : Target) (seed from made : ℕ) (h : Sums) → HasTaken q seed from made h → h.runs ≡ made
 taken_runs q seed from made h taken = ap (λ s. s.runs) taken.told ∙ runs_of taken.reports ∙ taken.count
 
 -- runs that follow one another are a part
-pub part_of : (q : Quarry) (seed from count : ℕ) (part : Part) → HasTaken q seed (from + part.first) count part.sums → IsPart q seed from (part.first + count) part
+pub part_of : (q : Target) (seed from count : ℕ) (part : Part) → HasTaken q seed (from + part.first) count part.sums → IsPart q seed from (part.first + count) part
 part_of q seed from count part taken =
     let runs = taken_runs q seed (from + part.first) count part.sums taken in
     record { taken = subst (λ n. HasTaken q seed (from + part.first) n part.sums) (sym runs) taken; within = omega (arith, runs) }
 
-pub part_before : (q : Quarry) (seed from end later : ℕ) (part : Part) → end ≤ later → IsPart q seed from end part → IsPart q seed from later part
+pub part_before : (q : Target) (seed from end later : ℕ) (part : Part) → end ≤ later → IsPart q seed from end part → IsPart q seed from later part
 part_before q seed from end later part less is = record { taken = is.taken; within = let within = is.within in omega (arith, within, less) }
 
 pub each_tells : (setup : Opening) (seed from runs : ℕ) (text : List ℕ) (racy : Bool) → TellsRuns setup seed from runs text racy → TellsEach setup from runs seed (status_of racy) text
@@ -119,19 +119,19 @@ steps_in : (reports : List Reported) → (hunted reports).steps ≡ steps_of rep
 unfolding hunted
 steps_in reports = refl
 
-pub taken_steps : (q : Quarry) (seed from made : ℕ) (h : Sums) (taken : HasTaken q seed from made h) → h.steps ≡ steps_of taken.reports
+pub taken_steps : (q : Target) (seed from made : ℕ) (h : Sums) (taken : HasTaken q seed from made h) → h.steps ≡ steps_of taken.reports
 taken_steps q seed from made h taken = ap (λ (s : Sums). s.steps) taken.told ∙ steps_in taken.reports
 
 -- the hunt ends with none of the first runs, fewer than so many
-abbrev pub NoneEnds : Quarry → ℕ → ℕ → Option ℕ → ℕ → Type 0
+abbrev pub NoneEnds : Target → ℕ → ℕ → Option ℕ → ℕ → Type 0
 NoneEnds q seed from asked made =
     (reports : List Reported) → AreReports q.setup q.asked seed from reports → (n : ℕ) → n < made → n ≤ length reports → ends_with asked (take n reports) ≡ false
 
-pub none_ends_yet : (q : Quarry) (seed from : ℕ) (asked : Option ℕ) → NoneEnds q seed from asked 0
+pub none_ends_yet : (q : Target) (seed from : ℕ) (asked : Option ℕ) → NoneEnds q seed from asked 0
 none_ends_yet q seed from asked = λ reports are n less within. absurd (let none : ⊥ = omega (arith, less) in none)
 
 -- it doesn't end with the runs that were made
-none_ends_here : (q : Quarry) (seed from made : ℕ) (asked : Option ℕ) (h : Sums) → HasTaken q seed from made h → ends_at asked made h.steps ≡ false
+none_ends_here : (q : Target) (seed from made : ℕ) (asked : Option ℕ) (h : Sums) → HasTaken q seed from made h → ends_at asked made h.steps ≡ false
     → (reports : List Reported) → AreReports q.setup q.asked seed from reports → made ≤ length reports → ends_with asked (take made reports) ≡ false
 none_ends_here q seed from made asked h taken goes reports are within =
     let count = taken.count in
@@ -141,7 +141,7 @@ none_ends_here q seed from made asked h taken goes reports are within =
     (λ i. ends_at asked (long i) (same i)) ∙ goes
 
 -- nor with more runs before the next end
-pub none_ends_next : (q : Quarry) (seed from made all : ℕ) (asked : Option ℕ) (h : Sums) → HasTaken q seed from made h → NoneEnds q seed from asked made → ends_at asked made h.steps ≡ false
+pub none_ends_next : (q : Target) (seed from made all : ℕ) (asked : Option ℕ) (h : Sums) → HasTaken q seed from made h → NoneEnds q seed from asked made → ends_at asked made h.steps ≡ false
     → ((n steps : ℕ) → made < n → n < all → ends_at asked n steps ≡ false) → NoneEnds q seed from asked all
 none_ends_next q seed from made all asked h taken none goes next = λ reports are n less within. by reports are n less within (nat_lt n made) refl (eqb n made) refl
   where
@@ -156,7 +156,7 @@ none_ends_next q seed from made all asked h taken none goes next = λ reports ar
         ap (λ k. ends_at asked k (steps_of (take n reports))) long ∙ next n (steps_of (take n reports)) (grind (arith, before, is)) less
 
 -- all of them were made, or as many as were made when somebody ended it
-pub has_all : (q : Quarry) (seed from made : ℕ) (asked : Option ℕ) (stopped : Bool) (h : Sums) → HasTaken q seed from made h → NoneEnds q seed from asked made → 0 < made
+pub has_all : (q : Target) (seed from made : ℕ) (asked : Option ℕ) (stopped : Bool) (h : Sums) → HasTaken q seed from made h → NoneEnds q seed from asked made → 0 < made
     → (stopped ≡ false → ends_at asked made h.steps ≡ true) → HasMade q seed from asked stopped h
 has_all q seed from made asked stopped h taken none some ends =
     let count = taken.count in
@@ -172,7 +172,7 @@ has_all q seed from made asked stopped h taken none some ends =
 
 -- ---- a hunt
 
-pub hunt_tells : (q : Quarry) (a : Asked) (stopped : Bool) (h : Sums) (text : List ℕ) (found : Bool) → HasMade q a.seed a.from a.runs stopped h
+pub hunt_tells : (q : Target) (a : Asked) (stopped : Bool) (h : Sums) (text : List ℕ) (found : Bool) → HasMade q a.seed a.from a.runs stopped h
     → ((reports : List Reported) → h ≡ hunted reports → found ≡ is_found a.warn reports) → text ≡ text_by q.asked.places a h → TellsHunt q.setup q.asked a stopped (status_of found) text
 hunt_tells q a stopped h text found has finds is = record {
   reports = has.taken.reports;

@@ -15,8 +15,8 @@ use Rattle.hunt_command.specs.declared.fault.Fault.TheVariants.{Usage, WriteFaul
 use Rattle.hunt_command.specs.declared.fault.Status.{Status}
 use Rattle.hunt_command.specs.declared.fault.Status.TheVariants.{Clean, Found, Refused}
 use Rattle.hunt_command.specs.Words.{is_on, Spoken, hunt, each, record_of, help, no_form}
-use Rattle.hunt_command.specs.declared.input.Quarry.{Quarry}
-use Rattle.hunt_command.specs.Files.{IsQuarry, RefusesFiles, FailsBy}
+use Rattle.hunt_command.specs.declared.input.Target.{Target}
+use Rattle.hunt_command.specs.Files.{IsTarget, RefusesFiles, FailsBy}
 use Rattle.hunt_command.specs.Hunts.{TellsHunt, TellsEach}
 
 -- ---- what may be written
@@ -30,9 +30,9 @@ pub record TellsRun (setup : Opening) (run seed : ℕ) (status : Status) (text :
 
 -- what words ask for, with the files, and whether somebody ended it: the text that is written, and the status that goes with it
 abbrev pub Writes : List File → Spoken → Bool → Status → List ℕ → Type 0
-Writes files (hunt a) stopped status text = (q : Quarry) × IsQuarry files a.machine a.expect a.pass (is_on a.warn) q × TellsHunt q.setup q.asked a stopped status text
-Writes files (each machine from runs seed) stopped status text = (q : Quarry) × IsQuarry files machine None None false q × TellsEach q.setup from runs seed status text
-Writes files (record_of machine run seed) stopped status text = (q : Quarry) × IsQuarry files machine None None false q × TellsRun q.setup run seed status text
+Writes files (hunt a) stopped status text = (q : Target) × IsTarget files a.machine a.expect a.pass (is_on a.warn) q × TellsHunt q.setup q.asked a stopped status text
+Writes files (each machine from runs seed) stopped status text = (q : Target) × IsTarget files machine None None false q × TellsEach q.setup from runs seed status text
+Writes files (record_of machine run seed) stopped status text = (q : Target) × IsTarget files machine None None false q × TellsRun q.setup run seed status text
 Writes files help stopped status text = (status ≡ Clean) × (text ≡ HELP.now)
 Writes files no_form stopped status text = ⊥
 

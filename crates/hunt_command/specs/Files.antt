@@ -16,7 +16,7 @@ use Rattle.hunt_reports.specs.declared.origins.Places.{Places}
 use Rattle.hunt_reports.specs.Places.{key_of}
 use Rattle.hunt_command.specs.declared.fault.Fault.{Fault}
 use Rattle.hunt_command.specs.declared.fault.FileId.{FileId}
-use Rattle.hunt_command.specs.declared.input.Quarry.{Quarry}
+use Rattle.hunt_command.specs.declared.input.Target.{Target}
 use Rattle.hunt_command.specs.declared.fault.Fault.TheVariants.{Usage, Machine, ReadFault, TooLong, Pass as BadPass, WriteFault, Memory}
 use Rattle.hunt_command.specs.declared.fault.FileId.TheVariants.{Expect, Pass}
 use Rattle.hunt_command.specs.Heard.{Word}
@@ -55,7 +55,7 @@ Passes files None setup places keys = keys ≡ []
 Passes files (Some name) setup places keys = PassesIn files name setup places keys
 
 -- the files stand for this machine, and ask this of each run
-pub record IsQuarry (files : List File) (machine : Word) (expect pass : Option Word) (warns : Bool) (q : Quarry) : Type 0 where
+pub record IsTarget (files : List File) (machine : Word) (expect pass : Option Word) (warns : Bool) (q : Target) : Type 0 where
   pub setup : StandsFor files machine q.setup
   pub places : HasPlaces files machine q.asked.places
   pub expected : Expects files expect (bytes_in q.asked.expected.items)
@@ -138,8 +138,8 @@ RefusesFiles files machine expect pass old new Memory = Unit {0}
 RefusesFiles files machine expect pass old new other = ⊥
 
 -- the files stand for what is hunted, or they are refused
-abbrev pub Comes : List File → Word → Option Word → Option Word → Bool → Ledger → Ledger → Result Quarry Fault → Type 0
-Comes files machine expect pass warns old new (Ok q) = IsQuarry files machine expect pass warns q
+abbrev pub Comes : List File → Word → Option Word → Option Word → Bool → Ledger → Ledger → Result Target Fault → Type 0
+Comes files machine expect pass warns old new (Ok q) = IsTarget files machine expect pass warns q
 Comes files machine expect pass warns old new (Err fault) = RefusesFiles files machine expect pass old new fault
 
 -- whatever the store tells: a reading is said to fail only where it did, under the name of that file

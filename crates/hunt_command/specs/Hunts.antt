@@ -2,7 +2,7 @@
 use Rattle.std.specs.Prelude.{◌≡◌, ℕ, ◌+◌, ◌%◌, ◌==◌, ◌||◌, ◌&&◌, nat_le, nat_lt, Bool, true, false, List, ◌++◌, length, take, codes, Option, Some, None, ◌<◌, ◌≤◌, [], ◌∷◌, is_some, is_none, IsTrue, ◌↔◌, ◌^◌, if◌then◌else◌, Result, IfOk, OnOk, All, Vec}
 use Rattle.std.specs.declared.alloc.AllocError.{AllocError}
 use Rattle.std.specs.declared.alloc.Global.{Global}
-use Rattle.hunt_command.specs.declared.input.Quarry.{Quarry}
+use Rattle.hunt_command.specs.declared.input.Target.{Target}
 use Rattle.std.specs.Borrow.{Bor, MutBor}
 use Rattle.std.specs.List.{flat_map, list_any}
 use Rattle.std.specs.Fmt.{decimal}
@@ -28,7 +28,7 @@ use Rattle.hunt_command.specs.declared.fault.Status.{Status}
 use Rattle.hunt_command.specs.declared.fault.Status.TheVariants.{Clean, Found}
 use Rattle.hunt_command.specs.declared.each.Told.{Told}
 use Rattle.hunt_command.specs.declared.parts.Part.{Part}
-use Rattle.hunt_command.specs.declared.team.Round.{Round}
+use Rattle.hunt_command.specs.declared.batch.Batch.{Batch}
 use Rattle.hunt_command.specs.declared.words.Hunt.{Hunt}
 use Rattle.hunt_command.specs.declared.words.Warn.{Warn}
 use Rattle.hunt_command.specs.declared.words.Warn.TheVariants.{Off, Print, Error}
@@ -157,44 +157,44 @@ pub record TellsEach (setup : Opening) (from runs seed : ℕ) (status : Status) 
 -- ---- while it goes on
 
 -- this was taken in of the first runs, so many
-pub record HasTaken (q : Quarry) (seed from made : ℕ) (h : Sums) : Type 0 where
+pub record HasTaken (q : Target) (seed from made : ℕ) (h : Sums) : Type 0 where
   pub reports : List Reported
   pub count : length reports ≡ made
   pub each : AreReports q.setup q.asked seed from reports
   pub told : h ≡ hunted reports
 
 -- the runs of a hunt were made, and this was taken in of them
-pub record HasMade (q : Quarry) (seed from : ℕ) (asked : Option ℕ) (stopped : Bool) (h : Sums) : Type 0 where
+pub record HasMade (q : Target) (seed from : ℕ) (asked : Option ℕ) (stopped : Bool) (h : Sums) : Type 0 where
   pub made : ℕ
   pub taken : HasTaken q seed from made h
   pub all : AreMade stopped asked taken.reports
 
--- so many runs were made and taken in, and those of a round can be made after them
-pub record IsNext (q : Quarry) (hunt : Hunt) (made : ℕ) (round : Round) (h : Sums) : Type 0 where
+-- so many runs were made and taken in, and those of a batch can be made after them
+pub record IsNext (q : Target) (hunt : Hunt) (made : ℕ) (batch : Batch) (h : Sums) : Type 0 where
   pub some : 0 < length q.setup.entries
-  pub numbered : hunt.from + (made + round.runs) < 2 ^ 32
-  pub room : made + round.runs + 2 < 2 ^ 32
+  pub numbered : hunt.from + (made + batch.runs) < 2 ^ 32
+  pub room : made + batch.runs + 2 < 2 ^ 32
   pub taken : HasTaken q hunt.seed hunt.from made h
 
--- A call makes the runs of any next round and takes their reports in: `pre` and `post` are what it requires and ensures.
-pub record MakesRounds (pre : Bor Quarry → Bor Hunt → ℕ → Round → MutBor Sums → Type 0)
-    (post : Bor Quarry → Bor Hunt → ℕ → Round → MutBor Sums → Result (Unit {0}) AllocError → MutBor Sums → Type 0) : Type 0 where
-  pub can : (q : Bor Quarry) (hunt : Bor Hunt) (made : ℕ) (round : Round) (sums : MutBor Sums)
-      → IsNext q.now hunt.now made round sums.now → pre q hunt made round sums
-  pub makes : (q : Bor Quarry) (hunt : Bor Hunt) (made : ℕ) (round : Round) (sums after : MutBor Sums) (result : Result (Unit {0}) AllocError)
-      → IsNext q.now hunt.now made round sums.now → post q hunt made round sums result after
-      → OnOk result (HasTaken q.now hunt.now.seed hunt.now.from (made + round.runs) after.now)
+-- A call makes the runs of any next batch and takes their reports in: `pre` and `post` are what it requires and ensures.
+pub record MakesBatches (pre : Bor Target → Bor Hunt → ℕ → Batch → MutBor Sums → Type 0)
+    (post : Bor Target → Bor Hunt → ℕ → Batch → MutBor Sums → Result (Unit {0}) AllocError → MutBor Sums → Type 0) : Type 0 where
+  pub can : (q : Bor Target) (hunt : Bor Hunt) (made : ℕ) (batch : Batch) (sums : MutBor Sums)
+      → IsNext q.now hunt.now made batch sums.now → pre q hunt made batch sums
+  pub makes : (q : Bor Target) (hunt : Bor Hunt) (made : ℕ) (batch : Batch) (sums after : MutBor Sums) (result : Result (Unit {0}) AllocError)
+      → IsNext q.now hunt.now made batch sums.now → post q hunt made batch sums result after
+      → OnOk result (HasTaken q.now hunt.now.seed hunt.now.from (made + batch.runs) after.now)
 
 -- this was taken in of runs of the hunt that follow one another, none of them after the first `end`
-pub record IsPart (q : Quarry) (seed from end : ℕ) (part : Part) : Type 0 where
+pub record IsPart (q : Target) (seed from end : ℕ) (part : Part) : Type 0 where
   pub taken : HasTaken q seed (from + part.first) part.sums.runs part.sums
   pub within : part.first + part.sums.runs ≤ end
 
-abbrev pub AreParts : Quarry → ℕ → ℕ → ℕ → List Part → Type 0
+abbrev pub AreParts : Target → ℕ → ℕ → ℕ → List Part → Type 0
 AreParts q seed from end parts = All (IsPart q seed from end) parts
 
 -- each thread that had memory gave such parts
-abbrev pub GaveParts : Quarry → ℕ → ℕ → ℕ → List (Result (Vec Part Global) AllocError) → Type 0
+abbrev pub GaveParts : Target → ℕ → ℕ → ℕ → List (Result (Vec Part Global) AllocError) → Type 0
 GaveParts q seed from end told = All (λ gave. IfOk gave (λ parts. AreParts q seed from end parts.items)) told
 
 -- these are the lines of so many runs, and whether one has a race

@@ -7,9 +7,9 @@ ghost use Rattle.hunt_command.specs.Hunts.{ends_at, is_by_steps};
 use crate::words::{DEFAULT_RUNS, most_made};
 use hunt_tally::Hunted;
 
-/// A hunt whose words don't say how many runs makes them in whole rounds, and some rounds at least: it ends once the runs so far have so many steps.
-/// Steps are counted and not seconds, so that the same words make the same runs.
-const ROUND: u32 = 100;
+/// A hunt without `--runs` may end after each hundred runs, from `LEAST_RUNS` on: it does once its runs have `MOST_STEPS` steps together.
+/// It counts steps and not seconds, so that the same words make the same runs.
+const HUNDRED: u32 = 100;
 
 const LEAST_RUNS: u32 = 200;
 
@@ -22,19 +22,19 @@ pub fn ends_at(asked: Option<u32>, runs: u32, steps: u64) -> bool
     match asked {
         Some(asked) => runs == asked,
         None => {
-            runs == DEFAULT_RUNS || runs >= LEAST_RUNS && runs % ROUND == 0 && steps >= MOST_STEPS
+            runs == DEFAULT_RUNS || runs >= LEAST_RUNS && runs % HUNDRED == 0 && steps >= MOST_STEPS
         }
     }
 }
 
-/// The end of the round in which the next run is.
-fn round_end(made: u32) -> u32
+/// The number of runs after the hundred to which the next run belongs.
+fn hundred_end(made: u32) -> u32
     requires { made < 1000 }
     ensures after { made < result }
     ensures within { result ≤ 1000 }
-    ensures round { (n : ℕ) → made < n → n < result → (n % 100 == 0) ≡ false }
+    ensures hundred { (n : ℕ) → made < n → n < result → (n % 100 == 0) ≡ false }
 {
-    (made / ROUND + 1) * ROUND
+    (made / HUNDRED + 1) * HUNDRED
 }
 
 /// After how many runs the hunt may end next.
@@ -47,7 +47,7 @@ pub fn next_end(asked: Option<u32>, made: u32) -> u32
     match asked {
         Some(asked) => asked,
         None if made < LEAST_RUNS => LEAST_RUNS,
-        None => round_end(made),
+        None => hundred_end(made),
     }
 }
 

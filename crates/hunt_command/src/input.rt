@@ -18,14 +18,14 @@ use cell_machine::Setup;
 use hunt_reports::{Asked, Places, put_key};
 use std::alloc::{AllocError, Global};
 
-/// What is hunted: a machine, and what is asked of each run.
+/// The target of a hunt: a machine, and what is asked of each run.
 #[derive(Drop)]
-pub struct Quarry {
+pub struct Target {
     pub setup: Setup,
     pub asked: Asked,
 }
 
-/// What a refusal of the machine file or of a source is called here.
+/// The refusal of the machine file or of a source as one of this crate.
 fn fault_of(fault: InputFault) -> Fault
     ensures told { result ≡ told_as fault }
     ensures input { IsOfFiles result }

@@ -1,6 +1,7 @@
 //! What `hunt` does: a form of words, with files in a store and an output in a sink.
 #![tactic(auto)]
 
+mod batch;
 mod each;
 mod ending;
 mod expected;
@@ -17,11 +18,10 @@ mod passes;
 mod placings;
 mod program;
 mod progress;
-mod quarry;
 mod runs;
 mod sources;
 mod statements;
-mod team;
+mod target;
 mod threads;
 mod words;
 

@@ -1,9 +1,9 @@
-//! The parts of a round: runs that follow one another, and that one thread makes.
+//! The parts of a batch: runs that follow one another, and that one thread makes.
 
 ghost use Rattle.std.specs.Prelude.{◌≤◌, ◌<◌, ◌+◌, ◌^◌, max, length, IfOk, IfSome, OnOk};
 ghost use Rattle.hunt_command.specs.Hunts.{HasTaken, IsPart, AreParts};
 
-use crate::input::Quarry;
+use crate::input::Target;
 use crate::runs::take_runs;
 use hunt_tally::Hunted;
 use std::alloc::{AllocError, Global};
@@ -47,21 +47,21 @@ fn next_runs(taken: &AtomicU32, end: u32, jobs: u32) -> Option<Runs>
 /// Makes runs one after the other, and takes their reports in.
 fn make_part(
     alloc: Global,
-    quarry: &Quarry,
+    target: &Target,
     seed: u64,
     from: u32,
     runs: Runs,
 ) -> Result<Part, AllocError>
-    requires some { 0 < length quarry.now.setup.entries }
+    requires some { 0 < length target.now.setup.entries }
     requires numbered { from + (runs.first + runs.count) < 2 ^ 32 }
     requires room { runs.first + runs.count + 2 < 2 ^ 32 }
-    ensures { IfOk result (IsPart quarry.now seed from (runs.first + runs.count)) }
+    ensures { IfOk result (IsPart target.now seed from (runs.first + runs.count)) }
 {
     let mut sums = Hunted::new(alloc);
     take_runs(
         &mut sums,
         alloc,
-        quarry,
+        target,
         seed,
         from + runs.first,
         0,
@@ -76,25 +76,25 @@ fn make_part(
 /// Makes runs part by part, until none before `end` are left that nobody has taken.
 pub fn make_parts(
     alloc: Global,
-    quarry: &Quarry,
+    target: &Target,
     seed: u64,
     from: u32,
     end: u32,
     jobs: u32,
     taken: &AtomicU32,
 ) -> Result<Vec<Part>, AllocError>
-    requires some { 0 < length quarry.now.setup.entries }
+    requires some { 0 < length target.now.setup.entries }
     requires numbered { from + end < 2 ^ 32 }
     requires room { end + 2 < 2 ^ 32 }
     requires jobs { 0 < jobs }
-    ensures { IfOk result (λ parts. AreParts quarry.now seed from end parts.items) }
+    ensures { IfOk result (λ parts. AreParts target.now seed from end parts.items) }
 {
     let mut parts = Vec::new(alloc);
     for _ in 0..end {
         let Some(runs) = next_runs(taken, end, jobs) else {
             break;
         };
-        parts.push(make_part(alloc, quarry, seed, from, runs)?)?;
+        parts.push(make_part(alloc, target, seed, from, runs)?)?;
     }
     Ok(parts)
 }
@@ -104,18 +104,18 @@ pub fn make_parts(
 fn take_part(
     sums: &mut Hunted,
     alloc: Global,
-    quarry: &Quarry,
+    target: &Target,
     seed: u64,
     from: u32,
     made: u32,
     part: Part,
 ) -> Result<u32, AllocError>
-    requires some { 0 < length quarry.now.setup.entries }
+    requires some { 0 < length target.now.setup.entries }
     requires numbered { from + (part.first + part.sums.runs) < 2 ^ 32 }
     requires room { part.first + part.sums.runs + 2 < 2 ^ 32 }
-    requires taken { HasTaken quarry.now seed from made sums.old }
-    requires behind { HasTaken quarry.now seed (from + part.first) part.sums.runs part.sums }
-    ensures taken { IfOk result (λ all. HasTaken quarry.now seed from all sums.new) }
+    requires taken { HasTaken target.now seed from made sums.old }
+    requires behind { HasTaken target.now seed (from + part.first) part.sums.runs part.sums }
+    ensures taken { IfOk result (λ all. HasTaken target.now seed from all sums.new) }
     ensures within { IfOk result (λ all. all ≤ max made (part.first + part.sums.runs)) }
 {
     let Part {
@@ -125,7 +125,7 @@ fn take_part(
     if first < made {
         return Ok(made);
     }
-    take_runs(sums, alloc, quarry, seed, from, made, first - made)?;
+    take_runs(sums, alloc, target, seed, from, made, first - made)?;
     let count = behind.runs();
     sums.join(alloc, behind)?;
     Ok(first + count)
@@ -135,24 +135,24 @@ fn take_part(
 pub fn take_parts(
     sums: &mut Hunted,
     alloc: Global,
-    quarry: &Quarry,
+    target: &Target,
     seed: u64,
     from: u32,
     made: u32,
     end: u32,
     parts: Vec<Part>,
 ) -> Result<(), AllocError>
-    requires some { 0 < length quarry.now.setup.entries }
+    requires some { 0 < length target.now.setup.entries }
     requires numbered { from + end < 2 ^ 32 }
     requires room { end + 2 < 2 ^ 32 }
     requires made { made ≤ end }
-    requires taken { HasTaken quarry.now seed from made sums.old }
-    requires parts { AreParts quarry.now seed from end parts.items }
-    ensures { OnOk result (HasTaken quarry.now seed from end sums.new) }
+    requires taken { HasTaken target.now seed from made sums.old }
+    requires parts { AreParts target.now seed from end parts.items }
+    ensures { OnOk result (HasTaken target.now seed from end sums.new) }
 {
     let mut made = made;
     for part in parts {
-        made = take_part(sums, alloc, quarry, seed, from, made, part)?;
+        made = take_part(sums, alloc, target, seed, from, made, part)?;
     }
-    take_runs(sums, alloc, quarry, seed, from, made, end - made)
+    take_runs(sums, alloc, target, seed, from, made, end - made)
 }

@@ -4,18 +4,18 @@ ghost use Rattle.std.specs.Prelude.{[], ◌≡◌, ◌≢◌, ◌≤◌, ◌<◌
 ghost use Rattle.hunt_tally.specs.Reports.{Reported, hunted};
 ghost use Rattle.hunt_command.specs.declared.fault.Fault.{Fault as AFault};
 ghost use Rattle.hunt_command.specs.Words.{spoken, asked, most_made, AreRuns, hunt, each, record_of};
-ghost use Rattle.hunt_command.specs.Hunts.{status_of, is_found, text_by, text_with, TellsHunt, TellsEach, IsNext, MakesRounds};
+ghost use Rattle.hunt_command.specs.Hunts.{status_of, is_found, text_by, text_with, TellsHunt, TellsEach, IsNext, MakesBatches};
 ghost use Rattle.hunt_command.specs.Answers.{Promises, TellsRun, EndsText, EndsBy};
 
+use crate::batch::{Batch, BatchMaker, make_alone};
 use crate::each::tell_each;
 use crate::ending::is_by_steps;
 use crate::fault::{Fault, Status};
 use crate::help::HELP;
 use crate::hunting::hunt_runs;
-use crate::input::Quarry;
+use crate::input::Target;
 use crate::progress::Progress;
-use crate::quarry::read_quarry;
-use crate::team::{Round, Team, make_alone};
+use crate::target::read_target;
 use crate::threads::{cores_of, make_on_threads};
 use crate::words::{Form, Hunt, Warn, form_of};
 use cell_commands::{Fault as InputFault, Status as InputStatus, write_run};
@@ -107,67 +107,67 @@ fn text_of(
 
 /// Makes the runs of a hunt, and takes their reports in: its text, and whether something was found.
 fn tell_runs<F, P>(
-    team: &Team<F>,
+    maker: &BatchMaker<F>,
     alloc: Global,
-    quarry: &Quarry,
+    target: &Target,
     hunt: &Hunt,
     progress: &mut P,
     sums: &mut Hunted,
 ) -> Result<(Vec<u8>, bool), AllocError>
 where
-    F: Fn(&Quarry, &Hunt, u32, Round, &mut Hunted) -> Result<(), AllocError>,
+    F: Fn(&Target, &Hunt, u32, Batch, &mut Hunted) -> Result<(), AllocError>,
     P: Progress,
-    requires makes { MakesRounds (F.pre team.now.make) (F.post team.now.make) }
-    requires some { 0 < length quarry.now.setup.entries }
+    requires makes { MakesBatches (F.pre maker.now.make) (F.post maker.now.make) }
+    requires some { 0 < length target.now.setup.entries }
     requires within { AreRuns hunt.now.from (most_made hunt.now.runs) }
     requires none { sums.old ≡ hunted [] }
-    ensures { IfOk result (λ told. TellsHunt quarry.now.setup quarry.now.asked (asked hunt.now) (P.stopped progress.new) (status_of told.1) told.0.items) }
+    ensures { IfOk result (λ told. TellsHunt target.now.setup target.now.asked (asked hunt.now) (P.stopped progress.new) (status_of told.1) told.0.items) }
 {
-    hunt_runs(team, quarry, hunt, progress, sums)?;
-    let text = text_of(alloc, &quarry.asked.places, sums, hunt)?;
+    hunt_runs(maker, target, hunt, progress, sums)?;
+    let text = text_of(alloc, &target.asked.places, sums, hunt)?;
     Ok((text, is_found(hunt.warn, sums)))
 }
 
 /// The text of a hunt, and whether something was found.
 fn tell_hunt<F, P>(
-    team: &Team<F>,
+    maker: &BatchMaker<F>,
     alloc: Global,
-    quarry: &Quarry,
+    target: &Target,
     hunt: &Hunt,
     progress: &mut P,
 ) -> Result<(Vec<u8>, bool), AllocError>
 where
-    F: Fn(&Quarry, &Hunt, u32, Round, &mut Hunted) -> Result<(), AllocError>,
+    F: Fn(&Target, &Hunt, u32, Batch, &mut Hunted) -> Result<(), AllocError>,
     P: Progress,
-    requires makes { MakesRounds (F.pre team.now.make) (F.post team.now.make) }
-    requires some { 0 < length quarry.now.setup.entries }
+    requires makes { MakesBatches (F.pre maker.now.make) (F.post maker.now.make) }
+    requires some { 0 < length target.now.setup.entries }
     requires within { AreRuns hunt.now.from (most_made hunt.now.runs) }
-    ensures { IfOk result (λ told. TellsHunt quarry.now.setup quarry.now.asked (asked hunt.now) (P.stopped progress.new) (status_of told.1) told.0.items) }
+    ensures { IfOk result (λ told. TellsHunt target.now.setup target.now.asked (asked hunt.now) (P.stopped progress.new) (status_of told.1) told.0.items) }
 {
     let mut sums = Hunted::new(alloc);
-    tell_runs(team, alloc, quarry, hunt, progress, &mut sums)
+    tell_runs(maker, alloc, target, hunt, progress, &mut sums)
 }
 
 /// Makes the runs of a hunt, and writes what was found.
 fn write_hunt<F, K, P>(
-    team: &Team<F>,
+    maker: &BatchMaker<F>,
     alloc: Global,
-    quarry: &Quarry,
+    target: &Target,
     hunt: &Hunt,
     out: &mut K,
     progress: &mut P,
 ) -> Status
 where
-    F: Fn(&Quarry, &Hunt, u32, Round, &mut Hunted) -> Result<(), AllocError>,
+    F: Fn(&Target, &Hunt, u32, Batch, &mut Hunted) -> Result<(), AllocError>,
     K: Sink,
     P: Progress,
-    requires makes { MakesRounds (F.pre team.now.make) (F.post team.now.make) }
-    requires some { 0 < length quarry.now.setup.entries }
+    requires makes { MakesBatches (F.pre maker.now.make) (F.post maker.now.make) }
+    requires some { 0 < length target.now.setup.entries }
     requires within { AreRuns hunt.now.from (most_made hunt.now.runs) }
     ensures sink_count { K.faults out.old ≤ K.faults out.new }
-    ensures ends { EndsBy (TellsHunt quarry.now.setup quarry.now.asked (asked hunt.now) (P.stopped progress.new)) (record { taken = K.taken out.old; faults = K.faults out.old }) (record { taken = K.taken out.new; faults = K.faults out.new }) result }
+    ensures ends { EndsBy (TellsHunt target.now.setup target.now.asked (asked hunt.now) (P.stopped progress.new)) (record { taken = K.taken out.old; faults = K.faults out.old }) (record { taken = K.taken out.new; faults = K.faults out.new }) result }
 {
-    match tell_hunt(team, alloc, quarry, hunt, progress) {
+    match tell_hunt(maker, alloc, target, hunt, progress) {
         Ok((text, is_found)) => write_text(text.as_slice(), status_of(is_found), out),
         Err(_) => Status::Refused(Fault::Memory),
     }
@@ -175,7 +175,7 @@ where
 
 /// A hunt: its files are read, its runs are made, and what was found is written.
 fn hunt_form<F, T, K, P>(
-    team: &Team<F>,
+    maker: &BatchMaker<F>,
     alloc: Global,
     wanted: &Hunt,
     files: &mut T,
@@ -183,17 +183,17 @@ fn hunt_form<F, T, K, P>(
     progress: &mut P,
 ) -> Status
 where
-    F: Fn(&Quarry, &Hunt, u32, Round, &mut Hunted) -> Result<(), AllocError>,
+    F: Fn(&Target, &Hunt, u32, Batch, &mut Hunted) -> Result<(), AllocError>,
     T: Store,
     K: Sink,
     P: Progress,
-    requires makes { MakesRounds (F.pre team.now.make) (F.post team.now.make) }
+    requires makes { MakesBatches (F.pre maker.now.make) (F.post maker.now.make) }
     requires within { AreRuns wanted.now.from (most_made wanted.now.runs) }
     ensures { Promises (hunt (asked wanted.now)) (P.stopped progress.new)
         (record { files = T.files files.old; ledger = T.ledger files.old }) (record { files = T.files files.new; ledger = T.ledger files.new })
         (record { taken = K.taken out.old; faults = K.faults out.old }) (record { taken = K.taken out.new; faults = K.faults out.new }) result }
 {
-    match read_quarry(
+    match read_target(
         alloc,
         files,
         wanted.machine,
@@ -201,7 +201,7 @@ where
         wanted.pass,
         wanted.warn.is_on(),
     ) {
-        Ok(quarry) => write_hunt(team, alloc, &quarry, wanted, out, progress),
+        Ok(target) => write_hunt(maker, alloc, &target, wanted, out, progress),
         Err(fault) => Status::Refused(fault),
     }
 }
@@ -241,8 +241,8 @@ fn each_form<T: Store, K: Sink>(
         (record { files = T.files files.old; ledger = T.ledger files.old }) (record { files = T.files files.new; ledger = T.ledger files.new })
         (record { taken = K.taken out.old; faults = K.faults out.old }) (record { taken = K.taken out.new; faults = K.faults out.new }) result }
 {
-    match read_quarry(alloc, files, machine, None, None, false) {
-        Ok(quarry) => write_each(alloc, &quarry.setup, from, runs, seed, out),
+    match read_target(alloc, files, machine, None, None, false) {
+        Ok(target) => write_each(alloc, &target.setup, from, runs, seed, out),
         Err(fault) => Status::Refused(fault),
     }
 }
@@ -276,15 +276,15 @@ fn record_form<T: Store, K: Sink>(
         (record { files = T.files files.old; ledger = T.ledger files.old }) (record { files = T.files files.new; ledger = T.ledger files.new })
         (record { taken = K.taken out.old; faults = K.faults out.old }) (record { taken = K.taken out.new; faults = K.faults out.new }) result }
 {
-    match read_quarry(alloc, files, machine, None, None, false) {
-        Ok(quarry) => write_record(alloc, &quarry.setup, run, seed, out),
+    match read_target(alloc, files, machine, None, None, false) {
+        Ok(target) => write_record(alloc, &target.setup, run, seed, out),
         Err(fault) => Status::Refused(fault),
     }
 }
 
-/// Does what the words ask for, with a team that makes the runs of a hunt.
+/// Does what the words ask for, with a maker that makes the runs of a hunt.
 fn hunt_with<F, T, K, P>(
-    team: &Team<F>,
+    maker: &BatchMaker<F>,
     alloc: Global,
     words: &[String],
     files: &mut T,
@@ -292,17 +292,17 @@ fn hunt_with<F, T, K, P>(
     progress: &mut P,
 ) -> Status
 where
-    F: Fn(&Quarry, &Hunt, u32, Round, &mut Hunted) -> Result<(), AllocError>,
+    F: Fn(&Target, &Hunt, u32, Batch, &mut Hunted) -> Result<(), AllocError>,
     T: Store,
     K: Sink,
     P: Progress,
-    requires makes { MakesRounds (F.pre team.now.make) (F.post team.now.make) }
+    requires makes { MakesBatches (F.pre maker.now.make) (F.post maker.now.make) }
     ensures { Promises (spoken (map string_bytes words.now)) (P.stopped progress.new)
         (record { files = T.files files.old; ledger = T.ledger files.old }) (record { files = T.files files.new; ledger = T.ledger files.new })
         (record { taken = K.taken out.old; faults = K.faults out.old }) (record { taken = K.taken out.new; faults = K.faults out.new }) result }
 {
     match form_of(words) {
-        Form::Hunt(hunt) => hunt_form(team, alloc, &hunt, files, out, progress),
+        Form::Hunt(hunt) => hunt_form(maker, alloc, &hunt, files, out, progress),
         Form::Each {
             machine,
             from,
@@ -329,13 +329,13 @@ pub fn hunt<R: Threads + Sync, T: Store, K: Sink, P: Progress>(
         (record { files = T.files files.old; ledger = T.ledger files.old }) (record { files = T.files files.new; ledger = T.ledger files.new })
         (record { taken = K.taken out.old; faults = K.faults out.old }) (record { taken = K.taken out.new; faults = K.faults out.new }) result }
 {
-    let team = Team {
+    let maker = BatchMaker {
         cores: cores_of(rt),
-        make: |quarry: &Quarry, hunt: &Hunt, made: u32, round: Round, sums: &mut Hunted|
-            requires { IsNext quarry.now hunt.now made round sums.old }
-        { make_on_threads(rt, alloc, quarry, hunt, made, round, sums) },
+        make: |target: &Target, hunt: &Hunt, made: u32, batch: Batch, sums: &mut Hunted|
+            requires { IsNext target.now hunt.now made batch sums.old }
+        { make_on_threads(rt, alloc, target, hunt, made, batch, sums) },
     };
-    hunt_with(&team, alloc, words, files, out, progress)
+    hunt_with(&maker, alloc, words, files, out, progress)
 }
 
 /// The same without threads: the caller makes all runs, whatever `--jobs` says.
@@ -350,11 +350,11 @@ pub fn hunt_quiet<T: Store, K: Sink, P: Progress>(
         (record { files = T.files files.old; ledger = T.ledger files.old }) (record { files = T.files files.new; ledger = T.ledger files.new })
         (record { taken = K.taken out.old; faults = K.faults out.old }) (record { taken = K.taken out.new; faults = K.faults out.new }) result }
 {
-    let team = Team {
+    let maker = BatchMaker {
         cores: 1,
-        make: |quarry: &Quarry, hunt: &Hunt, made: u32, round: Round, sums: &mut Hunted|
-            requires { IsNext quarry.now hunt.now made round sums.old }
-        { make_alone(alloc, quarry, hunt, made, round, sums) },
+        make: |target: &Target, hunt: &Hunt, made: u32, batch: Batch, sums: &mut Hunted|
+            requires { IsNext target.now hunt.now made batch sums.old }
+        { make_alone(alloc, target, hunt, made, batch, sums) },
     };
-    hunt_with(&team, alloc, words, files, out, progress)
+    hunt_with(&maker, alloc, words, files, out, progress)
 }

@@ -4,7 +4,7 @@ ghost use Rattle.std.specs.Prelude.{◌≡◌, Bool, IsTrue, not};
 
 use hunt_tally::Hunted;
 
-/// Somebody who looks on, and may end the hunt between two rounds.
+/// Somebody who looks on, and may end the hunt between two batches.
 pub trait Progress {
     /// Whether it has said that the hunt is to end.
     ghost stopped: { Self → Bool };
@@ -13,7 +13,7 @@ pub trait Progress {
     fn share(&mut self) -> u32
         ensures { stopped self.new ≡ stopped self.old };
 
-    /// Whether more runs are to be made. It is asked between two rounds, and where it says no the hunt ends with the runs that were made.
+    /// Whether more runs are to be made. It is asked between two batches, and where it says no the hunt ends with the runs that were made.
     fn goes_on(&mut self) -> bool
         ensures says { result ≡ not (stopped self.new) }
         ensures stays { IsTrue (stopped self.old) → IsTrue (stopped self.new) };

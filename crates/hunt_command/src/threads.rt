@@ -1,12 +1,12 @@
 //! The runs of a hunt, on threads.
 
 ghost use Rattle.std.specs.Prelude.{◌<◌, ◌+◌, ◌^◌, ℕ, length, IfOk, OnOk};
-ghost use Rattle.hunt_command.specs.declared.input.Quarry.{Quarry as AQuarry};
+ghost use Rattle.hunt_command.specs.declared.input.Target.{Target as ATarget};
 ghost use Rattle.hunt_command.specs.Hunts.{IsNext, HasTaken, AreParts, GaveParts};
 
-use crate::input::Quarry;
+use crate::batch::{Batch, make_alone};
+use crate::input::Target;
 use crate::parts::{Part, make_parts, take_parts};
-use crate::team::{Round, make_alone};
 use crate::words::Hunt;
 use hunt_tally::Hunted;
 use std::alloc::{AllocError, Global};
@@ -21,28 +21,28 @@ pub fn cores_of<R: Threads>(rt: &R) -> u32 {
     }
 }
 
-/// What the threads tell that make the runs of a round, after those that were made.
+/// What the threads tell that make the runs of a batch, after those that were made.
 fn make_on_each<R: Threads + Sync>(
     rt: &R,
     alloc: Global,
-    quarry: &Quarry,
+    target: &Target,
     seed: u64,
     from: u32,
     made: u32,
-    round: Round,
+    batch: Batch,
 ) -> Result<Vec<Result<Vec<Part>, AllocError>>, AllocError>
-    requires some { 0 < length quarry.now.setup.entries }
-    requires numbered { from + (made + round.runs) < 2 ^ 32 }
-    requires room { made + round.runs + 2 < 2 ^ 32 }
-    ensures { IfOk result (λ told. GaveParts quarry.now seed from (made + round.runs) told.items) }
+    requires some { 0 < length target.now.setup.entries }
+    requires numbered { from + (made + batch.runs) < 2 ^ 32 }
+    requires room { made + batch.runs + 2 < 2 ^ 32 }
+    ensures { IfOk result (λ told. GaveParts target.now seed from (made + batch.runs) told.items) }
 {
     let taken = AtomicU32::new(made);
-    let end = made + round.runs;
+    let end = made + batch.runs;
     map_indices(
         rt,
         alloc,
-        round.jobs as usize,
-        &|_job| make_parts(alloc, quarry, seed, from, end, round.jobs, &taken),
+        batch.jobs as usize,
+        &|_job| make_parts(alloc, target, seed, from, end, batch.jobs, &taken),
     )
 }
 
@@ -51,7 +51,7 @@ fn all_parts(
     alloc: Global,
     told: Vec<Result<Vec<Part>, AllocError>>,
 ) -> Result<Vec<Part>, AllocError>
-    ensures { IfOk result (λ parts. (quarry : AQuarry) (seed from end : ℕ) → GaveParts quarry seed from end told.items → AreParts quarry seed from end parts.items) }
+    ensures { IfOk result (λ parts. (target : ATarget) (seed from end : ℕ) → GaveParts target seed from end told.items → AreParts target seed from end parts.items) }
 {
     let mut parts = Vec::new(alloc);
     for made in told {
@@ -61,24 +61,24 @@ fn all_parts(
     Ok(parts)
 }
 
-/// Makes the runs of a round, after those that were made, on threads, and takes their reports in. One thread needs no parts.
+/// Makes the runs of a batch, after those that were made, on threads, and takes their reports in. One thread needs no parts.
 pub fn make_on_threads<R: Threads + Sync>(
     rt: &R,
     alloc: Global,
-    quarry: &Quarry,
+    target: &Target,
     hunt: &Hunt,
     made: u32,
-    round: Round,
+    batch: Batch,
     sums: &mut Hunted,
 ) -> Result<(), AllocError>
-    requires { IsNext quarry.now hunt.now made round sums.old }
-    ensures { OnOk result (HasTaken quarry.now hunt.now.seed hunt.now.from (made + round.runs) sums.new) }
+    requires { IsNext target.now hunt.now made batch sums.old }
+    ensures { OnOk result (HasTaken target.now hunt.now.seed hunt.now.from (made + batch.runs) sums.new) }
 {
-    if round.jobs == 1 {
-        return make_alone(alloc, quarry, hunt, made, round, sums);
+    if batch.jobs == 1 {
+        return make_alone(alloc, target, hunt, made, batch, sums);
     }
-    let told = make_on_each(rt, alloc, quarry, hunt.seed, hunt.from, made, round)?;
+    let told = make_on_each(rt, alloc, target, hunt.seed, hunt.from, made, batch)?;
     let parts = all_parts(alloc, told)?;
-    let end = made + round.runs;
-    take_parts(sums, alloc, quarry, hunt.seed, hunt.from, made, end, parts)
+    let end = made + batch.runs;
+    take_parts(sums, alloc, target, hunt.seed, hunt.from, made, end, parts)
 }

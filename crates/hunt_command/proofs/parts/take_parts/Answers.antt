@@ -5,16 +5,16 @@ use Rattle.hunt_command.proofs.parts.take_parts.Goals as goal
 use Rattle.hunt_command.proofs.parts.take_parts.Goals.{In-Some}
 
 -- what is told of the part that comes next
-part_is : (c : In-Some) → IsPart c.args.quarry.now c.args.seed c.args.from c.args.end c.in-Some.part
+part_is : (c : In-Some) → IsPart c.args.target.now c.args.seed c.args.from c.args.end c.in-Some.part
 part_is c =
-    let is = IsPart c.args.quarry.now c.args.seed c.args.from c.args.end in
+    let is = IsPart c.args.target.now c.args.seed c.args.from c.args.end in
     let rest = c.next.new.self.rest.items in
     All-head is c.in-Some.part rest (All-same is (c.in-Some.part ∷ rest) c.loop-part.part-iterator.rest.items (sym c.in-Some.ensures.steps.0) c.loop-part.invariant.left)
 
 -- and of those behind it
-left : (c : In-Some) → AreParts c.args.quarry.now c.args.seed c.args.from c.args.end c.next.new.self.rest.items
+left : (c : In-Some) → AreParts c.args.target.now c.args.seed c.args.from c.args.end c.next.new.self.rest.items
 left c =
-    All-rest (IsPart c.args.quarry.now c.args.seed c.args.from c.args.end) c.in-Some.part c.next.new.self.rest.items c.loop-part.part-iterator.rest.items c.in-Some.ensures.steps.0 c.loop-part.invariant.left
+    All-rest (IsPart c.args.target.now c.args.seed c.args.from c.args.end) c.in-Some.part c.next.new.self.rest.items c.loop-part.part-iterator.rest.items c.in-Some.ensures.steps.0 c.loop-part.invariant.left
 
 pub take_part-requires-clause-numbered : goal.take_part-requires-clause-numbered
 take_part-requires-clause-numbered c = let within = (part_is (goal.at.take_part-requires-clause-numbered c).In-Some).within in omega (arith, within, c.requires.numbered)

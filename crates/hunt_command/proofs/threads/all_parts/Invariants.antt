@@ -1,5 +1,5 @@
 use Rattle.std.proofs.Common.{ℕ}
-use Rattle.hunt_command.specs.declared.input.Quarry.{Quarry}
+use Rattle.hunt_command.specs.declared.input.Target.{Target}
 use Rattle.hunt_command.specs.Hunts.{AreParts, GaveParts}
 use Rattle.hunt_command.proofs.threads.all_parts.Given as goal
 
@@ -8,6 +8,6 @@ abbrev pub invariant-loop-made : goal.invariant-loop-made
 invariant-loop-made l = record {
   can : (goal.iterator-loop-made).can_next l.made-iterator;
   finite : (goal.iterator-loop-made).is_finite l.made-iterator;
-  left : (quarry : Quarry) (seed from end : ℕ) → GaveParts quarry seed from end l.fn.told.items → GaveParts quarry seed from end l.made-iterator.rest.items;
-  are : (quarry : Quarry) (seed from end : ℕ) → GaveParts quarry seed from end l.fn.told.items → AreParts quarry seed from end l.parts.items;
+  left : (target : Target) (seed from end : ℕ) → GaveParts target seed from end l.fn.told.items → GaveParts target seed from end l.made-iterator.rest.items;
+  are : (target : Target) (seed from end : ℕ) → GaveParts target seed from end l.fn.told.items → AreParts target seed from end l.parts.items;
 }

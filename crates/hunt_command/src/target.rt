@@ -1,4 +1,4 @@
-//! What the files that the words name stand for.
+//! The target of a hunt, read from the files that the words name.
 
 ghost use Rattle.std.specs.Prelude.{◌≡◌, ◌<◌, length, IfOk, IfErr, OnOk};
 ghost use Rattle.std.specs.Option.{ForSome};
@@ -7,7 +7,7 @@ ghost use Rattle.hunt_command.specs.Heard.{texts_of};
 ghost use Rattle.hunt_command.specs.Files.{Comes, FailsBy, IsOfFiles, ExpectedComes, PassedComes, FileFailsBy};
 
 use crate::fault::{Fault, FileId};
-use crate::input::{Quarry, read_expectation, read_machine, read_pass};
+use crate::input::{Target, read_expectation, read_machine, read_pass};
 use cell_io::Store;
 use cell_machine::Setup;
 use hunt_reports::{Asked, Places};
@@ -32,7 +32,7 @@ fn expected_by<T: Store>(
     }
 }
 
-/// The keys of the races that are left out, if there is a suppressions file.
+/// The keys of the suppressed races: none without a suppressions file.
 fn passed_by<T: Store>(
     alloc: Global,
     files: &mut T,
@@ -53,16 +53,16 @@ fn passed_by<T: Store>(
     }
 }
 
-/// What is hunted: the machine file and its sources are read, then the expectation file, then the pass file. `warns` tells whether warnings are
-/// looked for.
-pub fn read_quarry<T: Store>(
+/// The target of a hunt: reads the machine file and its sources, then the expectation file, then the suppressions file. With `warns` each run is
+/// searched for warnings, too.
+pub fn read_target<T: Store>(
     alloc: Global,
     files: &mut T,
     machine: &str,
     expect: Option<&str>,
     pass: Option<&str>,
     warns: bool,
-) -> Result<Quarry, Fault>
+) -> Result<Target, Fault>
     ensures same { T.files files.new ≡ T.files files.old }
     ensures store_count { NoneFell (T.ledger files.old) (T.ledger files.new) }
     ensures some { IfOk result (λ q. 0 < length q.setup.entries) }
@@ -74,7 +74,7 @@ pub fn read_quarry<T: Store>(
     let (setup, places) = read_machine(alloc, files, machine)?;
     let expected = expected_by(alloc, files, expect)?;
     let passed = passed_by(alloc, files, pass, &setup, &places)?;
-    Ok(Quarry {
+    Ok(Target {
         setup,
         asked: Asked {
             places,

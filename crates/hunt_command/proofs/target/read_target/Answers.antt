@@ -2,7 +2,7 @@ use Rattle.std.proofs.Common.{refl, ◌∙◌}
 use Rattle.std.proofs.lemmas.Result.{err_from_is_err_and}
 use Rattle.hunt_command.specs.Heard.{texts_of}
 use Rattle.hunt_command.proofs.FilesLaws.{expected_cause, passed_cause, expected_refuses, passed_refuses, expects, passes}
-use Rattle.hunt_command.proofs.quarry.read_quarry.Goals as goal
+use Rattle.hunt_command.proofs.target.read_target.Goals as goal
 
 pub returns-in_err-expected-clause-cause : goal.returns-in_err-expected-clause-cause
 returns-in_err-expected-clause-cause g c =
