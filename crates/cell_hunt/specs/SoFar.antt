@@ -3,6 +3,7 @@ use Rattle.std.specs.Prelude.{ℕ, ◌<◌, List, length, Option, Some, None, Al
 use Rattle.std.specs.List.{AllPairs}
 use Rattle.cell_machine.specs.Run.{Ran}
 use Rattle.lost_values.specs.Keeping.{Knows as KnowsLosses}
+use Rattle.unwritten_reads.specs.Keeping.{Knows as KnowsUnwritten}
 use Rattle.race_check.specs.Races.{IsLeast}
 use Rattle.race_check.specs.Searches.{Keeps, run_of}
 use Rattle.race_check.specs.Walks.{RaceIn}
@@ -37,8 +38,8 @@ pub record AreEndingsTo (n : ℕ) (m : Ran) (endings : List Ended) : Type 0 wher
   pub all : (place : ℕ) → place < n → EndsAt m place → HasEnding endings place
   pub ascend : AllPairs (λ a b. a.step < b.step) endings
 
--- the search can go on, and what is kept has where the steps so far come from, what they touched, with which of them processors end, which values they lose, and the races of the
--- first n
+-- the search can go on, and what is kept has where the steps so far come from, what they touched, with which of them processors end, which values they lose, which of them read
+-- unwritten bytes, and the races of the first n
 pub record IsSearchedTo (n : ℕ) (so_far : SoFar) : Type 0 where
   pub keeps : Keeps so_far.search
   pub knows : Knows (made_by so_far) so_far.origins
@@ -47,3 +48,4 @@ pub record IsSearchedTo (n : ℕ) (so_far : SoFar) : Type 0 where
   pub touched : HasTouched (made_by so_far) so_far.touched
   pub endings : AreEndingsTo (length (made_by so_far).steps) (made_by so_far) so_far.endings.items
   pub losses : KnowsLosses (made_by so_far) so_far.losses
+  pub unwritten : KnowsUnwritten (made_by so_far) so_far.unwritten_reads

@@ -3,6 +3,7 @@
 ghost use Rattle.std.specs.Prelude.{◌≡◌, ◌<◌, [], length, Some, IfOk, OnOk};
 ghost use Rattle.cell_machine.specs.Run.{Ran, EndsAs};
 ghost use Rattle.lost_values.specs.Losses.{AreAllLosses};
+ghost use Rattle.unwritten_reads.specs.Reads.{AreAllUnwritten};
 ghost use Rattle.race_check.specs.declared.check.Verdict.{Verdict as AVerdict};
 ghost use Rattle.race_check.specs.Races.{IsVerdict};
 ghost use Rattle.cell_hunt.specs.Endings.{AreAllEndings};
@@ -28,6 +29,7 @@ use cell_machine::{End, Machine, Setup};
 use lost_values::Loss;
 use std::alloc::Global;
 use std::marker::Model;
+use unwritten_reads::Unwritten;
 
 /// A run of a seed, to its end or to the end of its budget, that was searched for races. To a contract it is the run.
 #[derive(Drop)]
@@ -38,6 +40,7 @@ pub struct SeedRun {
     endings: Vec<Ended>,
     executed: Vec<Executed>,
     losses: Vec<Loss>,
+    unwritten_reads: Vec<Unwritten>,
     origins: Origins,
     kind: u64,
 }
@@ -56,8 +59,9 @@ impl Model for SeedRun {
     ghost use Rattle.cell_hunt.specs.Kinds.{kind_of};
     ghost use Rattle.cell_hunt.specs.Origins.{Knows};
     ghost use Rattle.lost_values.specs.Losses.{AreAllLosses};
+    ghost use Rattle.unwritten_reads.specs.Reads.{AreAllUnwritten};
 
-    ghost invariant = { λ r. IsSearched r.machine r.least r.races.items × (r.kind ≡ kind_of r.machine) × AreAllEndings r.machine r.endings.items × (r.executed.items ≡ executed_in r.machine) × AreAllLosses r.machine r.losses.items × Knows r.machine r.origins };
+    ghost invariant = { λ r. IsSearched r.machine r.least r.races.items × (r.kind ≡ kind_of r.machine) × AreAllEndings r.machine r.endings.items × (r.executed.items ≡ executed_in r.machine) × AreAllLosses r.machine r.losses.items × AreAllUnwritten r.machine r.unwritten_reads.items × Knows r.machine r.origins };
 }
 
 impl SeedRun {
@@ -114,6 +118,14 @@ impl SeedRun {
         self.losses.as_slice()
     }
 
+    /// Its unwritten reads, in their order: steps that read bytes of a local store that the machine file didn't place and that no earlier step
+    /// wrote or read. A load is one only if that is so of all 16 bytes.
+    pub fn unwritten_reads(&self) -> &[Unwritten]
+        ensures { AreAllUnwritten self.now result.now }
+    {
+        self.unwritten_reads.as_slice()
+    }
+
     /// The site of its step at a place, counted from 0.
     pub fn site(&self, place: u32) -> Site
         requires { place < length self.now.steps }
@@ -163,6 +175,7 @@ pub fn run_of_seed(alloc: Global, setup: &Setup, seed: u64, run: u32) -> Result<
     let kind = so_far.touched.kind();
     let executed = so_far.touched.into_executed();
     let losses = so_far.losses.finish()?;
+    let unwritten_reads = so_far.unwritten_reads.finish();
     Ok(SeedRun {
         machine: so_far.search.into_machine(),
         least: so_far.least,
@@ -170,6 +183,7 @@ pub fn run_of_seed(alloc: Global, setup: &Setup, seed: u64, run: u32) -> Result<
         endings: so_far.endings,
         executed,
         losses,
+        unwritten_reads,
         origins: so_far.origins,
         kind,
     })

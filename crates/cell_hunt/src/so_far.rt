@@ -20,6 +20,7 @@ use cell_machine::{Effect, Note, Setup};
 use lost_values::Losses;
 use race_check::Search;
 use std::alloc::Global;
+use unwritten_reads::UnwrittenReads;
 
 /// A run as it is made, and what is known of it so far.
 #[derive(Drop)]
@@ -31,6 +32,7 @@ pub struct SoFar {
     pub touched: Touched,
     pub endings: Vec<Ended>,
     pub losses: Losses,
+    pub unwritten_reads: UnwrittenReads,
 }
 
 impl SoFar {
@@ -43,6 +45,7 @@ impl SoFar {
         ensures searched { IfOk result (IsSearchedTo 0) }
     {
         let search = Search::new(alloc, setup, 0)?;
+        let unwritten_reads = UnwrittenReads::new(alloc, setup)?;
         Ok(SoFar {
             search,
             origins: Origins::new(alloc),
@@ -51,6 +54,7 @@ impl SoFar {
             touched: Touched::new(alloc, setup.lines()),
             endings: Vec::new(alloc),
             losses: Losses::new(alloc),
+            unwritten_reads,
         })
     }
 
@@ -122,6 +126,8 @@ impl SoFar {
             .add(self.search.machine(), step, effect, place)?;
         self.touched.add(step, effect)?;
         self.losses.add(self.search.machine(), step, effect, place)?;
+        self.unwritten_reads
+            .add(self.search.machine(), step, effect, place)?;
         let latest = self.search.go_on(step, effect)?;
         self.add_ending(effect.note, place)?;
         let Some(latest) = latest else {

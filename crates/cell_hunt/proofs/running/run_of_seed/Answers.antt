@@ -10,6 +10,7 @@ use Rattle.cell_hunt.specs.Origins.{Knows}
 use Rattle.cell_hunt.specs.Racings.{IsSearched}
 use Rattle.cell_hunt.specs.SoFar.{made_by}
 use Rattle.lost_values.specs.Losses.{AreAllLosses}
+use Rattle.unwritten_reads.specs.Reads.{AreAllUnwritten}
 use Rattle.race_check.proofs.Accepted.{search-told}
 use Rattle.cell_hunt.proofs.AllEndings.{all-endings}
 use Rattle.cell_hunt.proofs.AllRaces.{all-races, least-race}
@@ -23,12 +24,13 @@ invariant_of-result c =
     let m = made_by so_far in
     let searched = c.in_ok-make_all.ensures.searched in
     let is = search-told so_far.search searched.keeps in
-    subst (λ r. IsSearched r so_far.least so_far.races.items × (c.kind-kind.result ≡ kind_of r) × AreAllEndings r so_far.endings.items × (c.into_executed-executed.result.items ≡ executed_in r) × AreAllLosses r c.in_ok-losses.losses.items × Knows r so_far.origins) (sym c.into_machine.ensures) (
+    subst (λ r. IsSearched r so_far.least so_far.races.items × (c.kind-kind.result ≡ kind_of r) × AreAllEndings r so_far.endings.items × (c.into_executed-executed.result.items ≡ executed_in r) × AreAllLosses r c.in_ok-losses.losses.items × AreAllUnwritten r c.finish-unwritten_reads.result.items × Knows r so_far.origins) (sym c.into_machine.ensures) (
       record { over = c.in_ok-make_all.ensures.over; is_least = least-race m is so_far.least searched.least; are_all = all-races m is so_far.races.items searched.all },
       c.kind-kind.ensures ∙ kind_is m so_far.touched searched.touched,
       all-endings m so_far.endings.items searched.endings,
       ap (λ (v : Vec Executed Global). v.items) c.into_executed-executed.ensures ∙ searched.touched.executed,
       c.in_ok-losses.ensures m searched.losses,
+      c.finish-unwritten_reads.ensures m searched.unwritten,
       searched.knows,
     )
 

@@ -1,5 +1,6 @@
 use Rattle.std.proofs.Common.{length, refl, sym, subst}
 use Rattle.lost_values.specs.Keeping.{Knows as KnowsLosses}
+use Rattle.unwritten_reads.specs.Keeping.{Knows as KnowsUnwritten}
 use Rattle.race_check.specs.Races.{IsLatest}
 use Rattle.race_check.specs.Searches.{Keeps}
 use Rattle.race_check.specs.Walks.{RaceIn}
@@ -29,4 +30,5 @@ returns-clause-searched c =
       touched = subst (λ (s : SoFar). HasTouched (made_by s) s.touched) same c.requires.searched.touched;
       endings = subst (λ (s : SoFar). AreEndingsTo (length (made_by s).steps) (made_by s) s.endings.items) same c.requires.searched.endings;
       losses = subst (λ (s : SoFar). KnowsLosses (made_by s) s.losses) same c.requires.searched.losses;
+      unwritten = subst (λ (s : SoFar). KnowsUnwritten (made_by s) s.unwritten_reads) same c.requires.searched.unwritten;
     }

@@ -1,8 +1,9 @@
 use Rattle.std.proofs.Common.{◌≡◌, ◌+◌, length, None, sym, ap, ◌∙◌, subst, [], ◌∷◌, ◌++◌, length-append}
 use Rattle.cell_machine.specs.Run.{Ran}
 use Rattle.lost_values.specs.Keeping.{Knows as KnowsLosses}
+use Rattle.unwritten_reads.specs.Keeping.{Knows as KnowsUnwritten}
 use Rattle.race_check.specs.Races.{TellsLatest}
-use Rattle.race_check.specs.Searches.{Keeps, run_of}
+use Rattle.race_check.specs.Searches.{run_of}
 use Rattle.race_check.specs.Walks.{RaceIn}
 use Rattle.race_check.proofs.Accepted.{search-told}
 use Rattle.cell_hunt.specs.declared.so_far.SoFar.{SoFar}
@@ -34,7 +35,7 @@ add_ending-requires-clause-endings c =
 
 -- after the step, whatever endings are kept: before its races are taken in
 abbrev after : In_ok-add_ending → SoFar
-after c = record c.args.self.now { search = c.go_on.new.self; origins = c.add.new.self; touched = c.add-2.new.self; endings = c.add_ending.new.self.endings; losses = c.add-3.new.self }
+after c = record c.args.self.now { search = c.go_on.new.self; origins = c.add.new.self; touched = c.add-2.new.self; endings = c.add_ending.new.self.endings; losses = c.add-3.new.self; unwritten_reads = c.add-4.new.self }
 
 touched : (c : In_ok-add_ending) → HasTouched (run_of c.go_on.new.self) c.add-2.new.self
 touched c =
@@ -70,6 +71,7 @@ searched c =
       touched = touched c;
       endings = subst (λ k. AreEndingsTo k n c.add_ending.new.self.endings.items) (sym (count c)) c.in_ok-add_ending.ensures.endings;
       losses = subst (λ r. KnowsLosses r c.add-3.new.self) (ap (λ (r : Ran). with_step r c.args.step) c.machine-2.ensures ∙ sym made) c.in_ok-add-3.ensures;
+      unwritten = subst (λ r. KnowsUnwritten r c.add-4.new.self) (ap (λ (r : Ran). with_step r c.args.step) c.machine-3.ensures ∙ sym made) c.in_ok-add-4.ensures;
     } in
     subst (IsSearchedTo c.args.place) (sym c.in_ok-add_ending.ensures.rest) so_far
 
@@ -87,6 +89,7 @@ returns-in_default-clause-searched c =
       touched = so_far.touched;
       endings = so_far.endings;
       losses = so_far.losses;
+      unwritten = so_far.unwritten;
     }
 
 pub add_race-requires-clause-searched : goal.add_race-requires-clause-searched

@@ -1,0 +1,5 @@
+pub mod Reads
+pub mod Ranges
+pub mod Marks
+pub mod ByMarks
+pub mod Keeping
