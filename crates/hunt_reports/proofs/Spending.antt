@@ -1,5 +1,5 @@
 -- The writers of what processors poll are steps of the run, and a run that is no livelock has a last change.
-use Rattle.std.proofs.Common.{◌≡◌, ℕ, zero, suc, ◌≤◌, ◌<◌, Bool, false, true≢false, List, [], ◌∷◌, length, map, refl, sym, ap, ◌∙◌, arith, Option, Some, None, subst}
+use Rattle.std.proofs.Common.{◌≡◌, ℕ, zero, suc, ◌≤◌, ◌<◌, Bool, false, true≢false, List, [], ◌∷◌, length, map, sym, ap, ◌∙◌, arith, Option, Some, None, subst}
 use Rattle.std.proofs.lemmas.List.{length-map}
 use Rattle.std.specs.Prelude.{◌==◌, ◌||◌, ◌-◌, IfSome, not, option_and_then, option_map}
 use Rattle.std.specs.Option.{option_map_or}

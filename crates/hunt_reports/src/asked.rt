@@ -11,6 +11,6 @@ pub struct Asked {
     pub expected: Vec<Vec<u8>>,
     /// The keys of races that are left out.
     pub passed: Vec<Vec<u8>>,
-    /// Whether lost values are reported.
+    /// Whether lost values and reads of unwritten bytes are reported.
     pub warns: bool,
 }

@@ -60,7 +60,7 @@ pub fn put_step_line(
 }
 
 /// Writes the line of a step.
-fn put_site_line(out: &mut Vec<u8>, places: &Places, site: Site) -> Result<(), AllocError>
+pub fn put_site_line(out: &mut Vec<u8>, places: &Places, site: Site) -> Result<(), AllocError>
     ensures { OnOk result (out.new.items ≡ out.old.items ++ site_line places.now site) }
 {
     put_step_line(out, places, site, b"")

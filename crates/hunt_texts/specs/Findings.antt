@@ -6,7 +6,7 @@ use Rattle.cell_base.specs.Records.{line_feed}
 use Rattle.hunt_tally.specs.Tallies.{Told, told_in}
 use Rattle.hunt_tally.specs.Reports.{Sums}
 use Rattle.hunt_texts.specs.declared.finding.Finding.{Finding}
-use Rattle.hunt_texts.specs.declared.finding.Finding.TheVariants.{Race, Halt, Fault, Deadlock, Livelock, Missed, Budget, LostSignal, UnreadPutllc, UnreadTags}
+use Rattle.hunt_texts.specs.declared.finding.Finding.TheVariants.{Race, Halt, Fault, Deadlock, Livelock, Missed, Budget, LostSignal, UnreadPutllc, UnreadTags, UnwrittenBytes}
 use Rattle.hunt_texts.specs.Numbers.{word_text, units_text, runs_text, first_text}
 use Rattle.hunt_texts.specs.About.{Facts}
 use Rattle.hunt_texts.specs.Commands.{command_line}
@@ -27,6 +27,7 @@ kind_word Budget = codes "budget"
 kind_word LostSignal = codes "lost-signal"
 kind_word UnreadPutllc = codes "unread-putllc"
 kind_word UnreadTags = codes "unread-tags"
+kind_word UnwrittenBytes = codes "unwritten-bytes"
 
 abbrev pub is_of_kind : Finding → Told → Bool
 is_of_kind kind t = bytes_eq (key_word t.key) (kind_word kind)
@@ -44,7 +45,7 @@ failures_in findings =
     of_kind Race findings ++ of_kind Halt findings ++ of_kind Fault findings ++ of_kind Deadlock findings ++ of_kind Livelock findings ++ of_kind Missed findings ++ of_kind Budget findings
 
 abbrev pub warnings_in : List Told → List Found
-warnings_in warnings = of_kind LostSignal warnings ++ of_kind UnreadPutllc warnings ++ of_kind UnreadTags warnings
+warnings_in warnings = of_kind LostSignal warnings ++ of_kind UnreadPutllc warnings ++ of_kind UnreadTags warnings ++ of_kind UnwrittenBytes warnings
 
 -- by kind, and within a kind in the order of the tally
 abbrev pub by_kind : List Told → List Told → List Found
@@ -63,6 +64,7 @@ kind_words Budget = codes "spent budget"
 kind_words LostSignal = codes "warning: lost signal"
 kind_words UnreadPutllc = codes "warning: unread status of a PUTLLC"
 kind_words UnreadTags = codes "warning: unread tag status"
+kind_words UnwrittenBytes = codes "warning: bytes that nothing wrote"
 
 -- how many of all runs have it, and the number of the first one
 unfoldable pub share_text : ℕ → ℕ → ℕ → List ℕ
@@ -75,6 +77,10 @@ why_line purpose a run = command_line purpose a (codes "race") run
 abbrev pub debug_line : Facts → ℕ → List ℕ
 debug_line a run = command_line (codes "  backwards from its end: ") a (codes "debug") run
 
+-- a run with a warning need not end badly, and then the debugger opens it at its beginning
+abbrev pub stepping_line : Facts → ℕ → List ℕ
+stepping_line a run = command_line (codes "  step through this run: ") a (codes "debug") run
+
 unfoldable pub ended_lines : Facts → ℕ → List ℕ
 ended_lines a run = why_line (codes "  why: ") a run ++ debug_line a run
 
@@ -86,9 +92,10 @@ advice_lines a Deadlock run = ended_lines a run
 advice_lines a Livelock run = ended_lines a run
 advice_lines a Missed run = command_line (codes "  the states of this run: ") a (codes "states") run
 advice_lines a Budget run = debug_line a run
-advice_lines a LostSignal run = debug_line a run
-advice_lines a UnreadPutllc run = debug_line a run
-advice_lines a UnreadTags run = debug_line a run
+advice_lines a LostSignal run = stepping_line a run
+advice_lines a UnreadPutllc run = stepping_line a run
+advice_lines a UnreadTags run = stepping_line a run
+advice_lines a UnwrittenBytes run = stepping_line a run
 
 unfoldable pub finding_lines : Facts → ℕ → Found → List ℕ
 finding_lines a all f = line_feed ++ kind_words f.kind ++ share_text f.told.runs all (a.from + f.told.first) ++ f.told.shown ++ advice_lines a f.kind (a.from + f.told.first)

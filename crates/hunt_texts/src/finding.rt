@@ -20,6 +20,7 @@ pub enum Finding {
     LostSignal,
     UnreadPutllc,
     UnreadTags,
+    UnwrittenBytes,
 }
 
 fn space_at(key: &[u8]) -> Option<usize>
@@ -54,6 +55,7 @@ impl Finding {
             Finding::LostSignal => b"lost-signal",
             Finding::UnreadPutllc => b"unread-putllc",
             Finding::UnreadTags => b"unread-tags",
+            Finding::UnwrittenBytes => b"unwritten-bytes",
         }
     }
 
@@ -79,6 +81,7 @@ impl Finding {
             Finding::LostSignal => b"warning: lost signal",
             Finding::UnreadPutllc => b"warning: unread status of a PUTLLC",
             Finding::UnreadTags => b"warning: unread tag status",
+            Finding::UnwrittenBytes => b"warning: bytes that nothing wrote",
         }
     }
 }

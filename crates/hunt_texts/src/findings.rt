@@ -3,7 +3,7 @@
 ghost use Rattle.std.specs.Prelude.{◌≡◌, ◌++◌, map, take, OnOk};
 ghost use Rattle.std.specs.List.{flat_map};
 ghost use Rattle.hunt_texts.specs.About.{facts};
-ghost use Rattle.hunt_texts.specs.Findings.{why_line, debug_line, ended_lines, advice_lines, share_text, finding_lines, printed, left_text, more_lines, found_lines, findings_lines};
+ghost use Rattle.hunt_texts.specs.Findings.{why_line, debug_line, stepping_line, ended_lines, advice_lines, share_text, finding_lines, printed, left_text, more_lines, found_lines, findings_lines};
 ghost use Rattle.hunt_texts.specs.Founds.{found_by};
 
 use crate::about::About;
@@ -29,6 +29,13 @@ fn put_debug(out: &mut Vec<u8>, about: &About, run: u64) -> Result<(), AllocErro
     put_command_line(out, b"  backwards from its end: ", about, b"debug", run)
 }
 
+/// Writes the command that opens a run with a warning, which need not end badly.
+fn put_stepping(out: &mut Vec<u8>, about: &About, run: u64) -> Result<(), AllocError>
+    ensures { OnOk result (out.new.items ≡ out.old.items ++ stepping_line (facts about.now) run) }
+{
+    put_command_line(out, b"  step through this run: ", about, b"debug", run)
+}
+
 #[tactic(auto, unfolding(crate::specs::Findings::ended_lines))]
 fn put_ended(out: &mut Vec<u8>, about: &About, run: u64) -> Result<(), AllocError>
     ensures { OnOk result (out.new.items ≡ out.old.items ++ ended_lines (facts about.now) run) }
@@ -51,9 +58,10 @@ fn put_advice(out: &mut Vec<u8>, about: &About, kind: Finding, run: u64) -> Resu
             put_command_line(out, b"  the states of this run: ", about, b"states", run)
         }
         Finding::Budget => put_debug(out, about, run),
-        Finding::LostSignal => put_debug(out, about, run),
-        Finding::UnreadPutllc => put_debug(out, about, run),
-        Finding::UnreadTags => put_debug(out, about, run),
+        Finding::LostSignal => put_stepping(out, about, run),
+        Finding::UnreadPutllc => put_stepping(out, about, run),
+        Finding::UnreadTags => put_stepping(out, about, run),
+        Finding::UnwrittenBytes => put_stepping(out, about, run),
     }
 }
 

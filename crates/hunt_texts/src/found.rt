@@ -64,7 +64,8 @@ fn add_warnings<'a>(found: &mut Vec<Found<'a>>, warnings: &'a Tally) -> Result<(
 {
     add_kind(found, Finding::LostSignal, warnings)?;
     add_kind(found, Finding::UnreadPutllc, warnings)?;
-    add_kind(found, Finding::UnreadTags, warnings)
+    add_kind(found, Finding::UnreadTags, warnings)?;
+    add_kind(found, Finding::UnwrittenBytes, warnings)
 }
 
 /// The failures, and then the warnings, by kind.

@@ -1,6 +1,6 @@
 use Rattle.std.proofs.Common.{◌++◌, ◌-◌, codes}
 use Rattle.std.specs.Fmt.{decimal}
-use Rattle.hunt_reports.proofs.Lists.{more, on_more}
+use Rattle.hunt_reports.proofs.Lists.{more}
 use Rattle.cell_base.specs.Records.{line_feed}
 use Rattle.hunt_reports.specs.Budgets.{progress_line}
 use Rattle.hunt_reports.proofs.budgets.put_progress.Goals as goal

@@ -1,4 +1,4 @@
-use Rattle.std.proofs.Common.{◌++◌, ◌-◌, codes}
+use Rattle.std.proofs.Common.{◌++◌, codes}
 use Rattle.std.specs.Fmt.{decimal}
 use Rattle.hunt_reports.proofs.Lists.{more, on_more}
 use Rattle.hunt_reports.specs.Livelocks.{after_text}

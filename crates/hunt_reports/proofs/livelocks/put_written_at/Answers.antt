@@ -1,5 +1,4 @@
-use Rattle.std.proofs.Common.{◌++◌, ◌-◌, codes}
-use Rattle.std.specs.Fmt.{decimal}
+use Rattle.std.proofs.Common.{◌++◌, codes}
 use Rattle.hunt_reports.proofs.Lists.{more, on_more}
 use Rattle.hunt_reports.specs.Livelocks.{written_at}
 use Rattle.hunt_reports.specs.Locations.{short_shown, spu_text}

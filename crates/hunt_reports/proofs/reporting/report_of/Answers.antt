@@ -1,4 +1,4 @@
-use Rattle.std.proofs.Common.{rules, Some, ◌++◌, ◌≡◌, ◌≤◌, length, map, sym, ap, subst, append_assoc, ◌∙◌}
+use Rattle.std.proofs.Common.{rules, Some, ◌++◌, ◌≡◌, map, sym, ap, subst, append_assoc, ◌∙◌}
 use Rattle.std.specs.List.{flat_map}
 use Rattle.cell_machine.specs.Run.{EndsAs}
 use Rattle.cell_report.specs.States.{states_of}

@@ -1,4 +1,4 @@
-use Rattle.std.proofs.Common.{◌<◌, length, sym, subst, ◌∙◌, arith}
+use Rattle.std.proofs.Common.{◌<◌, length, sym, subst, arith}
 use Rattle.std.specs.Prelude.{All}
 use Rattle.hunt_reports.specs.declared.locations.Location.{Location}
 use Rattle.hunt_reports.proofs.Running.{few_more, running_more, running_all, running_below}

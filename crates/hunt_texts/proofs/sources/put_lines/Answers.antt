@@ -1,5 +1,4 @@
 use Rattle.std.proofs.Common.{arith}
-use Rattle.std.specs.Prelude.{Some, slice_get}
 use Rattle.hunt_texts.specs.Jsons.{line_at}
 use Rattle.hunt_texts.proofs.PlaceLemmas.{place_more, place_past}
 use Rattle.hunt_texts.proofs.SpanLemmas.{element_at}
