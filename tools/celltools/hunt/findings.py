@@ -1,8 +1,10 @@
 """The kinds of findings, by the words that their lines have, in the order in which a report has them."""
 from typing import Dict, NamedTuple, Tuple
 
+from celltools.telling.backwards import LABEL, TOOL
+
 TO_RACE = ("why", "race")  # a label and the tool of its command
-TO_END = ("backwards from its end", "debug")
+TO_END = (LABEL, TOOL)
 
 
 class FindingKind(NamedTuple):
