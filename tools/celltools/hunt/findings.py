@@ -3,8 +3,10 @@ from typing import Dict, NamedTuple, Tuple, Union
 
 from celltools.hunt.endings import Json
 
+from celltools.telling.backwards import LABEL, TOOL
+
 TO_RACE = ("why", "race")  # a label and the tool of its command
-TO_END = ("backwards from its end", "debug")
+TO_END = (LABEL, TOOL)
 
 
 class FindingKind(NamedTuple):

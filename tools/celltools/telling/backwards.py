@@ -2,10 +2,9 @@
 from typing import Iterable
 
 from celltools.common.texts import quoted
-from celltools.hunt.findings import TO_END
 from celltools.telling.ended import Ended
 
-LABEL, TOOL = TO_END
+LABEL, TOOL = "backwards from its end", "debug"
 
 
 def backwards(tool: str, files: str, ended: Iterable[Ended]) -> str:

@@ -103,11 +103,8 @@ class Endings:
         shown = self.instruction_line(spe, stop_address(spe), stop_word(spe, sites), spe.status)
         return f"{shown}: {RAN_INTO_ZEROS}" if ran_into_zeros(spe, sites) else shown
 
-    def instruction_line(self, spe: Spe, at: int, word: int, note: str) -> str:
-        """An instruction of an SPU, with its place and a note. If no line placed it, its SPU and its address are the place."""
-        has_line = at in self.standing.sites.of_processor[spe.number]
-        text = self.standing.instruction_at(spe.number, at, word) if has_line else f"SPU {spe.number} at 0x{at:05x}: {self.standing.words.text(at, word)}"
-        return f"{text}  (SPU {spe.number}: {note})"
+    def instruction_line(self, spe: Spe, at: int, word: int, status: str) -> str:
+        return self.standing.instruction_line(spe.number, at, word, f"SPU {spe.number}: {status}")
 
     # ---- the reasons of faults
 

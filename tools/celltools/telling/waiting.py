@@ -78,13 +78,30 @@ class Standing:
         place = f"SPU {spe.number} {spe.status} at 0x{spe.pc:05x}"
         return f"{place}, {self.instruction(spe)}" if is_at_instruction(spe) else place
 
+    def instruction_line(self, number: int, at: int, word: int, note: str) -> str:
+        """An instruction of an SPU as ./hunt prints it: with its place, and a note in parentheses. If no line placed it, its SPU and its address are the place."""
+        has_line = at in self.sites.of_processor[number]
+        text = self.instruction_at(number, at, word) if has_line else f"SPU {number} at 0x{at:05x}: {self.words.text(at, word)}"
+        return f"{text}  ({note})"
+
+    def running_line(self, spe: Spe, state: State) -> str:
+        """The line of an SPU that still runs: its next instruction, and what it waits for, if it does."""
+        waited = self.waited_for(spe, state)
+        line = self.instruction_line(spe.number, spe.pc, spe.word or 0, f"SPU {spe.number} {'waits' if waited else 'runs'}")
+        return f"{line}: {waited}" if waited else line
+
     def waits(self, spe: Spe, state: State) -> Optional[str]:
-        """What a processor waits for, if it does."""
+        """The same as a sentence."""
+        waited = self.waited_for(spe, state)
+        return f"waits on {waited}" if waited else None
+
+    def waited_for(self, spe: Spe, state: State) -> Optional[str]:
+        """The channel that an SPU waits on, if it does, and why."""
         if not spe.runs or f"x {spe.number}" in state.may or state.end == "Budget" or spe.word is None or not may_wait(spe.word):
             return None
         channel = channel_of(spe.word) or EVENT_STATUS
         why = NO_VALUE[channel](self, spe, state) if channel in NO_VALUE else WAITS.get(channel, "its count is 0")
-        return f"waits on {channel_name(channel)}: {why}"
+        return f"{channel_name(channel)}: {why}"
 
     def remark(self, spe: Spe, state: State) -> Optional[str]:
         """What there is to say of how a processor stands: what it waits for, if it does."""
@@ -172,10 +189,9 @@ def state_behind(machine: Path, record: Path) -> State:
 
 
 def waiting_of(machine: Path, record: Path) -> List[str]:
-    """A line for each processor that runs still behind a record: where it is, by its file and line, and what it waits for, if it does. Refused where that
-    can't be told."""
+    """A line for each SPU that still runs after a record: its next instruction with file and line, and what it waits for, if it does. Refused if that can't be
+    found."""
     standing = Standing(Sites(machine, str(machine)), functools.cache(lambda: ask_tracer("effects", machine, record)))
     state = state_behind(machine, record)
     standing.learn(state)
-    lines = ((standing.stands(spe), standing.waits(spe, state)) for spe in state.spes if spe.runs)
-    return [f"{stands}: {waits}" if waits else stands for stands, waits in lines]
+    return [standing.running_line(spe, state) for spe in state.spes if spe.runs]
