@@ -1,15 +1,16 @@
 """The guarantees that a proof names.
 
-In the proof of a function, `c.STEP.ensures.NAME` is the guarantee NAME of a function that it calls, and `c.STEP.ensures` the only one of a function that has one without
-a name. STEP is the call's name, with what tells it from others behind a hyphen, as its `let`: `step`, `step-at`, `step-2`. In an arm of a `match` or a `?`, STEP is
-`in-` or `in_ok-` with the pattern or the name bound; there the function is the one of those matched or tried in this body that has such a guarantee, if there is just one.
+In the proof of a function, `c.STEP.ensures.NAME` is the guarantee NAME of a function that it calls, and `c.STEP.ensures` the only guarantee of one that has a single
+one. STEP is the call's name; a hyphen and a word, such as its `let`, tell it from other calls: `step`, `step-at`, `step-2`. In an arm of a `match` or a `?`, STEP is
+`in-` or `in_ok-` with the pattern or the name bound. There the function is the only one of those matched or tried in this body that has such a guarantee.
 A name that fits guarantees of several functions counts for none of them."""
 import pathlib
 import re
 from typing import Dict, Iterator, List, NamedTuple, Set, Tuple
 
-from lib.clauses.calls import Call, World
+from lib.clauses.calls import Call
 from lib.clauses.sources import LONE, Function
+from lib.clauses.types import World
 
 CITED = re.compile(r"(?<![\w.])?([A-Za-z_][\w+-]*)\.ensures\b(?:\.(\w+))?")
 ARM = re.compile(r"in(?:_ok|_err|-|_default)")

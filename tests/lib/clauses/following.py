@@ -1,18 +1,20 @@
 """The guarantees without which the contract of a caller doesn't follow, though no proof names them: the prover's search finds them by itself.
 
 *Word.* A clause that a caller has to prove is about a closed definition, and of all that the caller knows one guarantee alone is about it: then that is needed. The
-caller knows its preconditions, the invariants of its crate's types, the guarantees of all that it calls, and the lemmas that its proof names.
+caller knows its preconditions, the invariants of its crate's types, the guarantees of all that it calls, and the lemmas that its proof names. What stands before an
+arrow is a premise: nobody has to prove it there, and nobody knows it from there.
 
 *Result.* A caller guarantees something of its result, on one of its ways it returns what a call returns, and one guarantee alone of the called function is about that.
 
-*State.* A caller guarantees something of the new value of a parameter, or says what `self` becomes; one call alone changes that, or a field of it, and one guarantee alone
-of the called function is about the new value."""
+*State.* A caller guarantees something of the new value of a parameter, or says what `self` becomes. One call alone changes that, or a field of it, and one guarantee
+alone of the called function is about the new value."""
 import re
 from typing import Callable, Dict, FrozenSet, Iterator, List, Set, Tuple
 
-from lib.clauses.calls import Call, World
+from lib.clauses.calls import Call
 from lib.clauses.citing import Guarantee, guarantee
 from lib.clauses.sources import Clause, Crate, Function, uses_of
+from lib.clauses.types import World
 from lib.clauses.words import USE, Words, conclusion
 
 UNFOLDING = re.compile(r"^\s*unfolding ([^\n]*)", re.M)
@@ -35,7 +37,7 @@ class Following:
         self.kept: Dict[Tuple[int, str], FrozenSet[str]] = {}
 
     def of_invariants(self, crate: Crate) -> FrozenSet[str]:
-        return frozenset(word for file, text in crate.invariants for word in self.words.about(text, file.ghosts))
+        return frozenset(word for file, text in crate.invariants for word in self.words.about(conclusion(text), file.ghosts))
 
     def about(self, function: Function, text: str) -> FrozenSet[str]:
         key = (id(function.file), text)
@@ -49,7 +51,7 @@ class Following:
         for path in uses_of(USE, proof).values():
             known = self.words.known.get(path)
             if known is not None and ".proofs." in path:
-                found |= self.words.about(known.statement, known.uses)
+                found |= self.words.about(conclusion(known.statement), known.uses)
         return frozenset(found)
 
     def by_word(self, function: Function, calls: List[Call], proof: str) -> Iterator[Guarantee]:
@@ -58,7 +60,7 @@ class Following:
         known: Dict[str, Set[Guarantee]] = {}
         others: Set[str] = set(self.invariants[function.file.crate]) | self.of_lemmas(proof)
         for clause in function.requires:
-            others |= self.about(function, clause.text)
+            others |= self.about(function, conclusion(clause.text))
         wanted: Set[str] = set()
         for clause in function.ensures:
             wanted |= self.about(function, conclusion(clause.text))
@@ -68,7 +70,7 @@ class Following:
                     for clause in it.requires:
                         wanted |= self.about(it, conclusion(clause.text))
                 for clause in it.ensures:
-                    for word in self.about(it, clause.text):
+                    for word in self.about(it, conclusion(clause.text)):
                         known.setdefault(word, set()).add(guarantee(it, clause.name))
         sure = {(call.function.file.crate, call.function.path) for call in calls if call.function is not None}
         for word in wanted - others:
@@ -109,7 +111,8 @@ class Following:
         views = [text for file, text in self.world.crates[function.file.crate].views if file is self.file_of(function)]
         shown = not views or any(re.search(rf"\.{field}\b", view) for view in views)
         others = [call for call in calls if any(it.startswith(place) or it.startswith(f"&mut {place}") or it in (root, f"&mut {root}") for it in call.arguments)]
-        changing = [call for call in others if call.function is None or any("mut " in kind for _, kind in call.function.parameters[:1]) or f"&mut {place}" in " ".join(call.arguments)]
+        changing = [call for call in others if call.function is None or f"&mut {place}" in " ".join(call.arguments)
+                    or any("mut " in kind for _, kind in call.function.parameters[:1])]
         return root == "self" and shown and len(changing) == 1 and not re.search(rf"\bself\.{field}\b[^;=]*[^=!<>]=[^=>]", function.body)
 
     def file_of(self, function: Function) -> object:

@@ -3,10 +3,11 @@ import pathlib
 import re
 from typing import Dict, Iterator, List, NamedTuple, Tuple
 
-from lib.clauses.calls import Body, Call, World
+from lib.clauses.calls import Body, Call
 from lib.clauses.citing import Guarantee, cited, folder_of, guarantee, proof_folders
 from lib.clauses.following import Following
 from lib.clauses.sources import Crate, crates_of, is_exported
+from lib.clauses.types import World
 from lib.clauses.words import Words
 
 BREAKS = re.compile(r"^# breaks (\S+) (\w+)$", re.M)
