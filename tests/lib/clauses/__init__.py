@@ -1,0 +1,1 @@
+"""Which named guarantees of public functions a proof, or a mutant, depends on: the modules of tests/clauses."""
