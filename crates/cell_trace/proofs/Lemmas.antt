@@ -20,7 +20,7 @@ use Rattle.cell_machine.specs.Run.{Ran, state_of, next_of}
 use Rattle.cell_machine.proofs.Replays.{replay-snoc}
 use Rattle.cell_trace.specs.declared.looking.Before.{Before}
 use Rattle.cell_trace.specs.declared.looking.After.{After}
-use Rattle.cell_trace.specs.Effects.{asked_in, before_in, after_in, effect_line, line_between, line_in, lines_in, refused_in, grown, StopsAt}
+use Rattle.cell_trace.specs.Effects.{asked_in, before_in, after_in, effect_line, Between, line_between, line_by, line_in, lines_by, refused_in, grown, StopsAt}
 
 -- ---- the step as its line, without its end
 
@@ -56,66 +56,92 @@ around m s h =
     let k = from_next (nat_lt (length m.steps) m.setup.budget) (state_of m) s n.0 n.1 in
     (k.0, n.0, k.1, n.1, k.2, replay-snoc (opening m.setup) m.steps s ∙ ap (option_and_then (λ K. next K s)) k.1 ∙ k.2)
 
-no_effect : (o n : Option State) (s : Step) (f : Option Effect) → f ≡ None → option_and_then (λ M. option_and_then (λ N. option_map (line_between M N s) f) n) o ≡ None
-no_effect None n s f none = refl
-no_effect (Some M) None s f none = refl
-no_effect (Some M) (Some N) s f none = rw none refl
+no_effect : (f : Between) (o n : Option State) (s : Step) (x : Option Effect) → x ≡ None → option_and_then (λ M. option_and_then (λ N. option_map (f M N s) x) n) o ≡ None
+no_effect f None n s x none = refl
+no_effect f (Some M) None s x none = refl
+no_effect f (Some M) (Some N) s x none = rw none refl
 
-pub line_none : (m : Ran) (s : Step) → effect_in m s ≡ None → line_in m s ≡ None
-unfolding line_in
-line_none m s none = no_effect (state_of m) (next_of m s) s (effect_in m s) none
+pub line_none : (f : Between) (m : Ran) (s : Step) → effect_in m s ≡ None → line_by f m s ≡ None
+unfolding line_by
+line_none f m s none = no_effect f (state_of m) (next_of m s) s (effect_in m s) none
 
-built : (o n : Option State) (f : Option Effect) (M N : State) (s : Step) (e : Effect) → o ≡ Some M → n ≡ Some N → f ≡ Some e
-    → option_and_then (λ K. option_and_then (λ L. option_map (line_between K L s) f) n) o ≡ Some (line_between M N s e)
-built o n f M N s e a b c = rw (a, b, c) refl
+built : (f : Between) (o n : Option State) (x : Option Effect) (M N : State) (s : Step) (e : Effect) → o ≡ Some M → n ≡ Some N → x ≡ Some e
+    → option_and_then (λ K. option_and_then (λ L. option_map (f K L s) x) n) o ≡ Some (f M N s e)
+built f o n x M N s e a b c = rw (a, b, c) refl
+
+-- the line of a step that is allowed is the one between the states around it
+pub line_at : (f : Between) (m : Ran) (s : Step) (M N : State) (e : Effect) → state_of m ≡ Some M → next_of m s ≡ Some N → effect_in m s ≡ Some e → line_by f m s ≡ Some (f M N s e)
+unfolding line_by
+line_at f m s M N e old new is = built f (state_of m) (next_of m s) (effect_in m s) M N s e old new is
 
 pub line_is : (m : Ran) (s : Step) (e : Effect) (before : Before) (after : After) → IsSome (next_of m s) → effect_in m s ≡ Some e
     → ((M : State) → state_of m ≡ Some M → before ≡ before_in M s e) → ((N : State) → state_of (grown m s) ≡ Some N → after ≡ after_in N s before.asked)
     → line_in m s ≡ Some (effect_line s e before after)
-unfolding line_in
 line_is m s e before after allowed is looks_before looks_after =
     let k = around m s allowed in
     let M = k.0 in
     let N = k.1 in
     let b : before ≡ before_in M s e = looks_before M k.2 in
     let a : after ≡ after_in N s (asked_in M s) = looks_after N k.5 ∙ ap (λ (x : Before). after_in N s x.asked) b in
-    built (state_of m) (next_of m s) (effect_in m s) M N s e k.2 k.3 is ∙ ap Some (sym (ap₂ (effect_line s e) b a))
+    line_at line_between m s M N e k.2 k.3 is ∙ ap Some (sym (ap₂ (effect_line s e) b a))
 
 -- ---- the lines of steps
 
-pub one_line : (out new whole line : List ℕ) (m n : Ran) (s d : Step) (i : ℕ) (steps : List Step) → i < length steps → s ≡ get_or steps i d → line_in m s ≡ Some line → new ≡ out ++ line → n ≡ grown m s
-    → out ++ lines_in m (drop i steps) ≡ whole → new ++ lines_in n (drop (i + 1) steps) ≡ whole
-unfolding lines_in
-one_line out new whole line m n s d i steps lt same is wrote made so_far =
+pub one_line : (f : Between) (out new whole line : List ℕ) (m n : Ran) (s d : Step) (i : ℕ) (steps : List Step) → i < length steps → s ≡ get_or steps i d → line_by f m s ≡ Some line → new ≡ out ++ line → n ≡ grown m s
+    → out ++ lines_by f m (drop i steps) ≡ whole → new ++ lines_by f n (drop (i + 1) steps) ≡ whole
+unfolding lines_by
+one_line f out new whole line m n s d i steps lt same is wrote made so_far =
     let next : suc i ≡ i + 1 = omega arith in
-    let here : lines_in m (drop i steps) ≡ line ++ lines_in (grown m s) (drop (suc i) steps) = rw (drop-cons steps i d lt, ← same, is) refl in
-    rw (← next, made, wrote) (append_assoc out line (lines_in (grown m s) (drop (suc i) steps)) ∙ ap (λ t. out ++ t) (sym here) ∙ so_far)
+    let here : lines_by f m (drop i steps) ≡ line ++ lines_by f (grown m s) (drop (suc i) steps) = rw (drop-cons steps i d lt, ← same, is) refl in
+    rw (← next, made, wrote) (append_assoc out line (lines_by f (grown m s) (drop (suc i) steps)) ∙ ap (λ t. out ++ t) (sym here) ∙ so_far)
 
-pub refused_later : (o : Option Step) (line : List ℕ) (m n : Ran) (s d : Step) (i : ℕ) (steps : List Step) → i < length steps → s ≡ get_or steps i d → line_in m s ≡ Some line → n ≡ grown m s
+-- whatever line is written, it is there for the same steps
+pub same_lines : (f g : Between) (m : Ran) (s : Step) → is_some (line_by f m s) ≡ is_some (line_by g m s)
+unfolding line_by
+same_lines f g m s = on (state_of m) (next_of m s) (effect_in m s)
+  where
+    on : (o n : Option State) (x : Option Effect) → is_some (option_and_then (λ M. option_and_then (λ N. option_map (f M N s) x) n) o) ≡ is_some (option_and_then (λ M. option_and_then (λ N. option_map (g M N s) x) n) o)
+    on None n x = refl
+    on (Some M) None x = refl
+    on (Some M) (Some N) None = refl
+    on (Some M) (Some N) (Some e) = refl
+
+there_too : (o : Option (List ℕ)) (line : List ℕ) (p : Option (List ℕ)) → p ≡ Some line → is_some p ≡ is_some o → (other : List ℕ) × (o ≡ Some other)
+there_too None line p is same = let e : is_some p ≡ true = rw is refl in absurd (cc)
+there_too (Some other) line p is same = (other, refl)
+
+none_too : (o p : Option (List ℕ)) → p ≡ None → is_some p ≡ is_some o → o ≡ None
+none_too None p is same = refl
+none_too (Some other) p is same = let e : is_some p ≡ false = rw is refl in absurd (cc)
+
+pub refused_later : (f : Between) (o : Option Step) (line : List ℕ) (m n : Ran) (s d : Step) (i : ℕ) (steps : List Step) → i < length steps → s ≡ get_or steps i d → line_by f m s ≡ Some line → n ≡ grown m s
     → refused_in m (drop i steps) ≡ o → refused_in n (drop (i + 1) steps) ≡ o
 unfolding refused_in
-refused_later o line m n s d i steps lt same is made so_far =
+refused_later f o line m n s d i steps lt same is made so_far =
     let next : suc i ≡ i + 1 = omega arith in
-    let here : refused_in m (drop i steps) ≡ refused_in (grown m s) (drop (suc i) steps) = rw (drop-cons steps i d lt, ← same, is) refl in
+    let there = there_too (line_in m s) line (line_by f m s) is (same_lines f line_between m s) in
+    let told = there.1 in
+    let here : refused_in m (drop i steps) ≡ refused_in (grown m s) (drop (suc i) steps) = rw (drop-cons steps i d lt, ← same, told) refl in
     rw (← next, made) (sym here ∙ so_far)
 
-pub last_line : (out new whole : List ℕ) (m : Ran) (s d : Step) (i : ℕ) (steps : List Step) → i < length steps → s ≡ get_or steps i d → line_in m s ≡ None → new ≡ out ++ []
-    → out ++ lines_in m (drop i steps) ≡ whole → new ≡ whole
-unfolding lines_in
-last_line out new whole m s d i steps lt same is wrote so_far =
-    let here : lines_in m (drop i steps) ≡ [] = rw (drop-cons steps i d lt, ← same, is) refl in
+pub last_line : (f : Between) (out new whole : List ℕ) (m : Ran) (s d : Step) (i : ℕ) (steps : List Step) → i < length steps → s ≡ get_or steps i d → line_by f m s ≡ None → new ≡ out ++ []
+    → out ++ lines_by f m (drop i steps) ≡ whole → new ≡ whole
+unfolding lines_by
+last_line f out new whole m s d i steps lt same is wrote so_far =
+    let here : lines_by f m (drop i steps) ≡ [] = rw (drop-cons steps i d lt, ← same, is) refl in
     wrote ∙ ap (λ t. out ++ t) (sym here) ∙ so_far
 
-pub refused_here : (o : Option Step) (m : Ran) (s d : Step) (i : ℕ) (steps : List Step) → i < length steps → s ≡ get_or steps i d → line_in m s ≡ None
+pub refused_here : (f : Between) (o : Option Step) (m : Ran) (s d : Step) (i : ℕ) (steps : List Step) → i < length steps → s ≡ get_or steps i d → line_by f m s ≡ None
     → refused_in m (drop i steps) ≡ o → Some s ≡ o
 unfolding refused_in
-refused_here o m s d i steps lt same is so_far =
-    let here : refused_in m (drop i steps) ≡ Some s = rw (drop-cons steps i d lt, ← same, is) refl in
+refused_here f o m s d i steps lt same is so_far =
+    let none = none_too (line_in m s) (line_by f m s) is (same_lines f line_between m s) in
+    let here : refused_in m (drop i steps) ≡ Some s = rw (drop-cons steps i d lt, ← same, none) refl in
     sym here ∙ so_far
 
-pub all_lines : (out whole : List ℕ) (m : Ran) (i : ℕ) (steps : List Step) → length steps ≤ i → out ++ lines_in m (drop i steps) ≡ whole → out ≡ whole
-unfolding lines_in
-all_lines out whole m i steps le so_far =
+pub all_lines : (f : Between) (out whole : List ℕ) (m : Ran) (i : ℕ) (steps : List Step) → length steps ≤ i → out ++ lines_by f m (drop i steps) ≡ whole → out ≡ whole
+unfolding lines_by
+all_lines f out whole m i steps le so_far =
     let none : drop i steps ≡ [] = nil_from_length (drop i steps) (omega (arith, length-drop i steps)) in
     sym (append-nil out) ∙ (rw none at so_far)
 

@@ -1,3 +1,4 @@
 pub mod Lemmas
 pub mod Commands
 mod NextSteps
+mod LogLaws

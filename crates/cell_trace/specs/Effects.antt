@@ -180,29 +180,42 @@ note_fields (Signal p r) before after = signal_fields p r before
 unfoldable pub step_words : Step → List ℕ
 step_words s = take (length (step_line s) - 1) (step_line s)
 
+-- the fields of what passes through channels, and of the step's note
+unfoldable pub told_fields : Effect → Before → After → List ℕ
+told_fields e before after = own_fields before after ++ note_fields e.note before after ++ (if e.fixed then named (codes "fixed") [] else [])
+
 -- the line of a step of this effect
 abbrev pub effect_line : Step → Effect → Before → After → List ℕ
-effect_line s e before after =
-    step_words s ++ spans e ++ own_fields before after ++ note_fields e.note before after
-    ++ (if e.fixed then named (codes "fixed") [] else []) ++ line_feed
+effect_line s e before after = step_words s ++ spans e ++ told_fields e before after ++ line_feed
 
 -- the same of a step from M to N
 abbrev pub line_between : State → State → Step → Effect → List ℕ
 line_between M N s e = effect_line s e (before_in M s e) (after_in N s (asked_in M s))
 
--- the line of one more step of a run, None where the budget is spent or the step isn't allowed
-unfoldable pub line_in : Ran → Step → Option (List ℕ)
-line_in m s =
-    option_and_then (λ M. option_and_then (λ N. option_map (line_between M N s) (effect_in m s)) (next_of m s)) (state_of m)
+-- the line of a step, by the states before it and after it and by its effect
+abbrev pub Between : Type 0
+Between = State → State → Step → Effect → List ℕ
+
+-- such a line of one more step of a run, None where the budget is spent or the step isn't allowed
+unfoldable pub line_by : Between → Ran → Step → Option (List ℕ)
+line_by between m s =
+    option_and_then (λ M. option_and_then (λ N. option_map (between M N s) (effect_in m s)) (next_of m s)) (state_of m)
+
+-- the line of what it does
+abbrev pub line_in : Ran → Step → Option (List ℕ)
+line_in m s = line_by line_between m s
 
 -- a run after one more step
 abbrev pub grown : Ran → Step → Ran
 grown m s = record m { steps = m.steps ++ s ∷ [] }
 
 -- the lines of further steps of a run, a line each, up to the first that isn't allowed; and that step
-unfoldable pub lines_in : Ran → List Step → List ℕ
-lines_in m [] = []
-lines_in m (s ∷ steps) = option_map_or (λ line. line ++ lines_in (grown m s) steps) (line_in m s) []
+unfoldable pub lines_by : Between → Ran → List Step → List ℕ
+lines_by between m [] = []
+lines_by between m (s ∷ steps) = option_map_or (λ line. line ++ lines_by between (grown m s) steps) (line_by between m s) []
+
+abbrev pub lines_in : Ran → List Step → List ℕ
+lines_in m steps = lines_by line_between m steps
 
 unfoldable pub refused_in : Ran → List Step → Option Step
 refused_in m [] = None

@@ -4,7 +4,7 @@ ghost use Rattle.std.specs.Prelude.{◌≡◌, ◌++◌, [], ◌∷◌, ◌+◌,
 ghost use Rattle.std.specs.Option.{option_map_or};
 ghost use Rattle.cell_base.specs.Records.{field, line_feed, step_line};
 ghost use Rattle.cell_trace.specs.Fields.{named, bit, atomic_field};
-ghost use Rattle.cell_trace.specs.Effects.{place_word, span_field, spans, tags_field, channel_fields, done_fields, own_fields, value_of, mailbox_name, mail_field, deliver_field, signal_fields, note_fields, step_words, effect_line, line_in, lines_in, refused_in, grown, Makes};
+ghost use Rattle.cell_trace.specs.Effects.{place_word, span_field, spans, tags_field, channel_fields, done_fields, own_fields, value_of, mailbox_name, mail_field, deliver_field, signal_fields, note_fields, step_words, told_fields, effect_line, line_in, lines_in, refused_in, grown, Makes};
 ghost use Rattle.cell_machine.specs.Run.{next_of};
 ghost use Rattle.cell_trace.specs.Fields.{word};
 
@@ -208,7 +208,7 @@ fn put_note(out: &mut Vec<u8>, note: Note, before: &Before, after: &After) -> Re
 
 /// Writes a step as its line in the record, without its end.
 #[tactic(auto, unfolding(crate::specs::Effects::step_words))]
-fn put_words(out: &mut Vec<u8>, step: Step) -> Result<(), AllocError>
+pub fn put_words(out: &mut Vec<u8>, step: Step) -> Result<(), AllocError>
     ensures { OnOk result (out.new.items ≡ out.old.items ++ step_words step) }
 {
     put_step(out, step)?;
@@ -226,6 +226,21 @@ fn put_fixed(out: &mut Vec<u8>, fixed: bool) -> Result<(), AllocError>
     }
 }
 
+/// Writes the fields of what passes through channels, and of the step's note.
+#[tactic(auto, unfolding(crate::specs::Effects::told_fields))]
+pub fn put_told(
+    out: &mut Vec<u8>,
+    effect: &Effect,
+    before: &Before,
+    after: &After,
+) -> Result<(), AllocError>
+    ensures { OnOk result (out.new.items ≡ out.old.items ++ told_fields effect.now before.now after.now) }
+{
+    put_own(out, before, after)?;
+    put_note(out, effect.note, before, after)?;
+    put_fixed(out, effect.fixed)
+}
+
 /// Writes the line of a step of this effect.
 fn put_line(
     out: &mut Vec<u8>,
@@ -238,9 +253,7 @@ fn put_line(
 {
     put_words(out, step)?;
     put_spans(out, effect)?;
-    put_own(out, before, after)?;
-    put_note(out, effect.note, before, after)?;
-    put_fixed(out, effect.fixed)?;
+    put_told(out, effect, before, after)?;
     out.extend_from_slice(b"\n")
 }
 

@@ -6,9 +6,11 @@ mod effects;
 mod fields;
 mod flows;
 mod following;
+mod logs;
 mod looking;
 
 pub use allowed::put_allowed;
 pub use effects::put_effects;
 pub use flows::put_flows;
 pub use following::follow;
+pub use logs::put_log;

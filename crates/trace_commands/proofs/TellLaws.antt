@@ -11,7 +11,7 @@ use Rattle.cell_base.specs.declared.steps.Step.{Step}
 use Rattle.cell_machine.specs.Opening.{Opening}
 use Rattle.cell_machine.specs.State.{State}
 use Rattle.cell_machine.specs.Run.{Ran, IsRun, state_of, next_of}
-use Rattle.cell_trace.specs.Effects.{StopsAt, Makes, grown, line_in, lines_in, refused_in}
+use Rattle.cell_trace.specs.Effects.{Between, StopsAt, Makes, grown, line_in, lines_by, lines_in, refused_in}
 use Rattle.cell_trace.specs.Allowed.{allowed_of}
 use Rattle.cell_trace.specs.Flows.{flows_of}
 use Rattle.cell_commands.specs.declared.fault.Fault.TheVariants.{NotARun}
@@ -19,7 +19,6 @@ use Rattle.cell_commands.specs.Checks.{TellsEnd}
 use Rattle.trace_commands.specs.declared.fault.Fault.{Fault}
 use Rattle.trace_commands.specs.declared.fault.Fault.TheVariants.{Input}
 use Rattle.trace_commands.specs.declared.words.Ask.{Ask}
-use Rattle.trace_commands.specs.declared.words.Ask.TheVariants.{Effects}
 use Rattle.trace_commands.specs.declared.ranges.Layout.TheVariants.{Bars}
 use Rattle.trace_commands.specs.Words.{Word, asked, go}
 use Rattle.trace_commands.specs.Answers.{Comes}
@@ -47,9 +46,10 @@ behind_refused m n steps s fault at h run is = subst (λ (x : Ran). RefusesRest 
 pub all_refused : (m n : Ran) (steps : List Step) (s : Step) (fault : Fault) → m ≡ start m.setup → StopsAt m steps n s → IsRun n.setup n.steps → fault ≡ Input (NotARun (length n.steps)) → StepsRefuse m.setup steps None fault
 all_refused m n steps s fault at h run is = refuses_all m.setup steps fault (behind_refused m n steps s fault at h run is)
 
-pub effects_told : (m : Ran) (steps : List Step) (first text : List ℕ) → m ≡ start m.setup → first ≡ [] → text ≡ first ++ lines_in m steps → None ≡ refused_in m steps → Tells m.setup steps Effects text
-effects_told m steps first text at none wrote all =
-    (sym (all ∙ ap (λ (x : Ran). refused_in x steps) at), wrote ∙ ap (λ t. t ++ lines_in m steps) none ∙ ap (λ (x : Ran). lines_in x steps) at)
+pub lines_told : (f : Between) (m : Ran) (steps : List Step) (first text : List ℕ) → m ≡ start m.setup → first ≡ [] → text ≡ first ++ lines_by f m steps → None ≡ refused_in m steps
+    → (refused_in (start m.setup) steps ≡ None) × (text ≡ lines_by f (start m.setup) steps)
+lines_told f m steps first text at none wrote all =
+    (sym (all ∙ ap (λ (x : Ran). refused_in x steps) at), wrote ∙ ap (λ t. t ++ lines_by f m steps) none ∙ ap (λ (x : Ran). lines_by f x steps) at)
 
 -- ---- states and flow controllers
 
@@ -95,7 +95,7 @@ none_stops m n s None some h = refl
 none_stops m n s (Some t) some h = absurd (stops_not m n s t some h)
 
 pub none_chosen : (m : Ran) (out : List ℕ) → AddsChosen m m out out
-unfolding lines_in refused_in
+unfolding lines_by refused_in
 none_chosen m out = ([], ap (λ (xs : List Step). record m { steps = xs }) (sym (append-nil m.steps)), refl, sym (append-nil out))
 
 pub one_chosen : (m n : Ran) (s : Step) (r : Option Step) (out new : List ℕ) → IsSome (next_of m s) → Makes m (s ∷ []) n r → r ≡ refused_in m (s ∷ []) → new ≡ out ++ lines_in m (s ∷ []) → AddsChosen m n out new
@@ -103,7 +103,7 @@ one_chosen m n s r out new some h told wrote = (s ∷ [], one_made m n s r some 
 
 -- the lines of steps and of those behind them, where all of the first are allowed
 pub lines_more : (m : Ran) (xs ys : List Step) → refused_in m xs ≡ None → lines_in m (xs ++ ys) ≡ lines_in m xs ++ lines_in (record m { steps = m.steps ++ xs }) ys
-unfolding lines_in refused_in
+unfolding lines_by refused_in
 lines_more m [] ys none = ap (λ (t : List Step). lines_in (record m { steps = t }) ys) (sym (append-nil m.steps))
 lines_more m (s ∷ xs) ys none = on (line_in m s) refl (lines_more (grown m s) xs ys)
   where

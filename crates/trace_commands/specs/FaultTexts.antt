@@ -7,7 +7,7 @@ use Rattle.trace_commands.specs.declared.fault.Fault.TheVariants.{Usage, Input, 
 
 unfoldable pub fault_text : Fault → List ℕ
 fault_text Usage =
-    codes "words: alone M, choose M CHOICES, (effects|before|states) M RECORD, (before|states) M RECORD NUMBER, go M RECORD STEPS CHOICES, lines SOURCE, plan M"
+    codes "words: alone M, choose M CHOICES, (effects|log|before|states) M RECORD, (before|states) M RECORD NUMBER, go M RECORD STEPS CHOICES, lines SOURCE, plan M"
 fault_text (Input fault) = input_text fault
 fault_text (TooShort steps) = codes "the record has fewer than " ++ decimal steps ++ codes " steps"
 fault_text ReadFault = codes "cannot read choice file"

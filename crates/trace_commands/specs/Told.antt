@@ -11,6 +11,7 @@ use Rattle.run_record.specs.Replayed.{IsRefusedAt}
 use Rattle.race_order.specs.OrderedRuns.{OnTrace}
 use Rattle.race_order.specs.Rules.{Rule, Ordered}
 use Rattle.cell_trace.specs.Effects.{lines_in, refused_in}
+use Rattle.cell_trace.specs.Logs.{logs_in}
 use Rattle.cell_trace.specs.Allowed.{allowed_of}
 use Rattle.cell_trace.specs.Flows.{flows_of}
 use Rattle.cell_commands.specs.declared.fault.Fault.TheVariants.{NotARun}
@@ -18,7 +19,7 @@ use Rattle.cell_commands.specs.Checks.{TellsEnd}
 use Rattle.trace_commands.specs.declared.ranges.Layout.{Layout}
 use Rattle.trace_commands.specs.declared.ranges.Layout.TheVariants.{Lines, Bars}
 use Rattle.trace_commands.specs.declared.words.Ask.{Ask}
-use Rattle.trace_commands.specs.declared.words.Ask.TheVariants.{Effects, States, BeforeEach, Flows, Before}
+use Rattle.trace_commands.specs.declared.words.Ask.TheVariants.{Effects, Log, States, BeforeEach, Flows, Before}
 use Rattle.trace_commands.specs.declared.fault.Fault.{Fault}
 use Rattle.trace_commands.specs.declared.fault.Fault.TheVariants.{Input, TooShort, Memory}
 use Rattle.trace_commands.specs.Choices.{start, with_choices}
@@ -77,6 +78,7 @@ TellsRecord m text = IsRun m.setup m.steps × (text ≡ spelling Two m.steps)
 -- the text tells of the steps what is asked; those that are looked at are all allowed
 abbrev pub Tells : Opening → List Step → Ask → List ℕ → Type 0
 Tells setup steps Effects text = (refused_in (start setup) steps ≡ None) × (text ≡ lines_in (start setup) steps)
+Tells setup steps Log text = (refused_in (start setup) steps ≡ None) × (text ≡ logs_in (start setup) steps)
 Tells setup steps States text = TellsEnd (record { setup = setup; steps = steps }) text
 Tells setup steps BeforeEach text = TellsLines setup steps (length steps) text
 Tells setup steps (Flows count) text = (count ≤ length steps) × TellsStanding (first_run setup steps count) text

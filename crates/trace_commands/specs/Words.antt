@@ -3,7 +3,7 @@ use Rattle.std.specs.Prelude.{ℕ, List, [], ◌∷◌, Option, Some, None, if�
 use Rattle.cell_base.specs.Numbers.{decimal_number}
 use Rattle.cell_commands.specs.Words.{is_word}
 use Rattle.trace_commands.specs.declared.words.Ask.{Ask}
-use Rattle.trace_commands.specs.declared.words.Ask.TheVariants.{Effects, States, BeforeEach, Flows, Before}
+use Rattle.trace_commands.specs.declared.words.Ask.TheVariants.{Effects, Log, States, BeforeEach, Flows, Before}
 use Rattle.trace_commands.specs.declared.words.Form.{Form}
 use Rattle.trace_commands.specs.declared.words.Form.TheVariants as form
 
@@ -24,6 +24,7 @@ pub data Spoken : Type 0 where
 abbrev pub asked_by : Word → Option Ask
 asked_by word =
     if is_word word (codes "effects") then Some Effects
+    else if is_word word (codes "log") then Some Log
     else if is_word word (codes "states") then Some States
     else if is_word word (codes "before") then Some BeforeEach
     else None

@@ -81,7 +81,7 @@ impl fmt::Display for Fault {
     fn fmt<W: fmt::Write>(&self, f: &mut fmt::Formatter<W>) -> fmt::Result {
         match *self {
             Fault::Usage => f.write_str(
-                "words: alone M, choose M CHOICES, (effects|before|states) M RECORD, (before|states) M RECORD NUMBER, go M RECORD STEPS CHOICES, lines SOURCE, plan M",
+                "words: alone M, choose M CHOICES, (effects|log|before|states) M RECORD, (before|states) M RECORD NUMBER, go M RECORD STEPS CHOICES, lines SOURCE, plan M",
             ),
             Fault::Input(fault) => fault.fmt(f),
             Fault::TooShort { steps } => put_too_short(f, steps),

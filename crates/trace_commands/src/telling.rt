@@ -14,7 +14,7 @@ use crate::words::Ask;
 use cell_base::Step;
 use cell_machine::Machine;
 use cell_report::{record_text, states_text};
-use cell_trace::{put_allowed, put_effects, put_flows};
+use cell_trace::{put_allowed, put_effects, put_flows, put_log};
 use std::alloc::{AllocError, Global};
 
 /// Writes the states of a machine.
@@ -58,6 +58,21 @@ fn effects_text(alloc: Global, machine: &mut Machine, steps: &[Step]) -> Result<
 {
     let mut out = Vec::new(alloc);
     let Ok(refused) = put_effects(&mut out, machine, steps) else {
+        return Err(Fault::Memory);
+    };
+    if refused.is_some() {
+        return Err(not_allowed(machine));
+    }
+    Ok(out)
+}
+
+/// Makes steps from a machine's start. Returns the lines of the steps, each with the changes that the step made.
+fn log_text(alloc: Global, machine: &mut Machine, steps: &[Step]) -> Result<Vec<u8>, Fault>
+    requires { machine.old ≡ start machine.old.setup }
+    ensures { Told machine.old.setup steps.now Ask.Log result }
+{
+    let mut out = Vec::new(alloc);
+    let Ok(refused) = put_log(alloc, &mut out, machine, steps) else {
         return Err(Fault::Memory);
     };
     if refused.is_some() {
@@ -153,6 +168,7 @@ pub fn tell(
 {
     match ask {
         Ask::Effects => effects_text(alloc, machine, steps),
+        Ask::Log => log_text(alloc, machine, steps),
         Ask::States => states_behind(alloc, machine, steps),
         Ask::BeforeEach => each_text(alloc, machine, steps),
         Ask::Flows { steps: count } => flows_at(alloc, machine, steps, count),

@@ -11,6 +11,8 @@ use cell_commands::number_of;
 pub enum Ask {
     /// What each step does.
     Effects,
+    /// What each step changes.
+    Log,
     /// The states after all steps.
     States,
     /// The places that are ordered before each step.
@@ -105,6 +107,7 @@ fn ask_of(word: &str) -> Option<Ask>
 {
     match word {
         "effects" => Some(Ask::Effects),
+        "log" => Some(Ask::Log),
         "states" => Some(Ask::States),
         "before" => Some(Ask::BeforeEach),
         _ => None,

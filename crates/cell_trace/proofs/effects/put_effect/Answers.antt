@@ -1,13 +1,14 @@
 use Rattle.std.proofs.Common.{◌∙◌, ap, sym}
 use Rattle.cell_machine.specs.Run.{state_of}
+use Rattle.cell_trace.specs.Effects.{line_between}
 use Rattle.cell_trace.proofs.Lemmas.{line_none, line_is, made_of, is_there, told_some, told_none, text_some, text_none}
 use Rattle.cell_trace.proofs.effects.put_effect.Goals as goal
 
 pub returns-in_default-clause-told : goal.returns-in_default-clause-told
-returns-in_default-clause-told c = told_none _ (line_none c.args.m.now c.args.step (sym c.effect.ensures.effect ∙ c.in_default.is))
+returns-in_default-clause-told c = told_none _ (line_none line_between c.args.m.now c.args.step (sym c.effect.ensures.effect ∙ c.in_default.is))
 
 pub returns-in_default-clause-line : goal.returns-in_default-clause-line
-returns-in_default-clause-line c = text_none _ _ (line_none c.args.m.now c.args.step (sym c.effect.ensures.effect ∙ c.in_default.is))
+returns-in_default-clause-line c = text_none _ _ (line_none line_between c.args.m.now c.args.step (sym c.effect.ensures.effect ∙ c.in_default.is))
 
 pub returns-clause-told : goal.returns-clause-told
 returns-clause-told c =

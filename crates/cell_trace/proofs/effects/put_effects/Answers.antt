@@ -1,7 +1,7 @@
 use Rattle.std.proofs.Common.{arith, refl, get_or}
 use Rattle.cell_base.specs.declared.steps.Step.TheVariants.{Exec}
 use Rattle.cell_machine.specs.Run.{next_of}
-use Rattle.cell_trace.specs.Effects.{line_in, grown}
+use Rattle.cell_trace.specs.Effects.{line_between, line_in, grown}
 use Rattle.cell_trace.proofs.Lemmas.{one_line, refused_later, last_line, refused_here, all_lines, none_refused, line_of_told, none_of_told, text_of_some, text_of_none, grown_of, kept_of, not_some, stops, goes_on}
 use Rattle.cell_trace.proofs.effects.put_effects.Goals as goal
 
@@ -9,14 +9,14 @@ pub returns-then-not-branch-clause-lines : goal.returns-then-not-branch-clause-l
 returns-then-not-branch-clause-lines c =
     let s = get_or c.args.steps.now c.loop-step.step-index (Exec 0) in
     let none = none_of_told (line_in c.loop-step.m s) c.in_ok-put_effect.field-0 c.in_ok-put_effect.ensures.told c.if-not-branch.true in
-    last_line c.loop-step.out.items c.put_effect.new.out.items _ c.loop-step.m s (Exec 0) c.loop-step.step-index c.args.steps.now (omega arith) refl none
+    last_line line_between c.loop-step.out.items c.put_effect.new.out.items _ c.loop-step.m s (Exec 0) c.loop-step.step-index c.args.steps.now (omega arith) refl none
     (text_of_none c.loop-step.out.items c.put_effect.new.out.items _ none c.in_ok-put_effect.ensures.line) c.loop-step.invariant.lines
 
 pub returns-then-not-branch-clause-refused : goal.returns-then-not-branch-clause-refused
 returns-then-not-branch-clause-refused c =
     let s = get_or c.args.steps.now c.loop-step.step-index (Exec 0) in
     let none = none_of_told (line_in c.loop-step.m s) c.in_ok-put_effect.field-0 c.in_ok-put_effect.ensures.told c.if-not-branch.true in
-    refused_here _ c.loop-step.m s (Exec 0) c.loop-step.step-index c.args.steps.now (omega arith) refl none c.loop-step.invariant.refused
+    refused_here line_between _ c.loop-step.m s (Exec 0) c.loop-step.step-index c.args.steps.now (omega arith) refl none c.loop-step.invariant.refused
 
 pub returns-then-not-branch-clause-made : goal.returns-then-not-branch-clause-made
 returns-then-not-branch-clause-made c =
@@ -31,14 +31,14 @@ loop-step-preserved c =
     let line = line_of_told (line_in c.loop-step.m s) c.in_ok-put_effect.field-0 c.in_ok-put_effect.ensures.told c.if-not-branch.false in
     let made = grown_of c.put_effect.new.m (grown c.loop-step.m s) c.loop-step.m c.in_ok-put_effect.field-0 c.if-not-branch.false c.in_ok-put_effect.ensures.made in
     record {
-      lines = one_line c.loop-step.out.items c.put_effect.new.out.items _ line.0 c.loop-step.m c.put_effect.new.m s (Exec 0) c.loop-step.step-index c.args.steps.now (omega arith) refl line.1
+      lines = one_line line_between c.loop-step.out.items c.put_effect.new.out.items _ line.0 c.loop-step.m c.put_effect.new.m s (Exec 0) c.loop-step.step-index c.args.steps.now (omega arith) refl line.1
           (text_of_some c.loop-step.out.items c.put_effect.new.out.items line.0 _ line.1 c.in_ok-put_effect.ensures.line) made c.loop-step.invariant.lines;
       made = goes_on _ c.loop-step.m c.put_effect.new.m c.args.steps.now c.loop-step.step-index s (Exec 0) (omega arith) refl c.loop-step.invariant.made made;
-      refused = refused_later _ line.0 c.loop-step.m c.put_effect.new.m s (Exec 0) c.loop-step.step-index c.args.steps.now (omega arith) refl line.1 made c.loop-step.invariant.refused;
+      refused = refused_later line_between _ line.0 c.loop-step.m c.put_effect.new.m s (Exec 0) c.loop-step.step-index c.args.steps.now (omega arith) refl line.1 made c.loop-step.invariant.refused;
     }
 
 pub returns-clause-lines : goal.returns-clause-lines
-returns-clause-lines c = all_lines c.loop-step.out.items _ c.loop-step.m c.loop-step.step-index c.args.steps.now (omega arith) c.loop-step.invariant.lines
+returns-clause-lines c = all_lines line_between c.loop-step.out.items _ c.loop-step.m c.loop-step.step-index c.args.steps.now (omega arith) c.loop-step.invariant.lines
 
 pub returns-clause-refused : goal.returns-clause-refused
 returns-clause-refused c = none_refused _ c.loop-step.m c.loop-step.step-index c.args.steps.now (omega arith) c.loop-step.invariant.refused

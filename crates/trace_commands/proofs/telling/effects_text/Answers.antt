@@ -1,5 +1,6 @@
 use Rattle.std.proofs.Common.{◌∙◌, sym}
-use Rattle.trace_commands.proofs.TellLaws.{stops_of, none_is, all_refused, effects_told}
+use Rattle.cell_trace.specs.Effects.{line_between}
+use Rattle.trace_commands.proofs.TellLaws.{stops_of, none_is, all_refused, lines_told}
 use Rattle.trace_commands.proofs.telling.effects_text.Goals as goal
 
 pub returns-then-is_some : goal.returns-then-is_some
@@ -9,4 +10,4 @@ returns-then-is_some c =
 
 pub returns : goal.returns
 returns c =
-    effects_told c.args.machine.now c.args.steps.now _ c.put_effects.new.out.items c.requires c.new-out.ensures.items c.in-Ok.ensures.lines (sym (none_is c.in-Ok.refused (sym c.is_some.ensures ∙ c.if-is_some.false)) ∙ c.in-Ok.ensures.refused)
+    lines_told line_between c.args.machine.now c.args.steps.now _ c.put_effects.new.out.items c.requires c.new-out.ensures.items c.in-Ok.ensures.lines (sym (none_is c.in-Ok.refused (sym c.is_some.ensures ∙ c.if-is_some.false)) ∙ c.in-Ok.ensures.refused)
