@@ -10,11 +10,13 @@ Each call takes the files by their names, as texts or bytes, and reads none of t
 any thread, also while others are. A refusal is an exception, with the file and the line where it has them: all are a `CellError`.
 """
 from .answers import Count, Finding, Hunt, Image, Lines, Processor, Race, Run, Segment, Shown, Site, States, Step, Trace, Verdict
-from .calls import assemble, check, files_of, hunt, run, trace
-from .errors import CellError, Faulty, LibraryMissing, Misused, NoMemory, NoRun, NotRead
+from .calls import assemble, check, debug, disassemble, files_of, hunt, permute, run, trace
+from .errors import CellError, Faulty, LibraryMissing, Misused, NoMemory, NoRun, NotRead, Racy
 from .library import Answer, ask
+from .version import __version__
 
 __all__ = [
     "Answer", "CellError", "Count", "Faulty", "Finding", "Hunt", "Image", "LibraryMissing", "Lines", "Misused", "NoMemory", "NoRun", "NotRead", "Processor", "Race",
-    "Run", "Segment", "Shown", "Site", "States", "Step", "Trace", "Verdict", "ask", "assemble", "check", "files_of", "hunt", "run", "trace",
+    "Racy", "Run", "Segment", "Shown", "Site", "States", "Step", "Trace", "Verdict", "__version__", "ask", "assemble", "check", "debug", "disassemble", "files_of",
+    "hunt", "permute", "run", "trace",
 ]

@@ -15,7 +15,7 @@ Json = Dict[str, Any]  # an object as JSON has it, whose members are of any kind
 
 @dataclasses.dataclass(frozen=True)
 class Segment:
-    """Bytes that lie together in an image: `kind` is `code` or `bytes`."""
+    """Contiguous bytes of an image: `kind` is `code` or `bytes`."""
     kind: str
     address: int
     data: bytes
@@ -23,7 +23,7 @@ class Segment:
 
 @dataclasses.dataclass(frozen=True)
 class Image:
-    """What a source assembles to. `text` is what `cell asm` prints, lines of a machine file."""
+    """The image of a source. `text` has the lines of a machine file for it, as the form `asm` prints them; `entry` is the address of the first instruction."""
     text: str
     segments: Tuple[Segment, ...]
     entry: int
@@ -50,7 +50,7 @@ def image_of(text: str) -> Image:
 
 @dataclasses.dataclass(frozen=True)
 class Processor:
-    """A processor behind the last step: `registers` has those that aren't zero, by their numbers."""
+    """An SPU after the last step: `queued` is the number of its outstanding commands, and `registers` has the registers that aren't zero, by their numbers."""
     number: int
     status: str
     pc: int
@@ -60,7 +60,7 @@ class Processor:
 
 @dataclasses.dataclass(frozen=True)
 class Shown:
-    """Bytes that the machine file shows: of a processor's store, or of main memory where `processor` is None."""
+    """Bytes that the machine file shows: of the local store of an SPU, or of main memory if `processor` is None."""
     processor: Optional[int]
     address: int
     data: bytes
@@ -68,7 +68,8 @@ class Shown:
 
 @dataclasses.dataclass(frozen=True)
 class States:
-    """How the machine stands behind the last step. `end` is the end word, and `took` has the values that the host took, by the numbers of its actions."""
+    """The states after the last step. `end` is the end word; `actions_done` counts the actions of the host that were made; `took` has the values that the host
+    took, by the numbers of its actions."""
     end: str
     processors: Tuple[Processor, ...]
     actions_done: int
@@ -79,13 +80,14 @@ class States:
 
 @dataclasses.dataclass(frozen=True)
 class Run:
-    """A run: `text` is what `cell run` prints, its record and the states, which `check` and `trace` take."""
+    """A run. `text` is its record and the states, as the form `run` prints them; `check`, `permute` and `trace` take it."""
     text: str
     steps: int
     states: States
 
     @property
     def end(self) -> str:
+        """The end word, such as `AllStopped` or `Stuck` (a deadlock)."""
         return self.states.end
 
 
@@ -123,7 +125,7 @@ def run_of(text: str) -> Run:
 
 @dataclasses.dataclass(frozen=True)
 class Verdict:
-    """What `check` says of a record. Where it has a race, `places` has the two steps, counted from 0, and `lines` what they are; else there are none."""
+    """The verdict on a record. If two of its steps race, `places` has their numbers, counted from 0, and `lines` their texts; else both are empty."""
     text: str
     is_accepted: bool
     places: Tuple[int, ...] = ()
@@ -142,7 +144,8 @@ def verdict_of(text: str) -> Verdict:
 
 @dataclasses.dataclass(frozen=True)
 class Site:
-    """Where a step of a race comes from: `letter` is that of its line, and `address` that of its instruction; or `action` is the number of the host's."""
+    """The instruction or host action that a step of a race comes from. `letter` begins the line of the step; an instruction has `processor` and `address`, and
+    an action of the host its number, `action`."""
     letter: str
     processor: Optional[int] = None
     address: Optional[int] = None
@@ -153,14 +156,14 @@ class Site:
 
 
 class Count(NamedTuple):
-    """How many runs have something, and the number of the first, None if none has it."""
+    """The number of runs that have something, and the number of the first of them: None if no run has it."""
     runs: int
     first: Optional[int]
 
 
 @dataclasses.dataclass(frozen=True)
 class Race:
-    """A race of two sites, in the order in which their steps came in the first run that has it."""
+    """A data race of two sites, in the order of their steps in the first run that has it."""
     first: Site
     second: Site
     count: Count
@@ -168,9 +171,9 @@ class Race:
 
 @dataclasses.dataclass(frozen=True)
 class Finding:
-    """A failure or a warning that `runs` runs have, and the number of the first of them. The `kind` of a failure is race, halt, fault, deadlock, livelock, missed or
-    budget, that of a warning lost-signal, unread-putllc or unread-tags; `lines` are those that a report prints of it: source lines for most kinds, and for a race
-    the suppression too."""
+    """A failure or a warning, the number of runs that have it, and the number of the first of them. The `kind` of a failure is race, halt, fault, deadlock,
+    livelock, missed or budget, that of a warning lost-signal, unread-putllc or unread-tags. `lines` are the lines of the report: source lines for most kinds, and
+    for a race the suppression too."""
     kind: str
     runs: int
     first: int
@@ -178,16 +181,16 @@ class Finding:
 
 
 class Lines(NamedTuple):
-    """The numbers of the lines of a source that have an instruction, in their order: those that a run executed, and those that no run did."""
+    """The numbers of the lines of a source that have an instruction: those that a run executed, and those that no run executed."""
     executed: Tuple[int, ...]
     unexecuted: Tuple[int, ...]
 
 
 @dataclasses.dataclass(frozen=True)
 class Hunt:
-    """The report on many runs. `flaws` has how many have a race, are stuck, livelocked, spent the budget while still progressing, have a fault or a halt, or miss
-    an expected line, `findings` each failure, and `warnings` each warning; `endings` how they end, and `results` what those of an ending leave, by both, each with
-    how many. `coverage` has the lines of each source by its name; a line counts as executed if one SPU executed it. `text` is what `hunt --json` prints."""
+    """The report on many runs. `flaws` counts the runs with a `race`, `stuck` (a deadlock), `livelock`, `budget` (spent while still progressing), `fault`, `halt` or
+    `missed` line; `findings` has each failure, and `warnings` each warning. `endings` counts the runs by their end word, and `results` by end word and result.
+    `coverage` has the lines of each source by its name; a line counts as executed if one SPU executed it. `text` is the report as JSON, one object a line."""
     text: str
     runs: int
     seed: int
@@ -201,7 +204,7 @@ class Hunt:
 
     @property
     def is_clean(self) -> bool:
-        """Whether no run has a flaw. Warnings are none."""
+        """Whether no run has a failure. A warning is none."""
         return not any(count.runs for count in self.flaws.values())
 
 
@@ -250,8 +253,8 @@ def hunt_of(text: str) -> Hunt:
 
 @dataclasses.dataclass(frozen=True)
 class Step:
-    """What a step does: `line` is the step as a record of format 1 has it, and `fields` what else it tells by names, each with its words; `fetch`, `read` and
-    `write` have the place (a processor, or `mem`), the first byte and how many there are."""
+    """A step and its effects. `line` is the step as a record of format 1 has it. `fields` has its effects by their names, each with its words: `fetch`, `read`
+    and `write` have the place (an SPU, or `mem`), the first byte, and the number of bytes."""
     line: str
     fields: Dict[str, Tuple[str, ...]]
 
@@ -262,7 +265,7 @@ def step_of(text: str) -> Step:
 
 
 class Trace(Sequence[Step]):
-    """The steps of a record, in their order. It keeps their text, `text`, and makes a Step each time one is asked for: a million steps take some 100 MB."""
+    """The steps of a record, a sequence. It keeps their text, `text`, and makes a `Step` on each access: a million steps take about 100 MB."""
 
     def __init__(self, text: bytes) -> None:
         self.text = text

@@ -52,6 +52,10 @@ class NoRun(CellError):
     """A record isn't one of the machine file, or its run isn't settled."""
 
 
+class Racy(CellError):
+    """Two steps of the record race, so `permute` has no other order of it. `said` is the verdict: the numbers of the two steps, and what they are."""
+
+
 class NoMemory(CellError, MemoryError):
     """Memory ran out."""
 

@@ -18,7 +18,7 @@ PART = 1 << 30  # bytes: ctypes copies fewer than 2^31 at once
 
 
 class Answer(NamedTuple):
-    """What the program answers: its exit status, and its output, or its error line if the status is above 1."""
+    """The answer of a program: its exit status, and its output, or its error line if the status is above 1."""
     status: int
     text: bytes
 
@@ -78,7 +78,23 @@ def copied(place: int, count: int) -> bytes:
 
 
 def ask(words: Sequence[str], files: Mapping[str, Bytes]) -> Answer:
-    """What the program answers to these words, with these files: it is computed once, whatever its length. Misused if a word or a name has a line feed."""
+    """Asks what a program is asked by these words. A refusal is an answer, too, and no exception.
+
+    Arguments:
+        words: the words of a command line, as the guide to embedding lists them
+        files: the texts of the files that the words and the machine file name, by their names
+
+    Example:
+        >>> cell.ask(["check", "m", "r"], {})
+        Answer(status=3, text=b'cell: cannot read machine file\\n')
+
+    Returns: the exit status and the output. If the status is above 1, the text is the error line.
+
+    Raises:
+        Misused: a word or a name has a line feed, or two names are the same
+        LibraryMissing: there is no shared library for this machine
+        TypeError: an argument has another type
+    """
     asked = b"".join(line_of(word, "a word") for word in words)
     given = bundle_of(needed(words, files_of_names(files)))
     text, count = ctypes.c_void_p(), ctypes.c_size_t()

@@ -2,11 +2,13 @@
 import os
 import pathlib
 import pickle
+import platform
+import shutil
 import signal
 import subprocess
 import sys
 import time
-from typing import Any, Callable, Dict, Iterator, List, Tuple
+from typing import Any, Callable, Dict, Iterator, List, Optional, Tuple
 
 from celltools.common.repository import ROOT
 
@@ -46,6 +48,13 @@ print(cell.ask(["asm", "last.s"], {**files, "last.s": b"stop 1\\n"}).text)
 machine = "cell-machine 1\\nlines 1\\nbudget 9\\nspe\\nsource last.s # 7.s\\n"
 print(cell.run("m", {**files, "m": machine, "last.s": b"stop 1\\n"}).end)
 """
+
+
+def why_skipped() -> Optional[str]:
+    """Why the library can't be made on this machine; None if it can."""
+    if (platform.system(), platform.machine()) != ("Linux", "x86_64"):
+        return "c/libcell.a is for x86-64 Linux"
+    return None if shutil.which("cc") else "there is no C compiler `cc`"
 
 
 def spinning(budget: int) -> str:

@@ -13,4 +13,5 @@ picture      a record as a page
 debugger     the commands of tools/debug
 translation  Python modules written as JavaScript
 page         makes page/cell.html
+usage        the table of forms and options, and the completions and pages for `man` that are made of it
 """

@@ -13,7 +13,7 @@ from celltools.common.texts import MOST_NUMBER, number_of, say
 MISUSED = 2
 USAGE = re.compile(r"^Usage: .*(?:\n +.*)*", re.M)
 END_OF_OPTIONS = "--"
-STANDARD_INPUT = "-"
+STANDARD_INPUT, STANDARD_INPUT_FILE = "-", "/dev/stdin"
 OF_EACH = """
 Options of every program of this repository:
   -h, --help  print this text
@@ -57,6 +57,8 @@ class Words(argparse.ArgumentParser):
         asked = self.options_in(before)
         if "--help" not in asked and "-h" not in asked and "--version" in asked:
             raise SystemExit(print_version())
+        if [*before, *names].count(STANDARD_INPUT) > 1:
+            self.error("standard input can be read only once: give `-` once")
         return self.parse_intermixed_args([*before, *names])
 
     def options_in(self, words: Sequence[str]) -> List[str]:
@@ -128,6 +130,11 @@ def number_up_to(most: int, word: str) -> int:
     if found is None:
         raise argparse.ArgumentTypeError(f"'{word}' is not a number from 0 to {most}")
     return found
+
+
+def input_name(word: str) -> str:
+    """Returns the name of a file that is read once: for `-`, that of standard input."""
+    return STANDARD_INPUT_FILE if word == STANDARD_INPUT else file_name(word)
 
 
 def file_name(word: str) -> str:

@@ -6,7 +6,7 @@ import functools
 from typing import Iterator, Optional, Sequence, Tuple
 
 from celltools.common.texts import quoted
-from celltools.common.words import Words, file_name, number, number_up_to
+from celltools.common.words import Words, input_name, number, number_up_to
 from celltools.run.runs import Refused, asked, next_step, said_of
 from celltools.run.snapshots import Snapshot, snapshots
 
@@ -51,7 +51,7 @@ def asked_of(reader: Words, words: Sequence[str], rest: int = 0, needs_record: b
     no record is needed; the reader has the other options. Where they are none of these, the program ends."""
     reader.add_argument("--run", type=number)
     reader.add_argument("--seed", type=functools.partial(number_up_to, MOST_SEED))
-    reader.add_argument("names", type=file_name, nargs="*")
+    reader.add_argument("names", type=input_name, nargs="*")
     options = reader.read(words)
     names, of_hunt = options.names, options.run is not None
     least = 1 if of_hunt or not needs_record else 2
