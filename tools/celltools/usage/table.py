@@ -35,7 +35,7 @@ class Program:
 
 
 # The forms of run_trace, as `tools/launch run_trace` prints them.
-OF_RUN_TRACE = ("alone M", "choose M CHOICES", "(effects|before|states) M RECORD", "(before|states) M RECORD NUMBER", "go M RECORD STEPS CHOICES", "lines SOURCE",
+OF_RUN_TRACE = ("alone M", "choose M CHOICES", "(effects|log|before|states) M RECORD", "(before|states) M RECORD NUMBER", "go M RECORD STEPS CHOICES", "lines SOURCE",
                 "plan M", "time M RECORD")
 
 PROGRAMS = (
@@ -44,7 +44,7 @@ PROGRAMS = (
             ("-h, --help", "--version"), are_first=True),
     Program("./hunt", "runs a machine many times in random schedules, and reports what went wrong",
             ("MACHINE [RUNS [SEED]] [OPTION..]", "MACHINE each [RUNS [SEED]] [--runs N] [--seed S] [--from K]", "MACHINE record K [SEED] [--seed S]"),
-            ("--runs N", "--time S", "--seed S", "--from K", "--jobs N", "--expect FILE", "--pass FILE", "--until FILE", "--all", "--tools DIR", "--json", *OF_EACH)),
+            ("--runs N", "--time S", "--seed S", "--from K", "--jobs N", "--expect FILE", "--pass FILE", "--warn WHAT", "--until FILE", "--all", "--tools DIR", "--json", *OF_EACH)),
     Program("tools/race", "explains the first data race of a record, and what would order it",
             ("[--race I J] MACHINE RECORD", "[--race I J] --run K [--seed S] MACHINE"), ("--race I J", *OF_HUNT_RUN, *OF_EACH)),
     Program("tools/picture", "draws a record as a page",
@@ -59,8 +59,8 @@ PROGRAMS = (
     Program("tools/explain", "explains all faulty lines of a file", ("FILE..",)),
     Program("tools/listing", "prints a source with its addresses and words", ("SOURCE",)),
     Program("tools/from_gas", "converts sources of GNU as", ("[-o WHOLE.s] SOURCE..",), ("-o WHOLE.s", *OF_EACH)),
-    Program("tools/hunts", "adds up parts of hunts", ("[--all | --json] [--sarif OUT] FILE..", "--missing N FILE.."),
-            ("--all", "--json", "--sarif OUT", "--missing N", *OF_EACH)),
+    Program("tools/hunts", "adds up parts of hunts", ("[--all | --json] [--warn WHAT] [--sarif OUT] FILE..", "--missing N FILE.."),
+            ("--all", "--json", "--warn WHAT", "--sarif OUT", "--missing N", *OF_EACH)),
     Program("tools/launch", "runs, builds and proves the programs, for ./cell, ./hunt and the tools",
             ("PROGRAM [WORD..]", "--hints PROGRAM [WORD..]", "--build", "--prove", "--compare", "--version", "--checksum", "--built CHECKSUM", "--help"),
             ("-h, --help", "--version", "--hints", "--build", "--prove", "--compare", "--checksum", "--built CHECKSUM"),
