@@ -9,8 +9,8 @@ _cell_table() {
         forms=('=run machine' '=check machine file' '=asm source' '=gen text' '=debug machine file' '=permute machine file text' '=prove')
         ;;
     hunt)
-        options='--runs --time --seed --from --jobs --expect --pass --until --all --tools --json -h --help --version --'
-        values=([--runs]='text' [--time]='text' [--seed]='text' [--from]='text' [--jobs]='text' [--expect]='file' [--pass]='file' [--until]='file' [--tools]='folder')
+        options='--runs --time --seed --from --jobs --expect --pass --warn --until --all --tools --json -h --help --version --'
+        values=([--runs]='text' [--time]='text' [--seed]='text' [--from]='text' [--jobs]='text' [--expect]='file' [--pass]='file' [--warn]='text' [--until]='file' [--tools]='folder')
         forms=('machine text text' 'machine =each text text' 'machine =record text text')
         ;;
     race)
@@ -52,14 +52,14 @@ _cell_table() {
         forms=('source..')
         ;;
     hunts)
-        options='--all --json --sarif --missing -h --help --version --'
-        values=([--sarif]='file' [--missing]='text')
+        options='--all --json --warn --sarif --missing -h --help --version --'
+        values=([--warn]='text' [--sarif]='file' [--missing]='text')
         forms=('file..')
         ;;
     launch)
         options='-h --help --version --hints --build --prove --compare --checksum --built' first=yes
         values=([--built]='text')
-        forms=('=cell_cli file..' '=hunt file..' '=run_trace =alone machine' '=run_trace =choose machine file' '=run_trace =effects machine file' '=run_trace =before machine file' '=run_trace =states machine file' '=run_trace =before machine file text' '=run_trace =states machine file text' '=run_trace =go machine file text file' '=run_trace =lines source' '=run_trace =plan machine' '=run_trace =time machine file')
+        forms=('=cell_cli file..' '=hunt file..' '=run_trace =alone machine' '=run_trace =choose machine file' '=run_trace =effects machine file' '=run_trace =log machine file' '=run_trace =before machine file' '=run_trace =states machine file' '=run_trace =before machine file text' '=run_trace =states machine file text' '=run_trace =go machine file text file' '=run_trace =lines source' '=run_trace =plan machine' '=run_trace =time machine file')
         ;;
     sources)
         options='-h --help --version --'

@@ -27,7 +27,7 @@ function __cell_forms
         case hunts
             printf '%s\n' 'file..'
         case launch
-            printf '%s\n' '=cell_cli file..' '=hunt file..' '=run_trace =alone machine' '=run_trace =choose machine file' '=run_trace =effects machine file' '=run_trace =before machine file' '=run_trace =states machine file' '=run_trace =before machine file text' '=run_trace =states machine file text' '=run_trace =go machine file text file' '=run_trace =lines source' '=run_trace =plan machine' '=run_trace =time machine file'
+            printf '%s\n' '=cell_cli file..' '=hunt file..' '=run_trace =alone machine' '=run_trace =choose machine file' '=run_trace =effects machine file' '=run_trace =log machine file' '=run_trace =before machine file' '=run_trace =states machine file' '=run_trace =before machine file text' '=run_trace =states machine file text' '=run_trace =go machine file text file' '=run_trace =lines source' '=run_trace =plan machine' '=run_trace =time machine file'
         case sources
             printf '%s\n' 'machine'
         case site_lines
@@ -41,7 +41,7 @@ end
 function __cell_values
     switch $argv[1]
         case hunt
-            printf '%s\n' '--runs' '--time' '--seed' '--from' '--jobs' '--expect' '--pass' '--until' '--tools'
+            printf '%s\n' '--runs' '--time' '--seed' '--from' '--jobs' '--expect' '--pass' '--warn' '--until' '--tools'
         case race
             printf '%s\n' '--race' '--race' '--run' '--seed'
         case picture
@@ -55,7 +55,7 @@ function __cell_values
         case from_gas
             printf '%s\n' '-o'
         case hunts
-            printf '%s\n' '--sarif' '--missing'
+            printf '%s\n' '--warn' '--sarif' '--missing'
         case launch
             printf '%s\n' '--built'
         case site_lines
@@ -147,6 +147,7 @@ complete -c hunt -l from -x -d 'the number of the first run (default 0)'
 complete -c hunt -l jobs -x -d 'the number of threads, 1 to 256 (default: one for each core)'
 complete -c hunt -l expect -rF -d 'each line of FILE has to be among the states of every run'
 complete -c hunt -l pass -rF -d 'suppressions: the data races in FILE, as ./hunt prints them, aren\'t reported'
+complete -c hunt -l warn -x -d 'what to do with warnings: `print` them (default), look for `none`, or `error`: print them, and count them as failures'
 complete -c hunt -l until -rF -d 'end the hunt once FILE exists, and report on the runs made so far'
 complete -c hunt -l all -d 'print all findings (failures and warnings), not only the first four'
 complete -c hunt -l tools -xa '(__fish_complete_directories)' -d 'the folder of the tools in the commands that the report prints (default: that of this ./hunt)'
@@ -214,6 +215,7 @@ complete -c hunts -f
 complete -c hunts -k -a '(__cell_words hunts)'
 complete -c hunts -l all -d 'print all findings (failures and warnings), in place of the first four'
 complete -c hunts -l json -d 'print the sum as --json of ./hunt prints it'
+complete -c hunts -l warn -x -d 'what to do with warnings: `print` them (default), leave them out with `none`, or `error`: print them, and count them as failures'
 complete -c hunts -l sarif -rF -d 'also write the findings as SARIF 2.1.0 to OUT, over what is there'
 complete -c hunts -l missing -x -d 'print, in place of a report, which of the runs 0 to N - 1 no part has: a line `--from K --runs M` for each gap, the words for ./hunt'
 complete -c hunts -s h -d 'print this text'

@@ -10,7 +10,7 @@ MACHINE, SOURCE, FILE, FOLDER, TEXT = "machine", "source", "file", "folder", "te
 KINDS: Mapping[str, str] = {
     "MACHINE": MACHINE, "M": MACHINE, "SOURCE": SOURCE, "RECORD": FILE, "SCRIPT": FILE, "FILE": FILE, "OUT": FILE, "NAME": FILE, "WHOLE.s": SOURCE,
     "DIR": FOLDER, "FOLDER": FOLDER, "CHOICES": FILE, "LINE": TEXT, "WORD": FILE, "N": TEXT, "S": TEXT, "K": TEXT, "I": TEXT, "J": TEXT,
-    "RUNS": TEXT, "SEED": TEXT, "STEP": TEXT, "STEPS": TEXT, "NUMBER": TEXT, "CHECKSUM": TEXT,
+    "RUNS": TEXT, "SEED": TEXT, "STEP": TEXT, "STEPS": TEXT, "NUMBER": TEXT, "CHECKSUM": TEXT, "WHAT": TEXT,
 }  # fmt: skip
 # Words of a form that stand for one of several.
 ONE_OF: Mapping[str, Tuple[str, ...]] = {"PROGRAM": ("cell_cli", "hunt", "run_trace")}
