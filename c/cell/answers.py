@@ -172,8 +172,8 @@ class Race:
 @dataclasses.dataclass(frozen=True)
 class Finding:
     """A failure or a warning, the number of runs that have it, and the number of the first of them. The `kind` of a failure is race, halt, fault, deadlock,
-    livelock, missed or budget, that of a warning lost-signal, unread-putllc or unread-tags. `lines` are the lines of the report: source lines for most kinds, and
-    for a race the suppression too."""
+    livelock, missed or budget, that of a warning lost-signal, unread-putllc, unread-tags or unwritten-bytes. `lines` are the lines of the report: source lines for
+    most kinds, and for a race the suppression too."""
     kind: str
     runs: int
     first: int
