@@ -2,7 +2,6 @@
 from typing import Dict, NamedTuple, Tuple, Union
 
 from celltools.hunt.endings import Json
-
 from celltools.telling.backwards import LABEL, TOOL
 
 TO_RACE = ("why", "race")  # a label and the tool of its command
