@@ -1,4 +1,4 @@
-# Gathers two records by a list, and adds them up. The size of the list, in line 7, is wrong: docs/guide/hunting.md finds out why.
+# Gathers two records by a list, and adds them up. The size of the list, in line 7, is wrong: docs/guide/walks.md finds out why.
 	.text
 _start:	ila	$3,table
 	wrch	$ch16,$3	# MFC_LSA
