@@ -16,6 +16,7 @@ const FINDINGS = {
 /** How the first line of a warning names it, by the kinds of warnings. */
 const WARNINGS = {
   'lost-signal': 'warning: lost signal', 'unread-putllc': 'warning: unread status of a PUTLLC', 'unread-tags': 'warning: unread tag status',
+  'unwritten-bytes': 'warning: bytes that nothing wrote',
 };
 const NOTHING = 'no data race, halt, fault, deadlock, livelock or spent budget';
 const MOST_ENDINGS = 8, MOST_RESULTS = 8; // that are listed: endings in which all SPUs stopped, and results of an ending

@@ -169,8 +169,8 @@ class Race:
 @dataclasses.dataclass(frozen=True)
 class Finding:
     """A failure or a warning that `runs` runs have, and the number of the first of them. The `kind` of a failure is race, halt, fault, deadlock, livelock, missed or
-    budget, that of a warning lost-signal, unread-putllc or unread-tags; `lines` are those that a report prints of it: source lines for most kinds, and for a race
-    the suppression too."""
+    budget, that of a warning lost-signal, unread-putllc, unread-tags or unwritten-bytes; `lines` are those that a report prints of it: source lines for most kinds,
+    and for a race the suppression too."""
     kind: str
     runs: int
     first: int

@@ -5,13 +5,14 @@ from typing import Iterator, List, NamedTuple
 
 from lib.hunting import tool
 
-COMMAND = re.compile(r"  (why, and how to fix it|why|backwards from its end|the states of this run|who wrote it): (.+?)(?:, then `run` and `(last .+)`)?")
+COMMAND = re.compile(r"  (why, and how to fix it|why|backwards from its end|step through this run|the states of this run|who wrote it): (.+?)(?:, then `run` and `(last .+)`)?")
 PLACE = re.compile(r"  (.+?:\d+): .*  \((?!SPU \d+ loops).*\)")  # but for the line of a loop: a command has the place where the SPU is
 ENDED = (0, 1)  # the statuses of a tool that has an answer
 # What the output has, by the words before the command.
 HELP = {
     "why, and how to fix it": r"^why the first does not happen before the second:$(?s:.*)^how to fix it", "why": r"^(waiting SPUs|running SPUs|faults and halts):$",
-    "backwards from its end": r"^\d+ steps; starting (at the end: |after step \d+, )", "the states of this run": r"\Aend \w+$", "who wrote it": r"> last .*\nstep \d+, ",
+    "backwards from its end": r"^\d+ steps; starting (at the end: |after step \d+, )", "step through this run": r"^\d+ steps; starting ",
+    "the states of this run": r"\Aend \w+$", "who wrote it": r"> last .*\nstep \d+, ",
 }  # fmt: skip
 PLACED = ("why, and how to fix it", "why")  # whose output has the place of the finding, too
 

@@ -1,20 +1,22 @@
-"""Writes machines for tests/findings, and keeps what their files say: programs that poll, spin, lose values, halt, and have lines that no run executes.
+"""Writes machines for tests/findings, and keeps what their files say: programs that poll, spin, lose values, read bytes that nothing wrote, halt, and have lines
+that no run executes.
 
 The sources have labels, comments, blank lines and directives at random, and two SPUs may load one source. `code` and `bytes` lines place words over some
 instructions. The budgets are small, so that many runs spend them.
 """
 import pathlib
 import random
-from typing import Callable, Dict, List, NamedTuple, Optional, Tuple
+from typing import Callable, Dict, Iterator, List, NamedTuple, Optional, Sequence, Tuple
 
 from lib.random_machines import GETLLAR, PUTLLC, PUTLLUC, Program, host_lines, load, mode_lines, write
 
 STORE_BYTES, MEMORY_LINE, WORD = 1 << 18, 128, 4
+DATA_ALIGNMENT = 128  # of the data of a source, after its text
 LINES = 16
 BUDGETS = (120, 250, 400, 700, 1200)
 NOP, BRANCH_TO_ITSELF, ISSUE = "40200000", "32000000", "21a00a8a"  # words: `nop`, `br` to its own address, `wrch $ch21,$10`
 ISSUING = "wrch $ch21,$10"
-GET, SNDSIG = 0x40, 0xa0
+PUT, GET, GETL, SNDSIG = 0x20, 0x40, 0x44, 0xa0
 
 
 class Line(NamedTuple):
@@ -41,6 +43,7 @@ class Machine(NamedTuple):
     budget: int
     lines: int
     sources: Dict[str, List[Line]]  # by their names, in the order of the machine file
+    images: Dict[str, List[Tuple[int, int]]]  # of each source, where its text and its data are: the first address and how many bytes
     placed: List[Placed]
     memory: List[Tuple[int, bytes]]  # bytes of main memory at the start
     host: List[str]
@@ -145,9 +148,9 @@ def decorated(rng: random.Random, lines: List[str]) -> str:
 
 # ---- files
 
-def lines_of(text: str) -> List[Line]:
-    """The lines of a source that place words in the text."""
-    found, at, in_text = [], 0, True
+def placing_lines(text: str) -> Iterator[Tuple[bool, Line]]:
+    """The lines of a source that place words: whether in the text, and the line, whose address counts from the start of its section."""
+    at, in_text = {True: 0, False: 0}, True
     for number, line in enumerate(text.splitlines(), 1):
         statement = line.split("#")[0].strip()
         rest = statement
@@ -155,11 +158,21 @@ def lines_of(text: str) -> List[Line]:
             rest = rest[rest.index(":") + 1:].strip()
         if rest in (".text", ".data"):
             in_text = rest == ".text"
-        elif rest and in_text:
+        elif rest:
             size = WORD * (rest.count(",") + 1) if rest.startswith(".") else WORD
-            found.append(Line(number, at, size, statement, "" if rest.startswith(".") else rest))
-            at += size
-    return found
+            yield in_text, Line(number, at[in_text], size, statement, "" if rest.startswith(".") else rest)
+            at[in_text] += size
+
+
+def lines_of(text: str) -> List[Line]:
+    """The lines of a source that place words in the text."""
+    return [line for in_text, line in placing_lines(text) if in_text]
+
+
+def image_of(text: str) -> List[Tuple[int, int]]:
+    """Where the text and the data of a source are."""
+    of_text, of_data = (sum(line.size for in_text, line in placing_lines(text) if in_text == wanted) for wanted in (True, False))
+    return [(0, of_text), (-(-of_text // DATA_ALIGNMENT) * DATA_ALIGNMENT, of_data)]
 
 
 def replacing(rng: random.Random, spe: int, lines: List[Line]) -> List[Tuple[str, int, str]]:
@@ -178,7 +191,7 @@ def memory_lines(rng: random.Random) -> List[Tuple[int, bytes]]:
 def random_machine(rng: random.Random, folder: pathlib.Path) -> Machine:
     """Writes a machine file, `machine.cell`, with its sources."""
     spes = rng.randrange(1, 5)
-    machine = Machine(spes, rng.choice(BUDGETS), LINES, {}, [], memory_lines(rng), host_lines(rng, spes), [])
+    machine = Machine(spes, rng.choice(BUDGETS), LINES, {}, {}, [], memory_lines(rng), host_lines(rng, spes), [])
     programs = [Finding(rng, spes) for _ in range(spes)]
     texts = [program.text() for program in programs]
     of_spe = [rng.randrange(spe + 1) if rng.random() < 0.25 else spe for spe in range(spes)]
@@ -187,6 +200,7 @@ def random_machine(rng: random.Random, folder: pathlib.Path) -> Machine:
         name = f"{own}.s"
         (folder / name).write_text(texts[own])
         machine.sources.setdefault(name, lines_of(texts[own]))
+        machine.images[name] = image_of(texts[own])
         machine.placed.append(Placed(spe, name, 0, b""))
         file += ["spe", f"source {name}"]
         words = [("bytes", at, "".join(f"{(flag << 31) | size:08x}{ea:08x}" for flag, size, ea in elements)) for at, elements in programs[own].lists]
@@ -208,16 +222,19 @@ def write_file(folder: pathlib.Path, machine: Machine, lines: List[str]) -> None
 
 # ---- machines whose runs are known step by step
 
-def alone(folder: pathlib.Path, budget: int, *programs: List[str]) -> Machine:
-    """Writes a machine of these programs, without a host."""
-    machine = Machine(len(programs), budget, 1, {}, [], [], [], [])
+def alone(folder: pathlib.Path, budget: int, *programs: List[str], words: Sequence[Tuple[int, str]] = ()) -> Machine:
+    """Writes a machine of these programs, without a host; `words` are addresses and digits of bytes in the store of the last SPU."""
+    machine = Machine(len(programs), budget, 1, {}, {}, [], [], [], [])
     file: List[str] = []
     for spe, lines in enumerate(programs):
         name, text = f"{spe}.s", "".join(f"{line}\n" if line.endswith(":") else f"\t{line}\n" for line in lines)
         (folder / name).write_text(text)
-        machine.sources[name] = lines_of(text)
+        machine.sources[name], machine.images[name] = lines_of(text), image_of(text)
         machine.placed.append(Placed(spe, name, 0, b""))
         file += ["spe", f"source {name}"]
+    for at, digits in words:
+        machine.placed.append(Placed(len(programs) - 1, None, at, bytes.fromhex(digits)))
+        file.append(f"bytes {at} {digits}")
     write_file(folder, machine, file)
     return machine
 
@@ -253,6 +270,29 @@ def store_then_spin(folder: pathlib.Path) -> Machine:
     return alone(folder, 1000, stores, polls)
 
 
+def command(opcode: int, lsa: int, ea: int, size: int) -> List[str]:
+    """The lines that issue a command with tag 0."""
+    return write(16, lsa) + write(18, ea) + write(19, size) + write(20, 0) + write(21, opcode)
+
+
+def long_list(folder: pathlib.Path) -> Machine:
+    """A list of two elements, whose size is that of four."""
+    return alone(folder, 100, command(GETL, 0x1000, 0x2000, 32) + ["stop 1"], words=[(0x2000, "00000010000000000000001000000010")])
+
+
+def unwritten_loads(folder: pathlib.Path) -> Machine:
+    """Loads of quadwords of which one byte is placed, none, none but after another load, and none but after a store; then one of data, and one just below them."""
+    loads = ["lqa $3,0x1000", "lqa $3,0x1010", "lqa $4,0x1010", "stqa $3,0x1020", "lqa $3,0x1020", "lqa $3,128", "lqa $3,112"]
+    return alone(folder, 100, loads + ["stop 1", ".data", ".long 1"], words=[(0x100f, "01")])
+
+
+def unwritten_transfers(folder: pathlib.Path) -> Machine:
+    """A PUT of bytes of which some are placed, the same once more, a signal, a line of a PUTLLUC, and a PUT of what a GET brought."""
+    waits = write(22, 1) + write(23, 2) + ["rdch $13,$ch24"]
+    puts = (command(PUT, 0x1000, 0, 32) + waits) * 2 + command(SNDSIG, 0x1100, 0, 4) + waits + command(PUTLLUC, 0x3000, 0, 128) + ["rdch $14,$ch27"]
+    return alone(folder, 400, puts + command(GET, 0x1200, 0, 16) + waits + command(PUT, 0x1200, 16, 16) + waits + ["stop 1"], words=[(0x1000, "0102030405")])
+
+
 KNOWN: Dict[str, Callable[[pathlib.Path], Machine]] = {
     "a change just below three quarters": lambda folder: change_at(folder, 74, 100),
     "a change at three quarters": lambda folder: change_at(folder, 75, 100),
@@ -260,4 +300,5 @@ KNOWN: Dict[str, Callable[[pathlib.Path], Machine]] = {
     "a change above three quarters of an odd budget": lambda folder: change_at(folder, 76, 101),
     "a change as the last step": lambda folder: change_at(folder, 99, 100),
     "no change": no_change, "a long loop": long_loop, "an SPU that waits": waits_beside, "many that spin": many_spin, "a stored line that is polled": store_then_spin,
+    "a list that is too long": long_list, "loads of bytes that nothing wrote": unwritten_loads, "transfers of bytes that nothing wrote": unwritten_transfers,
 }  # fmt: skip

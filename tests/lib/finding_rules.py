@@ -1,4 +1,5 @@
-"""What docs/guide/hunting.md says of livelocks, spent budgets, lost values and executed lines: told once more in plain Python, beside the proved program.
+"""What docs/guide/hunting.md says of livelocks, spent budgets, lost values, unwritten bytes and executed lines: told once more in plain Python, beside the proved
+program.
 
 It reads a run's steps with their effects, and the files of the machine as tests/lib/finding_machines.py wrote them. The bytes of main memory and of the local
 stores are computed here, from the few instructions that these programs have. Nothing here is fast: every rule looks at every step.
@@ -14,7 +15,7 @@ SHOWN_SPUS = 4
 SHOWN_SPANS = 8
 WORD = 4
 NO_EFFECT = "nop"
-LOST_SIGNAL, UNREAD_PUTLLC, UNREAD_TAGS = "lost-signal", "unread-putllc", "unread-tags"
+LOST_SIGNAL, UNREAD_PUTLLC, UNREAD_TAGS, UNWRITTEN_BYTES = "lost-signal", "unread-putllc", "unread-tags", "unwritten-bytes"
 LIVELOCK, BUDGET = "livelock", "budget"
 FAILED = 1  # the atomic status of a PUTLLC that stored nothing
 OTHER_LINES = "  no SPU is running, but a DMA command is not complete\n"
@@ -427,12 +428,47 @@ def unread_tags(run: Run) -> List[Loss]:
     return values.losses
 
 
+# ---- bytes that nothing wrote
+
+def known_at_start(machine: Machine) -> List[bytearray]:
+    """For each byte of the local stores 1 if the machine file placed it, else 0."""
+    known = [bytearray(STORE_BYTES) for _ in range(machine.spes)]
+    for placed in machine.placed:
+        spans = [(placed.at, len(placed.data))] if placed.source is None else machine.images[placed.source]
+        for at, size in spans:
+            known[placed.spe][at:at + size] = b"\1" * size
+    return known
+
+
+def unwritten_reads(machine: Machine, run: Run) -> List[Tuple[int, Where]]:
+    """The places of the steps that read bytes that aren't known, and the first of these bytes. A byte is known once it was placed or a step touched it.
+    A load reads a whole quadword, so it counts only if no byte of that is known."""
+    known, found = known_at_start(machine), []
+    for place, step in enumerate(run.trace.steps):
+        if step.reads and step.reads.spe is not None:
+            read = known[step.reads.spe][step.reads.at:step.reads.at + step.reads.size]
+            if 0 in read and (step.kind != "instruction" or 1 not in read):
+                found.append((place, (step.reads.spe, step.reads.at + read.index(0))))
+        for span in (step.reads, step.writes):
+            if span and span.spe is not None:
+                known[span.spe][span.at:span.at + span.size] = b"\1" * span.size
+    return found
+
+
+def unwritten_warning(machine: Machine, run: Run, place: int, first: Where) -> Telling:
+    line = f"  it reads bytes that nothing wrote, the first at 0x{first[1]:05x} in the local store of SPU {first[0]}\n"
+    return Telling(UNWRITTEN_BYTES + origin(machine, run, place), step_line(machine, run, place, "") + line)
+
+
 def warnings_in(machine: Machine, run: Run) -> List[Telling]:
-    """The warnings of a run: of losses of one kind between the same two lines, one."""
+    """The warnings of a run: of losses of one kind between the same two lines, one, and of reads of unwritten bytes in one line, one."""
     found: Dict[str, Telling] = {}
     losses = lost_signals(machine, run) + unread_putllcs(run) + unread_tags(run)
     for loss in sorted(losses, key=lambda loss: len(run.trace.steps) if loss.by is None else loss.by):
         key = loss.kind + origin(machine, run, loss.lost) + (" | end" if loss.by is None else origin(machine, run, loss.by))
         by = "  the run ends before it is read\n" if loss.by is None else step_line(machine, run, loss.by, " replaces it")
         found.setdefault(key, Telling(key, step_line(machine, run, loss.lost, loss.does) + by))
+    for place, first in unwritten_reads(machine, run):
+        warning = unwritten_warning(machine, run, place, first)
+        found.setdefault(warning.key, warning)
     return list(found.values())

@@ -5,7 +5,7 @@
 const fs = require('fs'), vm = require('vm'), zlib = require('zlib');
 
 const page = fs.readFileSync(process.argv[2], 'utf8');
-const LEFT = /^(?:$|  (?:why|why, and how to fix it|backwards from its end|who wrote it|suppression): |other runs may still fail: )/;
+const LEFT = /^(?:$|  (?:why|why, and how to fix it|backwards from its end|step through this run|who wrote it|suppression): |other runs may still fail: )/;
 const part = name => zlib.inflateSync(Buffer.from(new RegExp(`<script id="${name}" type="text/plain">([^<]*)</script>`).exec(page)[1], 'base64'));
 
 let answer = null;

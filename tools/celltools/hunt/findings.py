@@ -5,6 +5,7 @@ from celltools.hunt.endings import Json
 
 TO_RACE = ("why", "race")  # a label and the tool of its command
 TO_END = ("backwards from its end", "debug")
+THROUGH = ("step through this run", "debug")  # of a run that need not end badly
 
 
 class FindingKind(NamedTuple):
@@ -31,9 +32,10 @@ FINDING_KINDS: Dict[str, FindingKind] = {
     "budget": FindingKind("budget", "BUDGET SPENT", "spent budget", (TO_END,)),
 }
 WARNING_KINDS: Dict[str, WarningKind] = {
-    "lost-signal": WarningKind("warning: lost signal", (TO_END,)),
-    "unread-putllc": WarningKind("warning: unread status of a PUTLLC", (TO_END,)),
-    "unread-tags": WarningKind("warning: unread tag status", (TO_END,)),
+    "lost-signal": WarningKind("warning: lost signal", (THROUGH,)),
+    "unread-putllc": WarningKind("warning: unread status of a PUTLLC", (THROUGH,)),
+    "unread-tags": WarningKind("warning: unread tag status", (THROUGH,)),
+    "unwritten-bytes": WarningKind("warning: bytes that nothing wrote", (THROUGH,)),
 }
 
 

@@ -41,11 +41,14 @@ RULES = {
     "budget": Rule("BudgetSpent", "A run spends its budget of steps while an SPU still runs and progresses.",
                    "Raise `budget` in the machine file if the program only takes long. Otherwise `tools/debug --run K MACHINE` shows the endless loop."),
     "lost-signal": Rule("LostSignal", "A value in a signal register is overwritten before it is read, or never read.",
-                        "Let the sender wait until the value was read, or set OR mode (`ormode`). `tools/debug --run K MACHINE` begins at the end of the run."),
+                        "Let the sender wait until the value was read, or set OR mode (`ormode`). `tools/debug --run K MACHINE` steps through the run."),
     "unread-putllc": Rule("UnreadPutllc", "A PUTLLC stores nothing, and its status is never read, so the update is lost.",
                           "Read the atomic status after each PUTLLC, and repeat the update if it failed."),
     "unread-tags": Rule("UnreadTagStatus", "A tag status is overwritten before it is read, or never read.",
-                        "Read the tag status after each request. `tools/debug --run K MACHINE` begins at the end of the run."),
+                        "Read the tag status after each request. `tools/debug --run K MACHINE` steps through the run."),
+    "unwritten-bytes": Rule("UnwrittenBytes", "A load or a DMA command reads bytes of a local store that neither the machine file nor an earlier step wrote.",
+                            "Compare the address and the size with what the program wrote before: mostly a list or a PUT is too long, or a layout has gaps. "
+                            "`tools/debug --run K MACHINE` steps through the run."),
 }  # fmt: skip
 PLACE = re.compile(r"(.+?):(\d+)(?::\d+)?")
 PLACED = re.compile(r"  (.+?:\d+): .*  \(.*\)")  # a line of a finding that a source line placed
