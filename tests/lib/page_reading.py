@@ -9,7 +9,7 @@ import re
 from typing import Iterator, List, Tuple, Union
 
 INDENT = "    "
-OWN = r"(?:CELL_TRY=1 )?(?:\./cell|\./hunt|~/cell/hunt|tools/(?:dev/)?\w+|tests/all|\.ci/run)"
+OWN = r"(?:CELL_TRY=1 )?(?:\./cell|\./hunt|\./lockstep|~/cell/hunt|tools/(?:dev/)?\w+|tests/all|\.ci/run)"
 OTHERS = r"(?:diff|grep|chromium|for|seq|parallel|sbatch|touch|cpp|spu-gcc|cc|python3|PYTHONPATH=\w+ python3)"
 WITH_WORDS = r"(?:touch|cpp|spu-gcc|cc|python3)"  # others that are commands in a paragraph too, if a word follows
 IN_BLOCK = re.compile(rf"(?:{OWN}|{OTHERS})(?: |$)")

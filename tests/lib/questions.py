@@ -65,7 +65,7 @@ def of_machine(machine: str) -> Iterator[Question]:
 def of_record(machine: str, record: str) -> Iterator[Question]:
     """Questions about a machine file with a record."""
     files = files_of(machine, record)
-    for words in (["check", machine, record], ["permute", machine, record, "7"], ["trace", "effects", machine, record],
+    for words in (["check", machine, record], ["permute", machine, record, "7"], ["trace", "effects", machine, record], ["trace", "log", machine, record],
                   ["trace", "states", machine, record, "3"], ["trace", "before", machine, record, "2"]):
         yield Question(tuple(words), files)
     name, text = CHOICES

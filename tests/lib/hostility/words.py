@@ -54,6 +54,7 @@ NUMBERS = [
     *(refused("a spelling of a seed", ["hunt", MACHINE, "1", word], 2, HUNT_FORMS) for word in ("01", "+1", "", "18446744073709551616")),
     *(refused("a spelling of each", ["hunt", MACHINE, "each", word], 2, HUNT_FORMS) for word in ("01", "+1")),
     *(refused("a spelling of a run", ["hunt", MACHINE, "record", word], 2, HUNT_FORMS) for word in ("00", "+0")),
+    refused("a log with a place", [TRACER, "log", *BOTH, "3"], 2, TRACER_FORMS),
     *(refused("a spelling of a place", [TRACER, "before", *BOTH, word], 2, TRACER_FORMS) for word in ("00", "+0", "")),
     *(refused("a spelling of steps", [TRACER, "states", *BOTH, word], 2, TRACER_FORMS) for word in ("03", "+3")),
     *(refused("steps to go on from", [TRACER, "go", *BOTH, word, "c"], 2, TRACER_FORMS, {"c": b""}) for word in ("03", "+3")),
