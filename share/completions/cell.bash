@@ -56,6 +56,11 @@ _cell_table() {
         values=([--warn]='text' [--sarif]='file' [--missing]='text')
         forms=('file..')
         ;;
+    vectors)
+        options='--cases --seed --jobs --archive -h --help --version --'
+        values=([--cases]='text' [--seed]='text' [--jobs]='text' [--archive]='file')
+        forms=('folder file..')
+        ;;
     launch)
         options='-h --help --version --hints --build --prove --compare --checksum --built' first=yes
         values=([--built]='text')
@@ -152,4 +157,4 @@ _cell() {
     fi
 }
 
-complete -F _cell cell hunt race picture witness debug states explain listing from_gas hunts launch sources site_lines hint
+complete -F _cell cell hunt race picture witness debug states explain listing from_gas hunts vectors launch sources site_lines hint

@@ -26,6 +26,8 @@ function __cell_forms
             printf '%s\n' 'source..'
         case hunts
             printf '%s\n' 'file..'
+        case vectors
+            printf '%s\n' 'folder file..'
         case launch
             printf '%s\n' '=cell_cli file..' '=hunt file..' '=run_trace =alone machine' '=run_trace =choose machine file' '=run_trace =effects machine file' '=run_trace =log machine file' '=run_trace =before machine file' '=run_trace =states machine file' '=run_trace =before machine file text' '=run_trace =states machine file text' '=run_trace =go machine file text file' '=run_trace =lines source' '=run_trace =plan machine' '=run_trace =time machine file'
         case sources
@@ -56,6 +58,8 @@ function __cell_values
             printf '%s\n' '-o'
         case hunts
             printf '%s\n' '--warn' '--sarif' '--missing'
+        case vectors
+            printf '%s\n' '--cases' '--seed' '--jobs' '--archive'
         case launch
             printf '%s\n' '--built'
         case site_lines
@@ -221,6 +225,15 @@ complete -c hunts -l missing -x -d 'print, in place of a report, which of the ru
 complete -c hunts -s h -d 'print this text'
 complete -c hunts -l help -d 'print this text'
 complete -c hunts -l version -d 'print the version, and what the programs were proved with'
+complete -c vectors -f
+complete -c vectors -k -a '(__cell_words vectors)'
+complete -c vectors -l cases -x -d 'the number of cases in each file, 1 to 1,000 (default 1,000)'
+complete -c vectors -l seed -x -d 'the seed of the random values (default 1)'
+complete -c vectors -l jobs -x -d 'the number of files that are made at once (default: one for each core)'
+complete -c vectors -l archive -rF -d 'write all files as one archive, FILE.tar.xz, and print its SHA-256'
+complete -c vectors -s h -d 'print this text'
+complete -c vectors -l help -d 'print this text'
+complete -c vectors -l version -d 'print the version, and what the programs were proved with'
 complete -c launch -f
 complete -c launch -k -a '(__cell_words launch)'
 complete -c launch -s h -d ''

@@ -13,5 +13,6 @@ picture      a record as a page
 debugger     the commands of tools/debug
 translation  Python modules written as JavaScript
 page         makes page/cell.html
+vectors      cases of instructions and channels with the states before and after, by the proved machine
 usage        the table of forms and options, and the completions and pages for `man` that are made of it
 """

@@ -15,7 +15,7 @@ from celltools.common.repository import ROOT
 from lib import keeping
 from lib.hostility.rows import TRACEBACK, Row, ended, shown
 
-TOOLS = ("debug", "explain", "from_gas", "hint", "hunts", "listing", "picture", "race", "site_lines", "states", "witness")
+TOOLS = ("debug", "explain", "from_gas", "hint", "hunts", "listing", "picture", "race", "site_lines", "states", "vectors", "witness")
 OLDEST = (3, 9)
 FOLDERS = ["/usr/bin", "/usr/local/bin", *glob.glob(os.path.expanduser("~/.pyenv/versions/*/bin")),
            *(folder for folder in os.environ["PATH"].split(":") if os.path.basename(folder) != "shims")]
