@@ -3,7 +3,7 @@
  *     cc -o lockstep examples/lockstep/lockstep.c
  *     ./lockstep [--bug] IMAGE LOG
  *
- * IMAGE is the output of `./cell asm SOURCE`, and LOG that of `tools/launch run_trace log MACHINE RECORD`. SPU 0 is followed. The emulator executes each of its
+ * IMAGE is the output of `./cell asm SOURCE`, and LOG that of `tools/log MACHINE RECORD`. SPU 0 is followed. The emulator executes each of its
  * instructions, and the result is compared with what the log says that this instruction changed: the program counter, each register, the bytes of the local
  * store, the value that goes to a channel. What comes from outside is taken from the log: the values of channel reads, and the bytes that the MFC writes into the
  * local store. So both see the same bytes, in whatever order the MFC moved them.
@@ -330,7 +330,7 @@ static int follow(const char *name) {
         Line line = {NONE, NONE};
         bool is_instruction = !strncmp(text, "x 0 ", 4);
         if (!take_line(text, &line, is_instruction)) {
-            refuse(name, number, "a field is faulty: print the log by tools/launch run_trace log MACHINE RECORD");
+            refuse(name, number, "a field is faulty: print the log by tools/log MACHINE RECORD");
         }
         if (is_instruction && differs_after(name, number, &line)) {
             return DIFFERS;

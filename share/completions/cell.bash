@@ -38,6 +38,11 @@ _cell_table() {
         values=([--run]='text' [--seed]='text')
         forms=('machine file text' 'machine text')
         ;;
+    log)
+        options='--run --seed -h --help --version --'
+        values=([--run]='text' [--seed]='text')
+        forms=('machine file' 'machine')
+        ;;
     explain)
         options='-h --help --version --'
         forms=('file..')
@@ -157,4 +162,4 @@ _cell() {
     fi
 }
 
-complete -F _cell cell hunt race picture witness debug states explain listing from_gas hunts vectors launch sources site_lines hint
+complete -F _cell cell hunt race picture witness debug states log explain listing from_gas hunts vectors launch sources site_lines hint

@@ -18,6 +18,8 @@ function __cell_forms
             printf '%s\n' 'machine' 'machine file text' 'machine text'
         case states
             printf '%s\n' 'machine file text' 'machine text'
+        case log
+            printf '%s\n' 'machine file' 'machine'
         case explain
             printf '%s\n' 'file..'
         case listing
@@ -53,6 +55,8 @@ function __cell_values
         case debug
             printf '%s\n' '--run' '--seed'
         case states
+            printf '%s\n' '--run' '--seed'
+        case log
             printf '%s\n' '--run' '--seed'
         case from_gas
             printf '%s\n' '-o'
@@ -199,6 +203,13 @@ complete -c states -l seed -x -d 'the seed S of that hunt (default 1)'
 complete -c states -s h -d 'print this text'
 complete -c states -l help -d 'print this text'
 complete -c states -l version -d 'print the version, and what the programs were proved with'
+complete -c log -f
+complete -c log -k -a '(__cell_words log)'
+complete -c log -l run -x -d 'run K of the hunt `./hunt MACHINE RUNS S`, in the place of a record'
+complete -c log -l seed -x -d 'the seed S of that hunt (default 1)'
+complete -c log -s h -d 'print this text'
+complete -c log -l help -d 'print this text'
+complete -c log -l version -d 'print the version, and what the programs were proved with'
 complete -c explain -f
 complete -c explain -k -a '(__cell_words explain)'
 complete -c explain -s h -d 'print this text'

@@ -56,6 +56,8 @@ PROGRAMS = (
             ("MACHINE", "MACHINE RECORD [STEP]", "--run K [--seed S] MACHINE [STEP]"), (*OF_HUNT_RUN, *OF_EACH)),
     Program("tools/states", "prints the states after some steps of a record",
             ("MACHINE RECORD [STEPS]", "--run K [--seed S] MACHINE [STEPS]"), (*OF_HUNT_RUN, *OF_EACH)),
+    Program("tools/log", "prints what each step of a record changed",
+            ("MACHINE RECORD", "--run K [--seed S] MACHINE"), (*OF_HUNT_RUN, *OF_EACH)),
     Program("tools/explain", "explains all faulty lines of a file", ("FILE..",)),
     Program("tools/listing", "prints a source with its addresses and words", ("SOURCE",)),
     Program("tools/from_gas", "converts sources of GNU as", ("[-o WHOLE.s] SOURCE..",), ("-o WHOLE.s", *OF_EACH)),
