@@ -39,6 +39,7 @@ ROWS = [
     *map(unknown, READERS),
     *(Row("an abbreviated option", [name, "--ru", "0", "first.cell"], 2, r"there is no option '--ru', did you mean '--run'\?", printed=r"\A\Z", examples=FIRST)
       for name in OF_BOTH),
+    Row("a misspelt option", ["tools/race", "--rnu", "0", "first.cell"], 2, r"\Arace: there is no option '--rnu', did you mean '--run'\?", printed=r"\A\Z", examples=FIRST),
     Row("an abbreviated option", ["hunt", "first.cell", "--run=4"], 2, r"\Ahunt: there is no option '--run', did you mean '--runs'\? \(\./hunt --help lists the options\)\n\Z",
         printed=r"\A\Z", examples=FIRST),
     *(Row("a value after =", [name, "--run=0", "--seed=2", "first.cell"], 0, examples=FIRST, said="") for name in ("tools/race", "tools/states", "tools/picture")),

@@ -24,6 +24,13 @@ def bytes_of(name: Name, most: int = MOST_BYTES) -> bytes:
         return file.read(most + 1)
 
 
+def why_unread(why: OSError) -> str:
+    """Returns why a file can't be read, and what to do."""
+    if isinstance(why, (FileNotFoundError, NotADirectoryError)):
+        return f"{why.strerror}: names are relative to the current folder"
+    return "it is a folder: name a file" if isinstance(why, IsADirectoryError) else str(why.strerror)
+
+
 def input_bytes(most: int = MOST_RECORD_BYTES) -> bytes:
     """The bytes of standard input, or of a longer one so many and one more."""
     return sys.stdin.buffer.read(most + 1)

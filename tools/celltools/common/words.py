@@ -14,6 +14,7 @@ MISUSED = 2
 USAGE = re.compile(r"^Usage: .*(?:\n +.*)*", re.M)
 END_OF_OPTIONS = "--"
 STANDARD_INPUT, STANDARD_INPUT_FILE = "-", "/dev/stdin"
+NEAR = 0.7  # how alike an option has to be that is proposed
 OF_EACH = """
 Options of every program of this repository:
   -h, --help  print this text
@@ -78,8 +79,11 @@ class Words(argparse.ArgumentParser):
         return found
 
     def meant(self, name: str) -> str:
-        """Returns a question for the option that a word abbreviates, as an ending of a sentence; nothing if there is none."""
-        known = next((option for option in self._option_string_actions if len(name) > len("--") and option.startswith(name)), "")
+        """Returns a question for the option that a word abbreviates or is most like, as an ending of a sentence; nothing if there is none."""
+        import difflib  # which takes a while to load
+        options = [option for option in self._option_string_actions if option.startswith("--")]
+        known = next((option for option in options if len(name) > len("--") and option.startswith(name)), "")
+        known = known or next(iter(difflib.get_close_matches(name, options, 1, NEAR)), "")
         return f", did you mean '{known}'?" if known else ""
 
     def error(self, message: str) -> NoReturn:

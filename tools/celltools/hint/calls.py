@@ -17,7 +17,7 @@ MACHINE, RECORD, SCRIPT, SOURCE, EXPECT, PASS = "machine file", "record file", "
 FILES = {"MACHINE": MACHINE, "RECORD": RECORD, "SCRIPT": SCRIPT, "SOURCE": SOURCE}
 HUNT_FILES = {"--expect": EXPECT, "--pass": PASS}
 VALUED = ("--runs", "--time", "--seed", "--from", "--jobs", "--expect", "--pass", "--warn", "--until", "--tools")  # options of ./hunt that have a value
-NEAR, NEAR_FILE = 0.7, 0.8  # how alike a word, or a file's name, has to be that is proposed
+NEAR, NEAR_FILE, NEAR_FORM = 0.7, 0.8, 0.6  # how alike a word, a file's name, or the name of a form has to be that is proposed
 NO_FILE = "it is a pipe or a device, which can't be read twice"
 
 
@@ -115,9 +115,9 @@ def joined(*parts: str) -> str:
     return "; ".join(filter(None, parts)).replace("?; ", "? ")
 
 
-def near(word: str, known: Sequence[str]) -> str:
+def near(word: str, known: Sequence[str], least: float = NEAR) -> str:
     """Returns a question for the known word that is most like another; nothing if none is like it."""
-    found = difflib.get_close_matches(word, known, 1, NEAR) or difflib.get_close_matches(word.lower(), known, 1, NEAR)
+    found = difflib.get_close_matches(word, known, 1, least) or difflib.get_close_matches(word.lower(), known, 1, least)
     return f"did you mean '{found[0]}'?" if found else ""
 
 

@@ -3,7 +3,7 @@ import re
 from typing import Dict, Optional, Sequence, Tuple
 
 from celltools.common.texts import MOST_NUMBER
-from celltools.hint.calls import FORMS, HUNT, Call, Hint, hunt_words, joined, near
+from celltools.hint.calls import FORMS, HUNT, NEAR_FORM, Call, Hint, hunt_words, joined, near
 
 NUMBER = re.compile(r"0|[1-9][0-9]*", re.A)
 SEED = 0, 2**64 - 1
@@ -28,7 +28,7 @@ def misused_cell(words: Sequence[str]) -> str:
     form, *given = words
     names = FORMS.get(form)
     if names is None:
-        return joined(f"there is no form '{form}'", near(form, list(FORMS)))
+        return joined(f"there is no form '{form}'", near(form, list(FORMS), NEAR_FORM))
     if len(given) != len(names):
         return f"'{form}' takes {' '.join(names)}, and here {' '.join(given) or 'nothing'} follows it"
     return why_number(names[-1], given[-1], 0, MOST_NUMBER) or f"'{' '.join(words)}' is no form"
@@ -47,7 +47,7 @@ def misused_hunt(words: Sequence[str]) -> str:
     form = places[1] if len(places) > 1 else ""
     names, given = (PLACES[form], places[2:]) if form in PLACES else (PLACES["each"], places[1:])
     if names is PLACES["each"] and given[:1] == [form] and not NUMBER.match(form):
-        return joined(f"'{form}' is neither a number of runs nor 'each' nor 'record'", near(form, list(PLACES)))
+        return joined(f"'{form}' is neither a number of runs nor 'each' nor 'record'", near(form, list(PLACES), NEAR_FORM))
     for name, word in zip(names, given):
         if why := why_number(name, word, *RANGES[name]):
             return why

@@ -37,11 +37,21 @@ def unreadable(call: Call, found: "Match[str]") -> Hint:
     why = why_unread(name)
     if file.startswith("source") and SOURCE not in call.files:
         line, _ = call.source(int(file.split()[1]))
-        other = os.path.join(os.path.dirname(call.files[MACHINE]), name)
-        return Hint(joined(f"'{name}': {why}", HERE, near_file(name, [other])), f"{call.files[MACHINE]}:{line}", line_of(data_of(call.files[MACHINE]), line))
+        folder = os.path.dirname(call.files[MACHINE])
+        start = start_folder(folder, name)
+        remedy = f"run the command in '{start}', which has this file" if start else near_file(name, [os.path.join(folder, name)])
+        return Hint(joined(f"'{name}': {why}", HERE, remedy), f"{call.files[MACHINE]}:{line}", line_of(data_of(call.files[MACHINE]), line))
     made = f"the output of a run is a record: {again(call)}" if file == RECORD else ""
     option = "a form has no options, so this is read as a file's name" if name.startswith("-") else ""
     return Hint(joined(HERE, near_file(name) or made or option), name, why)
+
+
+def start_folder(folder: str, name: str) -> str:
+    """Returns the folder, above that of a machine file, in which a source has its name, as in a clone that isn't the current folder; nothing if there is none."""
+    above = os.path.dirname(folder)
+    while above and not os.path.isfile(os.path.join(above, name)):
+        above = os.path.dirname(above) if os.path.dirname(above) != above else ""
+    return above
 
 
 def why_unread(name: str) -> str:

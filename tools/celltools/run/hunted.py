@@ -70,7 +70,7 @@ def record_of_hunt(machine: Snapshot, number: int, seed: int = FIRST_SEED) -> Sn
     """The record of a hunt's run, put beside the copy of the machine file."""
     done = asked("hunt", machine, "record", str(number), str(seed))
     if not done.stdout.startswith("cell-record"):
-        said = said_of(done)
+        said = said_of(done).replace(f": {machine.path}", "")  # the copy's name means nothing to a user
         raise Refused(said + next_step(said, machine, ""))
     record = Snapshot(f"{machine.path}-record", f"run {number} of the hunt with seed {seed}")
     with open(record, "w") as file:

@@ -5,10 +5,10 @@ import os
 import re
 import subprocess
 import sys
-from typing import TYPE_CHECKING, Iterable, List, Sequence, Union
+from typing import TYPE_CHECKING, Iterable, List, Sequence, Tuple, Union
 
 from celltools.common.repository import LAUNCH, built, shipped
-from celltools.common.texts import bytes_of, decoded, quoted
+from celltools.common.texts import MOST_RECORD_BYTES, bytes_of, decoded, lines_in, quoted
 
 Path = Union[str, "os.PathLike[str]"]
 if TYPE_CHECKING:
@@ -19,17 +19,17 @@ BUILT, UNPROVED, IN_PLACE = 0, 3, 4  # statuses of tools/launch --build: built, 
 ADVICE = [
     (r"its name is not UTF-8", "give it another name, or a link: ln -s FILE NAME"),
     (r"cannot read machine file", "{machine}: it isn't there, or can't be read: names are relative to the current folder"),
-    (r"cannot read source (\d+)", "{source}: it isn't there, or can't be read: tools/explain {machine} explains why"),
-    (r"source (\d+), line (\d+)", "{source}:{line}: tools/explain {machine} explains it"),
+    (r"cannot read source (\d+)", "{machine}:{at}: source {source}\n    {source}: it isn't there, or can't be read: names are relative to the current folder"),
+    (r"source (\d+), line (\d+)", "{source}:{line}: {text}\n    tools/explain {machine} explains it"),
     (r"source (\d+)", "{source}: tools/explain {machine} explains it"),
-    (r"machine file, line (\d+)", "{machine}:{number}: tools/explain {machine} explains it"),
+    (r"machine file, line (\d+)", "{machine}:{number}: {text}\n    tools/explain {machine} explains it"),
     (r"machine file|source|is not in the table", "{machine}: tools/explain {machine} explains it"),
     (r"cannot read record file", "{record}: it isn't there, or can't be read: ./cell run {machine} >FILE makes a record"),
-    (r"record file, line (\d+)", "{record}:{number}: tools/explain {record} explains it"),
+    (r"record file, line (\d+)", "{record}:{number}: {text}\n    tools/explain {record} explains it"),
     (r"record file", "{record}: tools/explain {record} explains it"),
     (r"step (\d+) is not allowed", "the record isn't a run of this machine file as it is now: make it again, or print the states before that step: "
                                    "tools/states {machine} {record} {number}"),
-    (r"states differ", "the record was made with another machine file, or was edited: make it again: ./cell run {machine} >FILE"),
+    (r"states differ at byte (\d+)", "{record}:{at}: {text}\n    the record was made with another machine file, or was edited: make it again: ./cell run {machine} >FILE"),
 ]
 NO_RUN = re.compile(r"step (\d+) is not allowed|states differ")
 # And where a file stands in the place of another, by what it is and what `cell` says of it.
@@ -41,6 +41,7 @@ MISPLACED = {
     (RECORD, SOURCE): "{record} is a source: name a record; `./cell run {machine} >FILE` makes one",
 }
 COMMENTS = re.compile(r"\A(?:[ \t]*(?:#[^\n]*)?\n)*")  # before the first line with words
+MOST_OF_LINE = 120  # characters of a faulty line
 MOST_COMMENTS = 4096  # bytes of a file that are looked at for its first line
 FAULTY = {MACHINE: "machine file, line", RECORD: "record file, line"}
 
@@ -81,14 +82,31 @@ def misplaced(said: str, machine: Path, record: Path) -> str:
     return MISPLACED.get((wanted, what_is(path)), "") if FAULTY[wanted] in said else ""
 
 
-def source_named(machine: Path, number: str) -> str:
-    """The source of a number, as a machine file names it; no name where the file is refused, which has no plan."""
+def source_named(machine: Path, number: str) -> Tuple[int, str]:
+    """Returns the line of a machine file that names a source, by its number from 0, and the source's name; no name if the file is refused, which has no plan."""
     from celltools.run import plans  # asks by this module
     try:
-        names = plans.sources_of(machine) if number.isdecimal() else []
+        named = [(line.number, line.words[1]) for line in plans.plan_of(bytes_of(machine)) if line.words[0] == "source"] if number.isdecimal() else []
     except (OSError, Refused):
-        names = []
-    return names[int(number)] if int(number or 0) < len(names) else "a source"
+        named = []
+    return named[int(number)] if int(number or 0) < len(named) else (1, "a source")
+
+
+def text_in(path: Path, number: int) -> str:
+    """Returns the text of a line of a file, by its number from 1; of a long one its beginning."""
+    try:
+        lines = lines_in(bytes_of(path, MOST_RECORD_BYTES))
+    except OSError:
+        return "(the file can't be read again)"
+    return lines[number - 1].strip()[:MOST_OF_LINE] if number <= len(lines) else "(the end of the file)"
+
+
+def line_of_byte(path: Path, place: int) -> int:
+    """Returns the number of the line, from 1, that has a byte of a file, by its place from 0."""
+    try:
+        return len(bytes_of(path, MOST_RECORD_BYTES)[:place].split(b"\n"))
+    except OSError:
+        return 1
 
 
 def next_step(said: str, machine: Path, record: Path) -> str:
@@ -100,7 +118,16 @@ def next_step(said: str, machine: Path, record: Path) -> str:
         found = re.search(pattern, said)
         if found:
             number, line = (*found.groups(), "", "")[:2]
-            return "\n    " + advice.format(machine=quoted(machine), record=quoted(record), number=number, line=line, source=source_named(machine, number))
+            at, source = source_named(machine, number) if "source" in said else (0, "")
+            if "states differ" in said:
+                at = line_of_byte(record, int(number))
+                text = text_in(record, at)
+            elif ", line" in said:
+                text = text_in(source if source else record if FAULTY[RECORD] in said else machine, int(line or number))
+            else:
+                text = ""
+            names = {"machine": quoted(machine), "record": quoted(record), "source": source}
+            return "\n    " + advice.format(number=number, line=line, at=at, text=text, **names)
     return ""
 
 

@@ -58,5 +58,5 @@ def steps_of(record: Path) -> int:
     found: List[str] = next((line.split() for line in record_lines(record) if line.startswith("steps ")), [])
     count = number_of(found[1]) if len(found) == 2 else None
     if count is None:
-        raise Refused(f"{record}: it has no line `steps N`, so it is no record, or only a part of one")
+        raise Refused(f"{record}: it has no line `steps N`, so it is no record, or only a part of one: ./cell run MACHINE >FILE makes a record")
     return count
