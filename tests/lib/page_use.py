@@ -98,11 +98,13 @@ class Student:
         for seconds in LIMITS:
             late = f"took more than {seconds} seconds"
             self.browser.answer(f"document.body.dataset.seconds = {seconds}")
+            self.settle("document.getElementById('stop').hidden")  # until then the hunt before looks for SPUs that ran into zeros, and clicks do nothing
             self.click("#hunt-runs")
             self.settle(f"['hunt', 'nothing'].some(id => document.getElementById(id).textContent.includes('{late}'))")
             if late in self.text("#hunt"):
                 break
             self.expect_in("a hunt without a run", f"the hunt ended before a run did: it {late}", self.text("#nothing"))
+        self.settle("document.getElementById('stop').hidden")
         self.expect(f"no hunt makes a run in {seconds} seconds", late in self.text("#hunt"))
         self.browser.answer(f"document.body.dataset.seconds = {SECONDS}")
         return seconds
