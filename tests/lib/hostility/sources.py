@@ -172,7 +172,7 @@ OF_EXPLAIN = [
     Row("explain: a record in a pipe", ["tools/explain", "/dev/stdin"], 1, printed="^/dev/stdin:3: the number of steps before it is 1",
         standard_input=b"cell-record 1\nx 0\nsteps 2\n"),
     Row("explain: a file without an end", ["tools/explain", "/dev/zero"], 1, printed="^/dev/zero: the file is too long"),
-    Row("explain: a folder", ["tools/explain", "/"], 2, said="^explain: /: Is a directory"),
+    Row("explain: a folder", ["tools/explain", "/"], 2, said="^explain: /: it is a folder: name a file"),
     Row("explain: what can't be read", ["tools/explain", UNREADABLE], 2, said=f"^explain: {UNREADABLE}: Input/output error"),
 ]
 
@@ -185,10 +185,10 @@ OF_PLACES = [
     Row("listing: lines of all kinds", ["tools/listing", "a.s"], 0, printed=LABELS, files={"a.s": PLACED.encode()}),
     Row("listing: what a terminal obeys", ["tools/listing", "a.s"], 0, printed=r"# \\x1b\[31m \\x9b " + "\u0436$",
         files={"a.s": b" stop 1 # \x1b[31m \x9b \xd0\xb6\n"}),
-    Row("listing: a number of 5,000 digits", ["tools/listing", "a.s"], 1, said="^listing: a.s:1: BadNumber\n    tools/explain a.s ", files={"a.s": LONG_NUMBERS.encode()}),
+    Row("listing: a number of 5,000 digits", ["tools/listing", "a.s"], 1, said="^listing: a.s:1: BadNumber: \\.long 9{40,200}\n    tools/explain a.s ", files={"a.s": LONG_NUMBERS.encode()}),
     Row("listing: a file without an end", ["tools/listing", "/dev/zero"], 1, said="^listing: /dev/zero: cell: source 0 is too long"),
     Row("listing: a machine file", ["tools/listing", "a.cell"], 1, said="^listing: a.cell is a machine file: name one of its sources", files={"a.cell": MACHINE.encode()}),
-    Row("listing: a folder", ["tools/listing", "/"], 2, said="^listing: /: Is a directory"),
+    Row("listing: a folder", ["tools/listing", "/"], 2, said="^listing: /: it is a folder: name a file"),
     Row("listing: what can't be read", ["tools/listing", UNREADABLE], 2, said=f"^listing: {UNREADABLE}: Input/output error"),
     Row("listing: a name that isn't UTF-8", ["tools/listing", "a\udcff.s"], 2, said=r"^listing: a\\xff.s: No such file"),
     full("race", RECORDED, 1, printed=r"full\.s:\d+: stqd"),
