@@ -6,10 +6,13 @@ instructions. The budgets are small, so that many runs spend them.
 """
 import pathlib
 import random
+import subprocess
 from typing import Callable, Dict, Iterator, List, NamedTuple, Optional, Sequence, Tuple
 
+from celltools.common.repository import built
 from lib.random_machines import GETLLAR, PUTLLC, PUTLLUC, Program, host_lines, load, mode_lines, write
 
+CELL = built("cell_cli")
 STORE_BYTES, MEMORY_LINE, WORD = 1 << 18, 128, 4
 DATA_ALIGNMENT = 128  # of the data of a source, after its text
 LINES = 16
@@ -44,6 +47,7 @@ class Machine(NamedTuple):
     lines: int
     sources: Dict[str, List[Line]]  # by their names, in the order of the machine file
     images: Dict[str, List[Tuple[int, int]]]  # of each source, where its text and its data are: the first address and how many bytes
+    code: Dict[str, List[Tuple[int, bytes]]]  # of each source, its bytes by their first address
     placed: List[Placed]
     memory: List[Tuple[int, bytes]]  # bytes of main memory at the start
     host: List[str]
@@ -188,10 +192,16 @@ def memory_lines(rng: random.Random) -> List[Tuple[int, bytes]]:
     return [(MEMORY_LINE * rng.randrange(LINES) + 16 * rng.randrange(8), bytes([rng.randrange(256)] * 4)) for _ in range(rng.randrange(3))]
 
 
+def assembled(folder: pathlib.Path, name: str) -> List[Tuple[int, bytes]]:
+    """The bytes of a source, by the lines `code` and `bytes` of `cell asm`."""
+    printed = subprocess.run([CELL, "asm", name], cwd=folder, capture_output=True, text=True, check=True).stdout
+    return [(int(at, 16), bytes.fromhex(digits)) for key, at, *rest in map(str.split, printed.splitlines()) for digits in rest if key in ("code", "bytes")]
+
+
 def random_machine(rng: random.Random, folder: pathlib.Path) -> Machine:
     """Writes a machine file, `machine.cell`, with its sources."""
     spes = rng.randrange(1, 5)
-    machine = Machine(spes, rng.choice(BUDGETS), LINES, {}, {}, [], memory_lines(rng), host_lines(rng, spes), [])
+    machine = Machine(spes, rng.choice(BUDGETS), LINES, {}, {}, {}, [], memory_lines(rng), host_lines(rng, spes), [])
     programs = [Finding(rng, spes) for _ in range(spes)]
     texts = [program.text() for program in programs]
     of_spe = [rng.randrange(spe + 1) if rng.random() < 0.25 else spe for spe in range(spes)]
@@ -200,7 +210,7 @@ def random_machine(rng: random.Random, folder: pathlib.Path) -> Machine:
         name = f"{own}.s"
         (folder / name).write_text(texts[own])
         machine.sources.setdefault(name, lines_of(texts[own]))
-        machine.images[name] = image_of(texts[own])
+        machine.images[name], machine.code[name] = image_of(texts[own]), assembled(folder, name)
         machine.placed.append(Placed(spe, name, 0, b""))
         file += ["spe", f"source {name}"]
         words = [("bytes", at, "".join(f"{(flag << 31) | size:08x}{ea:08x}" for flag, size, ea in elements)) for at, elements in programs[own].lists]
@@ -224,12 +234,12 @@ def write_file(folder: pathlib.Path, machine: Machine, lines: List[str]) -> None
 
 def alone(folder: pathlib.Path, budget: int, *programs: List[str], words: Sequence[Tuple[int, str]] = ()) -> Machine:
     """Writes a machine of these programs, without a host; `words` are addresses and digits of bytes in the store of the last SPU."""
-    machine = Machine(len(programs), budget, 1, {}, {}, [], [], [], [])
+    machine = Machine(len(programs), budget, 1, {}, {}, {}, [], [], [], [])
     file: List[str] = []
     for spe, lines in enumerate(programs):
         name, text = f"{spe}.s", "".join(f"{line}\n" if line.endswith(":") else f"\t{line}\n" for line in lines)
         (folder / name).write_text(text)
-        machine.sources[name], machine.images[name] = lines_of(text), image_of(text)
+        machine.sources[name], machine.images[name], machine.code[name] = lines_of(text), image_of(text), assembled(folder, name)
         machine.placed.append(Placed(spe, name, 0, b""))
         file += ["spe", f"source {name}"]
     for at, digits in words:

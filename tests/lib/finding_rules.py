@@ -164,8 +164,9 @@ class Bytes:
         for at, data in machine.memory:
             self.memory[at:at + len(data)] = data
         for placed in machine.placed:
-            if placed.source is None:
-                self.stores[placed.spe][placed.at:placed.at + len(placed.data)] = placed.data
+            code = [(placed.at, placed.data)] if placed.source is None else machine.code[placed.source]
+            for at, data in code:
+                self.stores[placed.spe][at:at + len(data)] = data
 
     def room(self, span: Span) -> bytearray:
         return self.memory if span.spe is None else self.stores[span.spe]
